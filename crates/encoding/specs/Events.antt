@@ -1,0 +1,152 @@
+-- Events: what is written is read back, and what breaks no rule is written again as it was; so of whole lists.
+use mathlib.Core.Path.{_≡_, refl, sym, ap, _∙_}
+use mathlib.Core.Bool.{Bool, true, false, cond, _&&_, _||_}
+use mathlib.Core.List.{List, [], _∷_, _++_, append-nil}
+use Prim.Native.Nat.{ℕ, _+_, _*_, _-_, _/_, _≤_, _<_}
+use native.Mathlib.Omega.{arith}
+use lib.Dec.{eqb, leb, ltb}
+use lib.ListN.{length, getD, take, drop, replicate, length-drop}
+use lib.Seq.{getD-drop, take-all}
+use borrow.Author.Tests.{eqb-true, ltb-true}
+use Rattle.rules.specs.Sizes.{threadCount, signalSize, eventSize}
+use Rattle.rules.specs.Bytes.{num16, part, isZeros, blocks}
+use Rattle.rules.specs.Image.{entry, recordAt}
+use Rattle.rules.specs.Encoding.{noSignal, signalBytes, signalFrom}
+use Rattle.rules.specs.WellFormed.{signalTidy}
+use Rattle.rules.specs.Events.{Event, arrive, step, cut, Valid, eventBytes, eventFrom, arrivalOk, turnOk, eventOk, eventsIn, eventAtOk, eventsFrom}
+use Rattle.fields.specs.Each.{Each}
+use Rattle.fields.specs.Put.{part-drop}
+use Rattle.fields.specs.Blocks.{length-blocks, chunks-blocks}
+use Rattle.encoding.specs.Sized.{SizedSignal}
+use Rattle.encoding.specs.Lengths.{length-event}
+use Rattle.encoding.specs.Tests.{both, both-hold, zeros-part}
+use Rattle.encoding.specs.Runs.{length-chunks, each-chunks, blocks-chunks, byte-forth, glue}
+use Rattle.encoding.specs.Numbers.{AreBytes, bytes-drop}
+use Rattle.encoding.specs.Trees.{no-signal, signal-back, signal-forth, signal-sized}
+
+-- an arrival's signal has at most 25 values
+abbrev pub SizedEvent : Event → Type 0
+SizedEvent (arrive g) = SizedSignal g
+SizedEvent (step t) = Unit {0}
+SizedEvent (cut t) = Unit {0}
+
+pub event-back : (e : Event) → SizedEvent e → (q : List ℕ) → eventFrom (eventBytes e ++ q) ≡ e
+unfolding eventFrom eventBytes
+event-back (arrive g) z q = ap arrive (signal-back g z q)
+event-back (step t) z q = refl
+event-back (cut t) z q = refl
+
+-- ---- what the rules of an event say of its bytes
+
+pub data EventRead (b : List ℕ) : Type 0 where
+  arrival : getD b 0 0 ≡ 1 → getD b 1 0 ≡ 0 → signalTidy (drop 2 b) ≡ true → EventRead b
+  stepping : getD b 0 0 ≡ 2 → getD b 1 0 < threadCount → part b 2 signalSize ≡ replicate signalSize 0 → EventRead b
+  cutting : getD b 0 0 ≡ 3 → getD b 1 0 < threadCount → part b 2 signalSize ≡ replicate signalSize 0 → EventRead b
+
+arrival-read : (image b : List ℕ) → arrivalOk image b ≡ true → (getD b 1 0 ≡ 0) × (signalTidy (drop 2 b) ≡ true)
+unfolding arrivalOk signalTidy
+arrival-read image b e =
+    let n = getD b 4 0 in
+    let thread = eqb (getD b 1 0) 0 in
+    let label = eqb (entry (recordAt image (num16 (drop 2 b)))) 3 in
+    let t = both (thread && label && leb n 25) (isZeros (part b (5 + 2 * n) (2 * (25 - n)))) e in
+    let u = both (thread && label) (leb n 25) (t .0) in
+    let v = both thread label (u .0) in
+    let f : 2 + (3 + 2 * n) ≡ 5 + 2 * n = omega arith in
+    (eqb-true (getD b 1 0) 0 (v .0), rw (getD-drop, part-drop, f) (both-hold (leb n 25) _ (u .1) (t .1)))
+
+turn-read : (b : List ℕ) → eventSize ≤ length b → turnOk b ≡ true → (getD b 1 0 < threadCount) × (part b 2 signalSize ≡ replicate signalSize 0)
+unfolding turnOk
+turn-read b l e =
+    let t = both (ltb (getD b 1 0) 8) (isZeros (part b 2 53)) e in
+    (ltb-true (getD b 1 0) 8 (t .0), zeros-part b 2 53 (omega arith) (t .1))
+
+pub event-read : (image b : List ℕ) → eventSize ≤ length b → eventOk image b ≡ true → EventRead b
+unfolding eventOk
+event-read image b l e = go (eqb (getD b 0 0) 1) refl e
+  where
+    turn : (c : Bool) → eqb (getD b 0 0) 2 ≡ c → (c || eqb (getD b 0 0) 3) ≡ true → turnOk b ≡ true → EventRead b
+    turn true p q t =
+        let r = turn-read b l t in
+        stepping (eqb-true (getD b 0 0) 2 p) (r .0) (r .1)
+    turn false p q t =
+        let r = turn-read b l t in
+        cutting (eqb-true (getD b 0 0) 3 q) (r .0) (r .1)
+
+    go : (c : Bool) → eqb (getD b 0 0) 1 ≡ c → cond c (arrivalOk image b) ((eqb (getD b 0 0) 2 || eqb (getD b 0 0) 3) && turnOk b) ≡ true → EventRead b
+    go true p q =
+        let r = arrival-read image b q in
+        arrival (eqb-true (getD b 0 0) 1 p) (r .0) (r .1)
+    go false p q =
+        let t = both (eqb (getD b 0 0) 2 || eqb (getD b 0 0) 3) (turnOk b) q in
+        turn (eqb (getD b 0 0) 2) refl (t .0) (t .1)
+
+-- ---- an event that breaks no rule
+
+event-glue : (b : List ℕ) (k t : ℕ) (x : List ℕ) → eventSize ≤ length b → k ≡ getD b 0 0 → t ≡ getD b 1 0 → x ≡ part b 2 signalSize → k ∷ t ∷ x ≡ take eventSize b
+unfolding part
+event-glue b k t x l ek et ex = glue b 0 1 54 (k ∷ []) (t ∷ x) (rw ek (byte-forth b 0 (omega arith))) (glue b 1 1 53 (t ∷ []) x (rw et (byte-forth b 1 (omega arith))) ex)
+
+read-forth : (b : List ℕ) → AreBytes b → eventSize ≤ length b → EventRead b → eventBytes (eventFrom b) ≡ take eventSize b
+unfolding eventFrom eventBytes part
+read-forth b h l (arrival k t e) = rw k (event-glue b 1 0 (signalBytes (signalFrom (drop 2 b))) l (sym k) (sym t) (signal-forth (drop 2 b) (bytes-drop b 2 h) (simp length-drop (omega arith)) e))
+read-forth b h l (stepping k t z) = rw k (event-glue b 2 (getD b 1 0) (signalBytes noSignal) l (sym k) refl (no-signal ∙ sym z))
+read-forth b h l (cutting k t z) = rw k (event-glue b 3 (getD b 1 0) (signalBytes noSignal) l (sym k) refl (no-signal ∙ sym z))
+
+read-sized : (b : List ℕ) → eventSize ≤ length b → EventRead b → SizedEvent (eventFrom b)
+unfolding eventFrom
+read-sized b l (arrival k t e) = rw k (signal-sized (drop 2 b) (simp length-drop (omega arith)) e)
+read-sized b l (stepping k t z) = rw k tt
+read-sized b l (cutting k t z) = rw k tt
+
+read-valid : (b : List ℕ) → EventRead b → Valid (eventFrom b)
+unfolding eventFrom
+read-valid b (arrival k t e) = rw k (λ u q. absurd (let n : _≡_ {A = ℕ} 0 1 = cc in omega arith))
+read-valid b (stepping k t z) = rw k (λ u q. let e : getD b 1 0 ≡ u = cc in omega arith)
+read-valid b (cutting k t z) = rw k (λ u q. let e : getD b 1 0 ≡ u = cc in omega arith)
+
+module _ (image b : List ℕ) (l : eventSize ≤ length b) (e : eventOk image b ≡ true) where
+  pub event-forth : AreBytes b → eventBytes (eventFrom b) ≡ take eventSize b
+  event-forth h = read-forth b h l (event-read image b l e)
+
+  pub event-sized : SizedEvent (eventFrom b)
+  event-sized = read-sized b l (event-read image b l e)
+
+  pub event-valid : Valid (eventFrom b)
+  event-valid = read-valid b (event-read image b l e)
+
+-- ---- lists of events
+
+pub events-back : (es : List Event) → Each SizedEvent es → eventsFrom (blocks eventBytes es) ≡ es
+unfolding eventsFrom
+events-back es z =
+    let n : length (blocks eventBytes es) ≡ 55 * length es = length-blocks eventBytes 55 length-event es in
+    let m : length (blocks eventBytes es) / 55 ≡ length es = omega arith in
+    rw m (rw append-nil at (chunks-blocks eventBytes eventFrom 55 length-event SizedEvent event-back es [] z))
+
+pub length-events : (b : List ℕ) → length (eventsFrom b) ≡ eventsIn b
+unfolding eventsFrom
+length-events b = length-chunks eventFrom 55 (eventsIn b) b
+
+-- a list of whole events that break no rule
+module _ (image events : List ℕ) (l : length events ≡ eventSize * eventsIn events) (e : (i : ℕ) → i < eventsIn events → eventAtOk image events i ≡ true) where
+  room : (i : ℕ) → i < eventsIn events → eventSize ≤ length (drop (eventSize * i) events)
+  room i h = simp length-drop (omega arith)
+
+  event-at : (i : ℕ) → i < eventsIn events → eventOk image (drop (eventSize * i) events) ≡ true
+  unfolding eventAtOk
+  event-at i h = e i h
+
+  pub events-forth : AreBytes events → blocks eventBytes (eventsFrom events) ≡ events
+  unfolding eventsFrom
+  events-forth h =
+      blocks-chunks eventBytes eventFrom 55 (eventsIn events) events (λ i li. event-forth image (drop (55 * i) events) (room i li) (event-at i li) (bytes-drop events (55 * i) h))
+      ∙ take-all (55 * eventsIn events) events (omega arith)
+
+  pub events-sized : Each SizedEvent (eventsFrom events)
+  unfolding eventsFrom
+  events-sized = each-chunks SizedEvent eventFrom 55 (eventsIn events) events (λ i li. event-sized image (drop (55 * i) events) (room i li) (event-at i li))
+
+  pub events-valid : Each Valid (eventsFrom events)
+  unfolding eventsFrom
+  events-valid = each-chunks Valid eventFrom 55 (eventsIn events) events (λ i li. event-valid image (drop (55 * i) events) (room i li) (event-at i li))

@@ -1,0 +1,51 @@
+-- The sizes of document 01: every encoding has its length, whatever the value.
+use mathlib.Core.Path.{_≡_, refl}
+use mathlib.Core.List.{List}
+use Prim.Native.Nat.{ℕ}
+use lib.ListN.{length, length-append}
+use Rattle.rules.specs.Sizes.{wordsSize, threadSize, signalSize, treeSize, stateSize, eventSize, answerSize}
+use Rattle.rules.specs.Bytes.{le16, blocks, pad}
+use Rattle.rules.specs.Machine.{Signal, Tree, ThreadState, idle, running, Machine}
+use Rattle.rules.specs.Encoding.{threadRaw, threadBytes, signalBytes, treeBytes, encode}
+use Rattle.rules.specs.Events.{Event, arrive, step, cut, eventBytes}
+use Rattle.rules.specs.Answers.{answerBytes}
+use Rattle.rules.specs.declared.answer.Answer.{Answer}
+use Rattle.fields.specs.Blocks.{length-blocks, length-pad}
+
+length-raw : (label locks count : ℕ) (returns : List ℕ) (present : ℕ) (values : List ℕ) → length (threadRaw label locks count returns present values) ≡ threadSize
+unfolding threadRaw
+length-raw label locks count returns present values = simp (length-append, length-blocks le16 2 (λ x. refl), length-pad)
+
+pub length-thread : (w : ThreadState) → length (threadBytes w) ≡ threadSize
+unfolding threadBytes
+length-thread idle = length-raw _ _ _ _ _ _
+length-thread (running locks j) = length-raw _ _ _ _ _ _
+
+pub length-signal : (g : Signal) → length (signalBytes g) ≡ signalSize
+unfolding signalBytes
+length-signal g = simp (length-blocks le16 2 (λ x. refl), length-pad)
+
+pub length-tree : (x : Tree) → length (treeBytes x) ≡ treeSize
+unfolding treeBytes
+length-tree x = simp (length-blocks signalBytes signalSize length-signal, length-pad)
+
+pub length-words : (s : Machine) → length (blocks le16 (pad 0 256 (s .words))) ≡ wordsSize
+length-words s = simp (length-blocks le16 2 (λ x. refl), length-pad)
+
+pub length-threads : (s : Machine) → length (blocks threadBytes (pad idle 8 (s .threads))) ≡ 600
+length-threads s = simp (length-blocks threadBytes threadSize length-thread, length-pad)
+
+pub length-encode : (s : Machine) → length (encode s) ≡ stateSize
+unfolding encode
+length-encode s =
+    simp (length-append, length-blocks le16 2 (λ x. refl), length-blocks threadBytes threadSize length-thread, length-blocks treeBytes treeSize length-tree, length-pad)
+
+pub length-event : (e : Event) → length (eventBytes e) ≡ eventSize
+unfolding eventBytes
+length-event (arrive g) = rw length-signal
+length-event (step t) = rw length-signal
+length-event (cut t) = rw length-signal
+
+pub length-answer : (a : Answer) → length (answerBytes a) ≡ answerSize
+unfolding answerBytes
+length-answer a = refl

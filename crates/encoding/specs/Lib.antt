@@ -1,0 +1,17 @@
+-- The bytes of document 01 and the values that they say: each kind of record, the state, events and entries read and written; then stores into a state's bytes.
+pub mod Lengths
+pub mod Sized
+pub mod Tests
+pub mod Runs
+pub mod Numbers
+pub mod Registers
+pub mod Threads
+pub mod Trees
+pub mod Layout
+pub mod Machines
+pub mod Events
+pub mod Entries
+pub mod Stores
+pub mod TreeStores
+pub mod SignalStores
+pub mod FirstTree

@@ -1,0 +1,133 @@
+-- The state: what is written is read back and passes the tests, and what passes the tests is written again as it was.
+use mathlib.Core.Path.{_≡_, refl, ap, _∙_}
+use mathlib.Core.Bool.{true, _&&_}
+use mathlib.Core.List.{List, [], _∷_, _++_, append-assoc}
+use Prim.Native.Nat.{ℕ, _+_, _*_, _-_, _≤_, _<_}
+use native.Mathlib.Omega.{arith}
+use lib.Dec.{leb}
+use lib.ListN.{length, getD, drop, replicate, length-drop}
+use lib.Seq.{drop-at, drop-drop, take-all}
+use borrow.Author.Tests.{leb-true, le-leb}
+use Rattle.rules.specs.Sizes.{threadCount, treeCount, wordsSize, threadSize, treeSize, treesAt, stateSize}
+use Rattle.rules.specs.Bytes.{num16, le16, part, isZeros, blocks, pad, chunks, allFrom}
+use Rattle.rules.specs.Machine.{Machine, idle, threadAt}
+use Rattle.rules.specs.Encoding.{noTree, threadBytes, threadFrom, treeBytes, treeFrom, encode, wordsFrom, machineFrom}
+use Rattle.rules.specs.WellFormed.{threadTidy, treeTidy, threadAtTidy, treeAtTidy, stateTidy}
+use Rattle.fields.specs.Each.{each-at}
+use Rattle.fields.specs.Put.{part-drop}
+use Rattle.fields.specs.Blocks.{blocks-append, chunks-blocks, pad-full, pad-split}
+use Rattle.encoding.specs.Sized.{SizedThread, SizedTree, Sized}
+use Rattle.encoding.specs.Lengths.{length-thread, length-tree, length-words}
+use Rattle.encoding.specs.Tests.{both, both-hold, all-at, all-hold, zeros-part}
+use Rattle.encoding.specs.Runs.{length-chunks, each-chunks, blocks-chunks, padded-forth, padded-tail, byte-forth, glue}
+use Rattle.encoding.specs.Numbers.{nums-back, AreBytes, bytes-drop, nums-forth}
+use Rattle.encoding.specs.Layout.{header, slots, encode-slots, length-before, count-back, thread-on, tree-on}
+use Rattle.encoding.specs.Threads.{thread-back, thread-forth, thread-sized, thread-tidy}
+use Rattle.encoding.specs.Trees.{no-tree, tree-back, tree-forth, tree-sized, tree-tidy}
+
+module _ (s : Machine) (z : Sized s) where
+  words-back : wordsFrom (encode s) ≡ s .words
+  unfolding wordsFrom encode
+  words-back = rw (pad-full 0 256 (s .words) (z .words)) (nums-back 256 (s .words) _ (z .words))
+
+  threads-back : chunks threadFrom threadSize threadCount (drop wordsSize (encode s)) ≡ s .threads
+  unfolding encode
+  threads-back =
+      let after : List ℕ = length (s .trees) ∷ blocks treeBytes (pad noTree 16 (s .trees)) in
+      rw (drop-at (blocks le16 (pad 0 256 (s .words))) (blocks threadBytes (pad idle 8 (s .threads)) ++ after) 512 (length-words s), pad-full idle 8 (s .threads) (z .threads), ← z .threads)
+      (chunks-blocks threadBytes threadFrom threadSize length-thread SizedThread thread-back (s .threads) after (z .eachThread))
+
+  trees-back : chunks treeFrom treeSize (getD (encode s) treesAt 0) (drop (treesAt + 1) (encode s)) ≡ s .trees
+  unfolding slots
+  trees-back =
+      let n = length (s .trees) in
+      let d : drop 1113 (encode s) ≡ blocks treeBytes (pad noTree 16 (s .trees)) ++ [] = ap (drop 1113) (encode-slots s) ∙ drop-at (header s ++ (n ∷ [])) _ 1113 (length-before s) in
+      rw (count-back, d, pad-split noTree 16 (s .trees) (z .trees), blocks-append, append-assoc)
+      (chunks-blocks treeBytes treeFrom treeSize length-tree SizedTree tree-back (s .trees) _ (z .eachTree))
+
+  pub machine-back : machineFrom (encode s) ≡ s
+  unfolding machineFrom
+  machine-back = λ i. record { words = words-back i; threads = threads-back i; trees = trees-back i }
+
+-- ---- bytes that pass the tests
+
+pub record StateRead (state : List ℕ) : Type 0 where
+  pub threads : (t : ℕ) → t < threadCount → threadTidy (drop (threadSize * t) (drop wordsSize state)) ≡ true
+  pub few : getD state treesAt 0 ≤ treeCount
+  pub each : (i : ℕ) → i < getD state treesAt 0 → treeTidy (drop (treeSize * i) (drop (treesAt + 1) state)) ≡ true
+  pub zeros : part (drop (treesAt + 1) state) (treeSize * getD state treesAt 0) (treeSize * (treeCount - getD state treesAt 0)) ≡ replicate (treeSize * (treeCount - getD state treesAt 0)) 0
+
+pub state-read : (state : List ℕ) → length state ≡ stateSize → stateTidy state ≡ true → StateRead state
+unfolding stateTidy threadAtTidy treeAtTidy
+state-read state l e =
+    let n = getD state 1112 0 in
+    let threads = allFrom (threadAtTidy state) 0 8 in
+    let count = leb n 16 in
+    let trees = allFrom (treeAtTidy state) 0 n in
+    let t = both (threads && count && trees) (isZeros (part state (1113 + 426 * n) (426 * (16 - n)))) e in
+    let u = both (threads && count) trees (t .0) in
+    let v = both threads count (u .0) in
+    let h : n ≤ 16 = leb-true n 16 (v .1) in
+    record {
+      threads = λ i li. rw drop-drop (all-at (threadAtTidy state) 0 8 (v .0) i (omega arith) (omega arith));
+      few = h;
+      each = λ i li. rw drop-drop (all-at (treeAtTidy state) 0 n (u .1) i (omega arith) (omega arith));
+      zeros = rw part-drop (zeros-part state (1113 + 426 * n) (426 * (16 - n)) (omega arith) (t .1));
+    }
+
+pub machine-forth : (state : List ℕ) → AreBytes state → length state ≡ stateSize → stateTidy state ≡ true → encode (machineFrom state) ≡ state
+unfolding encode machineFrom wordsFrom part
+machine-forth s h l e =
+    let o = state-read s l e in
+    let n = getD s 1112 0 in
+    let w : blocks le16 (pad 0 256 (chunks num16 2 256 s)) ≡ part s 0 512 = ap (blocks le16) (pad-full 0 256 _ (length-chunks num16 2 256 s)) ∙ nums-forth s 0 256 512 h (omega arith) refl in
+    let t : blocks threadBytes (pad idle 8 (chunks threadFrom 75 8 (drop 512 s))) ≡ part s 512 600 =
+    ap (blocks threadBytes) (pad-full idle 8 _ (length-chunks threadFrom 75 8 (drop 512 s)))
+    ∙ blocks-chunks threadBytes threadFrom 75 8 (drop 512 s) (λ j lj. thread-forth (drop (75 * j) (drop 512 s)) (bytes-drop (drop 512 s) (75 * j) (bytes-drop s 512 h)) (simp length-drop (omega arith)) (o .threads j lj)) in
+    let c : length (chunks treeFrom 426 n (drop 1113 s)) ∷ [] ≡ part s 1112 1 = ap (λ q. q ∷ []) (length-chunks treeFrom 426 n (drop 1113 s)) ∙ byte-forth s 1112 (omega arith) in
+    let r : blocks treeBytes (pad noTree 16 (chunks treeFrom 426 n (drop 1113 s))) ≡ part s 1113 6816 =
+    padded-forth treeBytes treeFrom noTree 426 16 n (drop 1113 s) no-tree (o .few)
+    (λ j lj. tree-forth (drop (426 * j) (drop 1113 s)) (bytes-drop (drop 1113 s) (426 * j) (bytes-drop s 1113 h)) (simp length-drop (omega (arith, o .few))) (o .each j lj)) (o .zeros) in
+    glue s 0 512 7417 _ _ w (glue s 512 600 6817 _ _ t (glue s 1112 1 6816 _ _ c r)) ∙ take-all 7929 s (omega arith)
+
+pub machine-sized : (state : List ℕ) → length state ≡ stateSize → stateTidy state ≡ true → Sized (machineFrom state)
+unfolding machineFrom wordsFrom
+machine-sized s l e =
+    let o = state-read s l e in
+    let n = getD s 1112 0 in
+    record {
+      words = length-chunks num16 2 256 s;
+      threads = length-chunks threadFrom 75 8 (drop 512 s);
+      trees = rw (length-chunks treeFrom 426 n (drop 1113 s)) (o .few);
+      eachThread = each-chunks SizedThread threadFrom 75 8 (drop 512 s) (λ j lj. thread-sized (drop (75 * j) (drop 512 s)) (simp length-drop (omega arith)) (o .threads j lj));
+      eachTree = each-chunks SizedTree treeFrom 426 n (drop 1113 s) (λ j lj. tree-sized (drop (426 * j) (drop 1113 s)) (simp length-drop (omega (arith, o .few))) (o .each j lj));
+    }
+
+-- ---- bytes that are written pass the tests
+
+module _ (s : Machine) (z : Sized s) where
+  thread-at-tidy : (t : ℕ) → t < threadCount → threadAtTidy (encode s) t ≡ true
+  unfolding threadAtTidy
+  thread-at-tidy t h =
+      let d = thread-on s t (512 + 75 * t) (z .threads) h refl in
+      rw (d .1) (thread-tidy (threadAt s t) (each-at SizedThread (s .threads) t idle (z .eachThread) (omega (arith, z .threads))) (d .0))
+
+  tree-at-tidy : (i : ℕ) → i < length (s .trees) → treeAtTidy (encode s) i ≡ true
+  unfolding treeAtTidy
+  tree-at-tidy i h =
+      let d = tree-on s i (1113 + 426 * i) (z .trees) h refl in
+      rw (d .1) (tree-tidy (getD (s .trees) i noTree) (each-at SizedTree (s .trees) i noTree (z .eachTree) h) (d .0))
+
+  tail-zeros : isZeros (part (encode s) (treesAt + 1 + treeSize * length (s .trees)) (treeSize * (treeCount - length (s .trees)))) ≡ true
+  unfolding slots
+  tail-zeros =
+      let n = length (s .trees) in
+      rw encode-slots (padded-tail treeBytes 426 length-tree noTree 16 (s .trees) (header s ++ (n ∷ [])) [] (1113 + 426 * n) (426 * (16 - n)) no-tree (z .trees) (omega (arith, length-before s)) refl)
+
+  pub machine-tidy : stateTidy (encode s) ≡ true
+  unfolding stateTidy
+  machine-tidy =
+      let n = length (s .trees) in
+      let threads = all-hold (threadAtTidy (encode s)) 0 8 (λ t l h. thread-at-tidy t (omega arith)) in
+      let trees = all-hold (treeAtTidy (encode s)) 0 n (λ i l h. tree-at-tidy i (omega arith)) in
+      rw count-back (both-hold _ _ (both-hold _ _ (both-hold _ _ threads (le-leb n 16 (z .trees))) trees) tail-zeros)

@@ -1,0 +1,91 @@
+-- Words and threads stored into a machine's bytes, and read from them.
+use mathlib.Core.Path.{_≡_, refl, sym, _∙_}
+use mathlib.Core.List.{List, []}
+use Prim.Native.Nat.{ℕ, _+_, _*_, _≤_, _<_}
+use native.Mathlib.Omega.{arith}
+use lib.ListN.{length, getD, drop, set, length-set}
+use Rattle.rules.specs.Sizes.{threadCount, blockCount, wordCount, wordsSize, threadSize}
+use Rattle.rules.specs.Bytes.{num16, le16, blocks, pad}
+use Rattle.rules.specs.Machine.{ThreadState, idle, Machine, threadAt}
+use Rattle.rules.specs.Encoding.{threadBytes, threadFrom, encode}
+use Rattle.fields.specs.Each.{each-at, each-set}
+use Rattle.fields.specs.Put.{put, put-whole}
+use Rattle.fields.specs.Blocks.{pad-full, block-put, block-drop}
+use Rattle.encoding.specs.Sized.{SizedThread, Sized}
+use Rattle.encoding.specs.Lengths.{length-thread, length-words}
+use Rattle.encoding.specs.Numbers.{num16-le16}
+use Rattle.encoding.specs.Layout.{thread-on}
+use Rattle.encoding.specs.Threads.{thread-back}
+
+abbrev pub withWord : Machine → ℕ → ℕ → Machine
+withWord s n v = record { words = set (s .words) n v; threads = s .threads; trees = s .trees }
+
+abbrev pub withThread : Machine → ℕ → ThreadState → Machine
+withThread s t w = record { words = s .words; threads = set (s .threads) t w; trees = s .trees }
+
+-- ---- the machines stay within limits
+
+pub sized-word : (s : Machine) (n v : ℕ) → Sized s → Sized (withWord s n v)
+sized-word s n v z = record { words = length-set (s .words) n v ∙ z .words; threads = z .threads; trees = z .trees; eachThread = z .eachThread; eachTree = z .eachTree }
+
+pub sized-thread : (s : Machine) (t : ℕ) (w : ThreadState) → SizedThread w → Sized s → Sized (withThread s t w)
+sized-thread s t w h z =
+    record {
+      words = z .words;
+      threads = length-set (s .threads) t w ∙ z .threads;
+      trees = z .trees;
+      eachThread = each-set SizedThread (s .threads) t w (z .eachThread) h;
+      eachTree = z .eachTree;
+    }
+
+pub thread-at-sized : (s : Machine) (t : ℕ) → Sized s → t < threadCount → SizedThread (threadAt s t)
+thread-at-sized s t z h = each-at SizedThread (s .threads) t idle (z .eachThread) (omega (arith, z .threads))
+
+-- ---- stores and reads
+
+module _ (s : Machine) where
+  pub word-put : (n v : ℕ) → length (s .words) ≡ blockCount * wordCount → n < blockCount * wordCount → put (encode s) (2 * n) (le16 v) ≡ encode (withWord s n v)
+  unfolding encode
+  word-put n v l h =
+      let l′ : length (set (s .words) n v) ≡ 256 = length-set (s .words) n v ∙ l in
+      rw (pad-full 0 256 (s .words) l, pad-full 0 256 (set (s .words) n v) l′)
+      (block-put le16 2 (λ x. refl) 0 [] _ (s .words) (2 * n) n 0 (le16 v) v (omega arith) (omega arith) (omega arith) (put-whole _ _ refl))
+
+  pub word-get : (n : ℕ) → length (s .words) ≡ blockCount * wordCount → n < blockCount * wordCount → num16 (drop (2 * n) (encode s)) ≡ getD (s .words) n 0
+  unfolding encode
+  word-get n l h =
+      rw (pad-full 0 256 (s .words) l, block-drop le16 2 (λ x. refl) 0 [] _ (s .words) (2 * n) n (omega arith) (omega arith)) (num16-le16 _ _)
+
+  -- a store inside thread t's record that makes it the record of w
+  pub thread-inside : (t at j : ℕ) (a : List ℕ) (w : ThreadState) → length (s .threads) ≡ threadCount → t < threadCount → at ≡ wordsSize + threadSize * t + j
+      → j + length a ≤ threadSize → put (threadBytes (threadAt s t)) j a ≡ threadBytes w → put (encode s) at a ≡ encode (withThread s t w)
+  unfolding encode
+  thread-inside t at j a w l h e k p =
+      let l′ : length (set (s .threads) t w) ≡ 8 = length-set (s .threads) t w ∙ l in
+      let words : List ℕ = blocks le16 (pad 0 256 (s .words)) in
+      rw (pad-full idle 8 (s .threads) l, pad-full idle 8 (set (s .threads) t w) l′)
+      (block-put threadBytes 75 length-thread idle words _ (s .threads) at t j a w (omega (arith, length-words s)) (omega arith) k p)
+
+  pub thread-put : (t : ℕ) (w : ThreadState) → length (s .threads) ≡ threadCount → t < threadCount
+      → put (encode s) (wordsSize + threadSize * t) (threadBytes w) ≡ encode (withThread s t w)
+  thread-put t w l h =
+      thread-inside t (512 + 75 * t) 0 (threadBytes w) w l h (omega arith) (omega (arith, length-thread w)) (put-whole (threadBytes (threadAt s t)) (threadBytes w) (length-thread (threadAt s t) ∙ sym (length-thread w)))
+
+  pub thread-get : (t : ℕ) → Sized s → t < threadCount → threadFrom (drop (wordsSize + threadSize * t) (encode s)) ≡ threadAt s t
+  thread-get t z h =
+      let d = thread-on s t (512 + 75 * t) (z .threads) h refl in
+      rw (d .1) (thread-back (threadAt s t) (thread-at-sized s t z h) (d .0))
+
+-- the same along equations: what a run of calls leaves and answers
+module _ (s : Machine) (z : Sized s) {b : List ℕ} (e : b ≡ encode s) where
+  pub word-is : (n : ℕ) {v : ℕ} → n < blockCount * wordCount → v ≡ num16 (drop (2 * n) b) → v ≡ getD (s .words) n 0
+  word-is n h k = k ∙ rw e (word-get s n (z .words) h)
+
+  pub thread-is : (t : ℕ) {w : ThreadState} → t < threadCount → w ≡ threadFrom (drop (wordsSize + threadSize * t) b) → w ≡ threadAt s t
+  thread-is t h k = k ∙ rw e (thread-get s t z h)
+
+  pub word-then : (n v : ℕ) {b′ : List ℕ} → n < blockCount * wordCount → b′ ≡ put b (2 * n) (le16 v) → b′ ≡ encode (withWord s n v)
+  word-then n v h k = k ∙ rw e (word-put s n v (z .words) h)
+
+  pub thread-then : (t : ℕ) (w : ThreadState) {b′ : List ℕ} → t < threadCount → b′ ≡ put b (wordsSize + threadSize * t) (threadBytes w) → b′ ≡ encode (withThread s t w)
+  thread-then t w h k = k ∙ rw e (thread-put s t w (z .threads) h)

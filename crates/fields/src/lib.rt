@@ -1,0 +1,3 @@
+// Little-endian numbers, and runs of them, in lent bytes.
+pub mod read;
+pub mod write;

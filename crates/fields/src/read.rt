@@ -1,0 +1,73 @@
+// Numbers read from bytes.
+ghost use mathlib.Core.Path.{_≡_};
+ghost use Prim.Native.Nat.{_+_, _*_, _<_, _≤_};
+ghost use lib.ListN.{length, getD, drop};
+ghost use Rattle.rules.specs.Bytes.{part, isZeros, num16, num32, chunks};
+
+// A byte as a number that counts or indexes.
+pub fn wide(b: u8) -> usize
+    ensures { λ r. ⌜ (r ≡ b) × (r < 256) ⌝ }
+{
+    b as usize
+}
+
+// Two bytes make a 16-bit number, and two of those a 32-bit one.
+pub fn join16(low: u8, high: u8) -> u16
+    ensures { λ r. ⌜ r ≡ low + 256 * high ⌝ }
+{
+    low as u16 + 256 * (high as u16)
+}
+
+pub fn join32(low: u16, high: u16) -> u32
+    ensures { λ r. ⌜ r ≡ low + 65536 * high ⌝ }
+{
+    low as u32 + 65536 * (high as u32)
+}
+
+pub fn get8(s: &[u8], at: usize) -> usize
+    requires { ⌜ at < length (now s) ⌝ }
+    ensures { λ r. ⌜ (r ≡ getD (now (s .entry)) at 0) × (r < 256) ⌝ }
+{
+    wide(s[at])
+}
+
+pub fn get16(s: &[u8], at: usize) -> u16
+    requires { ⌜ at + 1 < length (now s) ⌝ }
+    ensures { λ r. ⌜ r ≡ num16 (drop at (now (s .entry))) ⌝ }
+{
+    join16(s[at], s[at + 1])
+}
+
+pub fn get32(s: &[u8], at: usize) -> u32
+    requires { ⌜ at + 3 < length (now s) ⌝ }
+    ensures { λ r. ⌜ r ≡ num32 (drop at (now (s .entry))) ⌝ }
+{
+    join32(get16(s, at), get16(s, at + 2))
+}
+
+// The 16-bit numbers from a place on, as many as `out` has room for.
+pub fn get16s(s: &[u8], at: usize, out: &mut [u16])
+    requires { ⌜ at + 2 * length (now out) ≤ length (now s) ⌝ }
+    ensures { λ _. ⌜ now (out .exit) ≡ chunks num16 2 (length (now (out .entry))) (drop at (now (s .entry))) ⌝ }
+{
+    let mut k = 0;
+    while k < out.len() {
+        out[k] = get16(s, at + 2 * k);
+        k += 1;
+    }
+}
+
+// Whether n bytes from a place on are zero.
+pub fn all_zero(s: &[u8], at: usize, n: usize) -> bool
+    requires { ⌜ at + n ≤ length (now s) ⌝ }
+    ensures { λ r. ⌜ r ≡ isZeros (part (now (s .entry)) at n) ⌝ }
+{
+    let mut k = 0;
+    while k < n {
+        if s[at + k] != 0 {
+            return false;
+        }
+        k += 1;
+    }
+    true
+}

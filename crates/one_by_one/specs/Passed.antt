@@ -1,0 +1,62 @@
+-- What an image and a block table that pass the check have, and what a record that breaks no rule has.
+use mathlib.Core.Path.{_≡_, refl}
+use mathlib.Core.Bool.{Bool, true, false, _&&_}
+use mathlib.Core.List.{List, []}
+use Prim.Native.Nat.{ℕ, _<_}
+use native.Mathlib.Omega.{arith}
+use lib.Dec.{ltb}
+use lib.ListN.{length}
+use borrow.Author.Tests.{ltb-true, eqb-true}
+use Rattle.rules.specs.Sizes.{blockCount, operandCount, tableSize}
+use Rattle.rules.specs.Bytes.{allFrom}
+use Rattle.rules.specs.Image.{labels, recordAt, opcode, blockField, entry, operator, labelA, labelB, operands, kind}
+use Rattle.rules.specs.Statements.{statementOf, roleA, roleB}
+use Rattle.rules.specs.Check.{headOk, slotOk, labelOk, ruleOk, recordOk, rowOk, firstOf, imageFaults, imageLengthFault, tableLengthFault, tableFault, recordFault}
+use Rattle.one_by_one.specs.Faults.{and-both, first-of-zero, refusal-zero, fault-free}
+
+-- numbers 1 to 4 do not apply
+pub record Passed (image table : List ℕ) : Type 0 where
+  pub someLabels : 0 < labels image
+  pub wholeTable : length table ≡ tableSize
+  pub rows : (b : ℕ) → b < blockCount → rowOk table b ≡ true
+  pub records : (l : ℕ) → l < labels image → recordOk image l ≡ true
+
+-- of any call that is accepted, whatever refusals it has besides
+pub passed : (image table more : List ℕ) → firstOf (imageFaults image table more) ≡ 0 → Passed image table × (firstOf more ≡ 0)
+unfolding imageLengthFault tableLengthFault tableFault recordFault
+passed image table more h =
+    let one = first-of-zero _ _ h in
+    let two = first-of-zero _ _ (one .1) in
+    let three = first-of-zero _ _ (two .1) in
+    let four = first-of-zero _ _ (three .1) in (
+      record {
+        someLabels = ltb-true 0 (labels image) (refusal-zero _ 1 0 (omega arith) (one .0));
+        wholeTable = eqb-true (length table) tableSize (refusal-zero _ 2 0 (omega arith) (two .0));
+        rows = fault-free (rowOk table) blockCount 3 (omega arith) (three .0);
+        records = fault-free (recordOk image) (labels image) 4 (omega arith) (four .0);
+      },
+      four .1,
+    )
+
+-- past the last label there is no record
+pub no-record : (image : List ℕ) (l : ℕ) → ltb l (labels image) ≡ false → recordAt image l ≡ []
+unfolding recordAt
+no-record image l h = rw h refl
+
+-- a record that breaks no rule: its head, its operands, and its labels A and B
+pub record Parts (image r : List ℕ) : Type 0 where
+  pub head : headOk (opcode r) (blockField r) (entry r) (operator r) (operands r) (kind r 0) ≡ true
+  pub slots : allFrom (slotOk r) 0 operandCount ≡ true
+  pub a : labelOk image (roleA (statementOf r)) (blockField r) (labelA r) ≡ true
+  pub b : labelOk image (roleB (statementOf r)) (blockField r) (labelB r) ≡ true
+
+pub rule-parts : (image r : List ℕ) → ruleOk image r ≡ true → Parts image r
+unfolding ruleOk
+rule-parts image r h =
+    let head : Bool = headOk (opcode r) (blockField r) (entry r) (operator r) (operands r) (kind r 0) in
+    let slots : Bool = allFrom (slotOk r) 0 operandCount in
+    let a : Bool = labelOk image (roleA (statementOf r)) (blockField r) (labelA r) in
+    let b : Bool = labelOk image (roleB (statementOf r)) (blockField r) (labelB r) in
+    let all = and-both (head && slots && a) b h in
+    let front = and-both (head && slots) a (all .0) in
+    record { head = and-both head slots (front .0) .0; slots = and-both head slots (front .0) .1; a = front .1; b = all .1 }

@@ -1,0 +1,1 @@
+// The one-by-one reading, proved of the rules: theorems only, in specs/.

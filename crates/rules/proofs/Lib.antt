@@ -1,0 +1,6 @@
+-- The marked trials of document 01, as one table, and what they are proved with.
+pub mod Running
+pub mod Ends
+pub mod Opcodes
+pub mod OnBytes
+pub mod Trials

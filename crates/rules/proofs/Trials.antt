@@ -1,0 +1,164 @@
+-- The marked trials of document 01 as one table. What is common to all threads, locks and widths is said over the number: of any image
+-- and block table, and of any machine s, thread t of it, lock set, job j and values. The trials are computed on bytes besides (OnBytes).
+use mathlib.Core.Path.{_≡_, refl, ap, _∙_}
+use mathlib.Core.Bool.{true, cond}
+use mathlib.Core.Option.{none, some}
+use mathlib.Core.List.{List, [], _∷_, _++_}
+use Prim.Native.Nat.{ℕ, _+_, _-_, _%_, _^_, _<_, _≤_}
+use native.Mathlib.Omega.{arith}
+use lib.Bits.{bitOr}
+use lib.ListN.{length, getD, drop, length-map}
+use lib.Dec.{eqb}
+use borrow.Author.Tests.{lt-ltb, le-ltb}
+use Rattle.rules.specs.Bytes.{num16, num32, firstBad, blocks, pad, chunks, has}
+use Rattle.rules.specs.Image.{rowAt}
+use Rattle.rules.specs.Check.{firstOf, imageFaults}
+use Rattle.rules.specs.Machine.{Signal, Job, ThreadState, idle, running, Machine, threadAt, locksOf, jobOf, fill, first, put}
+use Rattle.rules.specs.Encoding.{threadRaw, threadBytes, encode, machineFrom}
+use Rattle.rules.specs.Answers.{code, detail, close, sort}
+use Rattle.rules.specs.Events.{Event, arrive, step, cut, threadOf, eventsFrom}
+use Rattle.rules.specs.Effects.{got, join}
+use Rattle.rules.specs.Steps.{Rules, rulesBy, newest, older, blockAt, planArrive, plan, carry, react, final, grown, founded}
+use Rattle.rules.specs.Calls.{stateLengthFault, stateFault, eventsLengthFault, eventFault, answersLengthFault, runReturn, runState}
+use Rattle.rules.specs.declared.statement.Operator.the-variants.{Add, Subtract, Multiply}
+use Rattle.rules.specs.declared.statement.Statement.the-variants.{SendDirect, SendBuffered, Call, Return, Transfer, Exit}
+use Rattle.rules.specs.declared.answer.Answer.the-variants.{Taken, ListFull, Started, Exited, Trapped, WasCut}
+use Rattle.rules.proofs.Running.{Runs, Answered, answered, MovesOn}
+use Rattle.rules.proofs.Opcodes as opcodes
+use Rattle.rules.proofs.Opcodes.{stepOf, Open, A, B, register}
+use Rattle.rules.proofs.Ends.{ends, locks-kept, starts-nothing, cut-answer, cut-idle}
+use Rattle.rules.proofs.OnBytes.{OnBytes, onBytes}
+
+-- in the bytes of a thread the lock set, the return count and the presence set are 0
+pub record Cleared (w : ThreadState) : Type 0 where
+  pub locks : num16 (drop 2 (threadBytes w)) ≡ 0
+  pub returns : getD (threadBytes w) 4 0 ≡ 0
+  pub presence : num32 (drop 21 (threadBytes w)) ≡ 0
+
+sum : (p q : ℕ) → p < 65536 → q < 65536 → 65536 ≤ p + q → join Add p q ≡ got (p + q - 65536)
+sum p q hp hq h = let e : (p + q) % 65536 ≡ p + q - 65536 = omega arith in rw e
+
+difference : (p q : ℕ) → p < q → q < 65536 → join Subtract p q ≡ got (65536 - (q - p))
+difference p q h hq = let e : (p + 65536 - q) % 65536 ≡ 65536 - (q - p) = omega arith in rw e
+
+cleared-idle : (w : ThreadState) → w ≡ idle → Cleared w
+unfolding num16 num32 blocks pad threadRaw threadBytes
+cleared-idle w e = rw e (record { locks = refl; returns = refl; presence = refl })
+
+-- an arrival beside fewer than 16 trees, and beside more
+module _ (image table : List ℕ) (s : Machine) (g : Signal) where
+  taken : length (s .trees) < 16 → react (rulesBy image table) s (arrive g) ≡ record { state = grown (rulesBy image table) (founded (rulesBy image table) g) s; answer = Taken }
+  unfolding react plan planArrive carry
+  taken h = rw (length-map, lt-ltb (length (s .trees)) 16 h)
+
+  refused : 16 ≤ length (s .trees) → react (rulesBy image table) s (arrive g) ≡ record { state = s; answer = ListFull }
+  unfolding react plan planArrive carry
+  refused h = rw (length-map, le-ltb (length (s .trees)) 16 h)
+
+-- refusals that do not apply, after others
+last-none : (faults : List ℕ) → firstOf (faults ++ 0 ∷ 0 ∷ 0 ∷ []) ≡ firstOf faults
+unfolding firstOf
+last-none [] = refl
+last-none (x ∷ faults) = ap (λ n. cond (eqb x 0) n x) (last-none faults)
+
+module _ (image table state : List ℕ) (passes : firstOf (imageFaults image table (stateLengthFault state ∷ stateFault image table state ∷ [])) ≡ 0) where
+  no-events-return : runReturn image table state [] [] ≡ 0
+  unfolding firstBad eventsLengthFault eventFault answersLengthFault runReturn
+  no-events-return = last-none (imageFaults image table (stateLengthFault state ∷ stateFault image table state ∷ [])) ∙ passes
+
+  no-events-state : runState image table state [] [] ≡ encode (machineFrom state)
+  unfolding chunks eventsFrom final runState
+  no-events-state = rw no-events-return
+
+pub record Trials (image table : List ℕ) (s : Machine) (t locks : ℕ) (j : Job) (values : List ℕ) : Type 0 where
+  -- the trials as the document tells them, on bytes
+  pub bytes : OnBytes
+  -- "65,535 + 1 is 0"
+  pub sum-wraps : join Add 65535 1 ≡ got 0
+  pub sums : (p q : ℕ) → p < 65536 → q < 65536 → 65536 ≤ p + q → join Add p q ≡ got (p + q - 65536)
+  -- "0 - 1 is 65,535"
+  pub difference-wraps : join Subtract 0 1 ≡ got 65535
+  pub differences : (p q : ℕ) → p < q → q < 65536 → join Subtract p q ≡ got (65536 - (q - p))
+  -- "RETURN in a job with no call: 8, 2"
+  pub return-without-call : Runs image s t locks j Return values → j .returns ≡ [] → Answered (stepOf image table s t) 8 2
+  -- "The eighth CALL moves on; the ninth: 8, 3"
+  pub eighth-call : Runs image s t locks j Call values → length (j .returns) < 8 → Open image table s t (A image j)
+      → MovesOn (stepOf image table s t) t (bitOr locks (2 ^ blockAt image (A image j)))
+      (record { label = A image j; returns = j .returns ++ B image j ∷ []; registers = fill values })
+  pub ninth-call : Runs image s t locks j Call values → 8 ≤ length (j .returns) → Answered (stepOf image table s t) 8 3
+  -- "The eighth pending signal is kept; the ninth: 8, 4"
+  pub eighth-signal : Runs image s t locks j SendBuffered values → (p : List Signal) → first t (s .trees) ≡ some p → length p < 8
+      → stepOf image table s t .state .trees ≡ put t (some (p ++ record { label = A image j; values = values } ∷ [])) (s .trees)
+  pub ninth-signal : Runs image s t locks j SendBuffered values → (p : List Signal) → first t (s .trees) ≡ some p → 8 ≤ length p
+      → Answered (stepOf image table s t) 8 4
+  -- "The sixteenth arrival gets 1; the next 2"
+  pub sixteenth-arrival : (g : Signal) → length (s .trees) < 16 → Answered (react (rulesBy image table) s (arrive g)) 1 0
+  pub next-arrival : (g : Signal) → 16 ≤ length (s .trees) → Answered (react (rulesBy image table) s (arrive g)) 2 0
+  pub no-change : (g : Signal) → 16 ≤ length (s .trees) → react (rulesBy image table) s (arrive g) .state ≡ s
+  -- "EXIT two calls deep: lock set, return count, presence all 0": with any return labels and locks, and at every end
+  pub exit : Runs image s t locks j Exit values → Answered (stepOf image table s t) 7 0
+  pub exit-clears : Runs image s t locks j Exit values → Cleared (threadAt (stepOf image table s t .state) t)
+  pub end-clears : (R : Rules) (e : Event) → threadOf e ≡ some t → sort (react R s e .answer) ≡ close → Cleared (threadAt (react R s e .state) t)
+  -- "TRANSFER with one value keeps register 1; direct SEND with one makes it absent": with k values, every register from k on
+  pub transfer-keeps : Runs image s t locks j Transfer values → (r : ℕ) → length values ≤ r
+      → register (threadAt (stepOf image table s t .state) t) r ≡ getD (j .registers) r none
+  pub direct-clears : Runs image s t locks j SendDirect values → Open image table s t (A image j) → (r : ℕ) → length values ≤ r
+      → register (threadAt (stepOf image table s t .state) t) r ≡ none
+  -- "No events: return 0, state unchanged": of a state that passes 1 to 6
+  pub no-events : (R : Rules) → final R s [] ≡ s
+  pub no-events-return : (state : List ℕ) → firstOf (imageFaults image table (stateLengthFault state ∷ stateFault image table state ∷ [])) ≡ 0
+      → runReturn image table state [] [] ≡ 0
+  pub no-events-state : (state : List ℕ) → firstOf (imageFaults image table (stateLengthFault state ∷ stateFault image table state ∷ [])) ≡ 0
+      → runState image table state [] [] ≡ encode (machineFrom state)
+  -- also: 256 × 256 is 0
+  pub product-wraps : join Multiply 256 256 ≡ got 0
+  -- also: an arrival goes to the list's end
+  pub arrival-last : (g : Signal) → length (s .trees) < 16 → react (rulesBy image table) s (arrive g) .state .trees
+      ≡ s .trees ++ record { thread = rowAt table (blockAt image (g .label)) .thread; pending = g ∷ [] } ∷ []
+  -- also: RETURN releases no lock, and no answer but that of an end releases one
+  pub return-keeps-locks : Runs image s t locks j Return values → (a : ℕ) (l : List ℕ) → j .returns ≡ a ∷ l
+      → MovesOn (stepOf image table s t) t locks (record { label = newest a l; returns = older a l; registers = fill values })
+  pub locks-kept : (R : Rules) (e : Event) → (sort (react R s e .answer) ≡ close → ⊥)
+      → (u l : ℕ) → has l (locksOf (threadAt s u)) ≡ true → has l (locksOf (threadAt (react R s e .state) u)) ≡ true
+  -- also: a cut leaves no return labels
+  pub cut-answer : (R : Rules) → threadAt s t ≡ running locks j → Answered (react R s (cut t)) 9 0
+  pub cut-job : (R : Rules) → threadAt s t ≡ running locks j → jobOf (threadAt (react R s (cut t) .state) t) ≡ none
+  -- also: a buffered SEND keeps all registers
+  pub buffered-keeps : Runs image s t locks j SendBuffered values → (p : List Signal) → first t (s .trees) ≡ some p → length p < 8
+      → MovesOn (stepOf image table s t) t locks (record { label = B image j; returns = j .returns; registers = j .registers })
+  -- also: while a job runs, its tree's next signal is not started
+  pub starts-nothing : (R : Rules) → threadAt s t ≡ running locks j → react R s (step t) .answer ≡ Started → ⊥
+
+pub trials : (image table : List ℕ) (s : Machine) (t locks : ℕ) (j : Job) (values : List ℕ) → Trials image table s t locks j values
+unfolding code detail final
+trials image table s t locks j values = record {
+  bytes = onBytes;
+  sum-wraps = refl;
+  sums = sum;
+  difference-wraps = refl;
+  differences = difference;
+  return-without-call = λ r e. answered (stepOf image table s t) (Trapped 2) (opcodes.return-trap image table r e);
+  eighth-call = opcodes.call image table;
+  ninth-call = λ r h. answered (stepOf image table s t) (Trapped 3) (opcodes.call-trap image table r h);
+  eighth-signal = opcodes.send-kept image table;
+  ninth-signal = λ r p e h. answered (stepOf image table s t) (Trapped 4) (opcodes.send-trap image table r p e h);
+  sixteenth-arrival = λ g h. answered (react (rulesBy image table) s (arrive g)) Taken (rw (taken image table s g h));
+  next-arrival = λ g h. answered (react (rulesBy image table) s (arrive g)) ListFull (rw (refused image table s g h));
+  no-change = λ g h. rw (refused image table s g h);
+  exit = λ r. answered (stepOf image table s t) Exited (opcodes.exit image table r);
+  exit-clears = λ r. cleared-idle (threadAt (stepOf image table s t .state) t) (ends (rulesBy image table) s (step t) t refl (rw (opcodes.exit image table r)));
+  end-clears = λ R e h c. cleared-idle (threadAt (react R s e .state) t) (ends R s e t h c);
+  transfer-keeps = opcodes.transfer-keeps image table;
+  direct-clears = opcodes.direct-clears image table;
+  no-events = λ R. refl;
+  no-events-return = no-events-return image table;
+  no-events-state = no-events-state image table;
+  product-wraps = refl;
+  arrival-last = λ g h. rw (taken image table s g h);
+  return-keeps-locks = opcodes.return image table;
+  locks-kept = λ R. locks-kept R s;
+  cut-answer = λ R h. answered (react R s (cut t)) WasCut (cut-answer R s t locks j h);
+  cut-job = λ R h. rw (cut-idle R s t locks j h);
+  buffered-keeps = opcodes.send image table;
+  starts-nothing = λ R. starts-nothing R s t locks j;
+}

@@ -1,0 +1,59 @@
+-- The answer to an event: its code and its detail, the two bytes of document 01, and what the one-by-one reading does with it.
+use mathlib.Core.Bool.{Bool, cond, _||_}
+use mathlib.Core.List.{List, [], _∷_}
+use Prim.Native.Nat.{ℕ}
+use lib.Dec.{eqb}
+use Rattle.rules.specs.declared.answer.Answer.{Answer}
+use Rattle.rules.specs.declared.answer.Answer.the-variants.{Taken, ListFull, NoWork, Waiting, Started, Moved, Exited, Trapped, WasCut, NothingToCut}
+
+unfoldable pub code : Answer → ℕ
+code Taken = 1
+code ListFull = 2
+code NoWork = 3
+code (Waiting l) = 4
+code Started = 5
+code Moved = 6
+code Exited = 7
+code (Trapped r) = 8
+code WasCut = 9
+code NothingToCut = 10
+
+-- zero unless named: the lock waited for (lock b guards block b, so this is the block asked for), and a trap's reason
+unfoldable pub detail : Answer → ℕ
+detail Taken = 0
+detail ListFull = 0
+detail NoWork = 0
+detail (Waiting l) = l .0
+detail Started = 0
+detail Moved = 0
+detail Exited = 0
+detail (Trapped r) = r
+detail WasCut = 0
+detail NothingToCut = 0
+
+unfoldable pub answerBytes : Answer → List ℕ
+answerBytes a = code a ∷ detail a ∷ []
+
+-- what the one-by-one reading does with an event, by the code of its answer: leave it out (3, 4, 10), write it out at once (1, 2), let it join its thread's
+-- row (5, 6), or join and close the row (7, 8, 9)
+pub data Sort : Type 0 where
+  out now join close : Sort
+
+abbrev pub sort : Answer → Sort
+sort Taken = now
+sort ListFull = now
+sort NoWork = out
+sort (Waiting l) = out
+sort Started = join
+sort Moved = join
+sort Exited = close
+sort (Trapped r) = close
+sort WasCut = close
+sort NothingToCut = out
+
+unfoldable pub sortOfCode : ℕ → Sort
+sortOfCode c =
+    cond (eqb c 1 || eqb c 2) now
+    (cond (eqb c 3 || eqb c 4 || eqb c 10) out
+    (cond (eqb c 7 || eqb c 8 || eqb c 9) close
+    join))

@@ -1,0 +1,106 @@
+-- The rules of a record and of the block table, and the refusals 1 to 4. A refusal is 65,536 × number + place, and 0 where its cause
+-- does not apply.
+use mathlib.Core.Path.{_≡_}
+use mathlib.Core.Bool.{Bool, true, cond, _&&_, _||_}
+use mathlib.Core.List.{List, [], _∷_}
+use Prim.Native.Nat.{ℕ, _+_, _*_}
+use lib.ListN.{length, getD}
+use lib.Dec.{eqb, leb, ltb}
+use Rattle.rules.specs.Sizes.{blockCount, threadCount, registerCount, wordCount, operandCount, tableSize}
+use Rattle.rules.specs.Bytes.{allFrom, firstBad}
+use Rattle.rules.specs.Image.{labels, recordAt, opcode, blockField, entry, operator, labelA, labelB, operands, kind, value, Row, rowAt}
+use Rattle.rules.specs.Statements.{statementOf, roleA, roleB}
+use Rattle.rules.specs.declared.statement.Role.{Role}
+use Rattle.rules.specs.declared.statement.Role.the-variants.{Unused, Inner, Direct, Local, Buffered}
+
+-- ---- the rules of a record
+
+-- ASSIGN: operators 1 to 4; IF: 1 and 2; any other opcode uses none
+abbrev pub operatorOk : ℕ → ℕ → Bool
+operatorOk op o = cond (eqb op 2) (leb 1 o && leb o 4) (cond (eqb op 4) (leb 1 o && leb o 2) (eqb o 0))
+
+-- ASSIGN: destination, p, and q except for copy; IF: p, q; opcodes 5 to 9: 0 to 25 data operands; any other: none
+abbrev pub countOk : ℕ → ℕ → ℕ → Bool
+countOk op o c =
+    cond (eqb op 2) ((eqb o 1 && eqb c 2) || (ltb 1 o && eqb c 3))
+    (cond (eqb op 4) (eqb c 2)
+    (cond (leb 5 op && leb op 9) (leb c operandCount) (eqb c 0)))
+
+-- opcode 1 to 10, block 0 to 15, entry 0 to 3, operator, operand count; ASSIGN's destination is a register or a shared word
+unfoldable pub headOk : ℕ → ℕ → ℕ → ℕ → ℕ → ℕ → Bool
+headOk op b e o c k =
+    (leb 1 op && leb op 10) && ltb b blockCount && ltb e 4 && operatorOk op o && countOk op o c && cond (eqb op 2) (leb 2 k) true
+
+-- a number of any value, a register 0 to 24, a shared word 0 to 15
+abbrev pub operandOk : ℕ → ℕ → Bool
+operandOk k v = eqb k 1 || (eqb k 2 && ltb v registerCount) || (eqb k 3 && ltb v wordCount)
+
+-- the place k for an operand: an operand where there is one, and zero where there is none
+unfoldable pub slotOk : List ℕ → ℕ → Bool
+slotOk r k = cond (ltb k (operands r)) (operandOk (kind r k) (value r k)) (eqb (kind r k) 0 && eqb (value r k) 0)
+
+-- a label v of this role, in a record of block b: where used it is below n, of the entry that its role asks for, and in the record's
+-- block unless it is a signal of 5, 6 or 7; where it is not used it is zero
+abbrev pub roleOk : Role → ℕ → Bool → Bool → ℕ → Bool
+roleOk Unused v below same e = eqb v 0
+roleOk Inner v below same e = below && same
+roleOk Direct v below same e = below && eqb e 1
+roleOk Local v below same e = below && same && eqb e 1
+roleOk Buffered v below same e = below && eqb e 2
+
+unfoldable pub labelOk : List ℕ → Role → ℕ → ℕ → Bool
+labelOk image role b v = roleOk role v (ltb v (labels image)) (eqb (blockField (recordAt image v)) b) (entry (recordAt image v))
+
+unfoldable pub ruleOk : List ℕ → List ℕ → Bool
+ruleOk image r =
+    headOk (opcode r) (blockField r) (entry r) (operator r) (operands r) (kind r 0)
+    && allFrom (slotOk r) 0 operandCount
+    && labelOk image (roleA (statementOf r)) (blockField r) (labelA r)
+    && labelOk image (roleB (statementOf r)) (blockField r) (labelB r)
+
+-- the record at a label breaks no rule
+unfoldable pub recordOk : List ℕ → ℕ → Bool
+recordOk image l = ruleOk image (recordAt image l)
+
+-- ---- the rules of the block table: thread 0 to 7, kind 0 or 1
+
+unfoldable pub rowOk : List ℕ → ℕ → Bool
+rowOk table b = ltb (rowAt table b .thread) threadCount && ltb (rowAt table b .kind) 2
+
+-- ---- the refusals
+
+abbrev pub refusal : Bool → ℕ → ℕ → ℕ
+refusal ok number place = cond ok 0 (65536 * number + place)
+
+-- the first of n places at which a test fails is at fault
+abbrev pub firstFault : (ℕ → Bool) → ℕ → ℕ → ℕ
+firstFault ok n number = refusal (eqb (firstBad ok 0 n) n) number (firstBad ok 0 n)
+
+-- 1: image length not 84 × n, n 1 to 512
+unfoldable pub imageLengthFault : List ℕ → ℕ
+imageLengthFault image = refusal (ltb 0 (labels image)) 1 0
+
+-- 2: table not 32 bytes
+unfoldable pub tableLengthFault : List ℕ → ℕ
+tableLengthFault table = refusal (eqb (length table) tableSize) 2 0
+
+-- 3: table field out of range; the first block
+unfoldable pub tableFault : List ℕ → ℕ
+tableFault table = firstFault (rowOk table) blockCount 3
+
+-- 4: record breaks a rule; the first label
+unfoldable pub recordFault : List ℕ → ℕ
+recordFault image = firstFault (recordOk image) (labels image) 4
+
+-- lowest number first: of a list of refusals, the first that is not 0
+unfoldable pub firstOf : List ℕ → ℕ
+firstOf [] = 0
+firstOf (x ∷ xs) = cond (eqb x 0) (firstOf xs) x
+
+-- the refusals that every call has, before its own
+abbrev pub imageFaults : List ℕ → List ℕ → List ℕ → List ℕ
+imageFaults image table more = imageLengthFault image ∷ tableLengthFault table ∷ tableFault table ∷ recordFault image ∷ more
+
+-- an image and a table that pass the check
+abbrev pub Checked : List ℕ → List ℕ → Type 0
+Checked image table = firstOf (imageFaults image table []) ≡ 0

@@ -1,0 +1,129 @@
+-- What a statement does, told without image, table, other threads or locks. It sees the registers, the words of its own block, and how
+-- many return labels and pending signals there are; of labels it says only "on to A", "on to B", "into A", "call A" and "return".
+use mathlib.Core.Bool.{Bool, true, false, cond}
+use mathlib.Core.Option.{Option, none, some}
+use mathlib.Core.List.{List, [], _∷_, _++_, map}
+use Prim.Native.Nat.{ℕ, _+_, _-_, _*_, _%_}
+use lib.ListN.{length, getD, set, drop}
+use lib.Dec.{eqb, leb, ltb}
+use Rattle.rules.specs.Sizes.{returnCount, pendingCount}
+use Rattle.rules.specs.Machine.{fill}
+use Rattle.rules.specs.Statements.{reads}
+use Rattle.rules.specs.declared.statement.Operand.{Operand}
+use Rattle.rules.specs.declared.statement.Operand.the-variants.{Number, Register, Word}
+use Rattle.rules.specs.declared.statement.Operator.{Operator}
+use Rattle.rules.specs.declared.statement.Operator.the-variants.{Add, Subtract, Multiply}
+use Rattle.rules.specs.declared.statement.Value.{Value}
+use Rattle.rules.specs.declared.statement.Value.the-variants.{Copy, Join}
+use Rattle.rules.specs.declared.statement.Assignment.{Assignment}
+use Rattle.rules.specs.declared.statement.Relation.{Relation}
+use Rattle.rules.specs.declared.statement.Relation.the-variants.{Equal, Less}
+use Rattle.rules.specs.declared.statement.Condition.{Condition}
+use Rattle.rules.specs.declared.statement.Statement.{Statement}
+use Rattle.rules.specs.declared.statement.Statement.the-variants.{Skip, Assign, If, SendDirect, SendBuffered, Call, Return, Transfer, Exit}
+
+-- a trap with its reason, or a result: the order of the traps is the order of the `then`s
+pub data Got (A : Type 0) : Type 0 where
+  trap : ℕ → Got A
+  got : A → Got A
+
+module _ {A B : Type 0} where
+  abbrev pub then : Got A → (A → Got B) → Got B
+  then (trap r) f = trap r
+  then (got x) f = f x
+
+module _ {A : Type 0} where
+  -- a trap with this reason if a test holds
+  abbrev pub unless : Bool → ℕ → Got A → Got A
+  unless true r x = trap r
+  unless false r x = x
+
+-- ---- reading and computing
+
+-- the registers, and the words of the statement's own block
+pub record Cells : Type 0 where
+  pub registers : List (Option ℕ)
+  pub words : List ℕ
+
+-- an absent register is read: reason 1
+abbrev pub present : Option ℕ → Got ℕ
+present none = trap 1
+present (some v) = got v
+
+abbrev pub read : Cells → Operand → Got ℕ
+read c (Number v) = got v
+read c (Register r) = present (getD (c .registers) r none)
+read c (Word w) = got (getD (c .words) w 0)
+
+-- left to right
+unfoldable pub readAll : Cells → List Operand → Got (List ℕ)
+readAll c [] = got []
+readAll c (p ∷ ps) = then (read c p) (λ v. then (readAll c ps) (λ vs. got (v ∷ vs)))
+
+-- add, subtract and multiply, each modulo 65,536
+abbrev pub join : Operator → ℕ → ℕ → Got ℕ
+join Add p q = got ((p + q) % 65536)
+join Subtract p q = got ((p + 65536 - q) % 65536)
+join Multiply p q = got (p * q % 65536)
+
+abbrev pub compute : Value → ℕ → ℕ → Got ℕ
+compute (Copy x) p q = got p
+compute (Join o x y) p q = join o p q
+
+abbrev pub holds : Relation → ℕ → ℕ → Bool
+holds Equal p q = eqb p q
+holds Less p q = ltb p q
+
+-- a register stored to becomes present
+abbrev pub store : Operand → ℕ → Cells → Cells
+store (Number n) v c = c
+store (Register r) v c = record { registers = set (c .registers) r (some v); words = c .words }
+store (Word w) v c = record { registers = c .registers; words = set (c .words) w v }
+
+-- ---- where a statement leads, and what it leaves
+
+pub data Next : Type 0 where
+  onA onB intoA callA back : Next
+
+-- the cells that it leaves, and the values of a signal to A for the job's own tree, if it sends one
+pub record Going : Type 0 where
+  pub next : Next
+  pub cells : Cells
+  pub sent : Option (List ℕ)
+
+pub data Outcome : Type 0 where
+  ends : Outcome
+  goes : Going → Outcome
+
+-- what a statement sees besides its cells: how many return labels the job has, and how many signals are pending in its own tree
+pub record View : Type 0 where
+  pub cells : Cells
+  pub depth : ℕ
+  pub pending : ℕ
+
+abbrev pub go : Next → Cells → Got Outcome
+go n c = got (goes (record { next = n; cells = c; sent = none }))
+
+-- the k data values in registers 0 to k - 1; the rest absent
+abbrev pub filled : List ℕ → Cells → Cells
+filled vs c = record { registers = fill vs; words = c .words }
+
+-- the k data values in registers 0 to k - 1; the rest kept
+abbrev pub overlaid : List ℕ → Cells → Cells
+overlaid vs c = record { registers = map some vs ++ drop (length vs) (c .registers); words = c .words }
+
+-- what a statement does with the values that it read. CALL with 8 return labels: reason 3; buffered SEND with 8 pending: reason 4
+unfoldable pub perform : View → Statement → List ℕ → Got Outcome
+perform v Skip vs = go onA (v .cells)
+perform v (Assign a) vs = then (compute (a .value) (getD vs 0 0) (getD vs 1 0)) (λ x. go onA (store (a .destination) x (v .cells)))
+perform v (If c) vs = go (cond (holds (c .relation) (getD vs 0 0) (getD vs 1 0)) onA onB) (v .cells)
+perform v SendDirect vs = go intoA (filled vs (v .cells))
+perform v SendBuffered vs = unless (leb pendingCount (v .pending)) 4 (got (goes (record { next = onB; cells = v .cells; sent = some vs })))
+perform v Call vs = unless (leb returnCount (v .depth)) 3 (go callA (filled vs (v .cells)))
+perform v Return vs = go back (filled vs (v .cells))
+perform v Transfer vs = go onA (overlaid vs (v .cells))
+perform v Exit vs = got ends
+
+-- all data are read before any register changes
+unfoldable pub outcome : View → Statement → List Operand → Got Outcome
+outcome v s given = then (readAll (v .cells) (reads s given)) (λ vs. perform v s vs)

@@ -1,0 +1,66 @@
+-- "Events": arrivals, steps and cuts, their 55 bytes, and the rules of an event.
+use mathlib.Core.Bool.{Bool, cond, _&&_, _||_}
+use mathlib.Core.Path.{_≡_}
+use mathlib.Core.Option.{Option, none, some}
+use mathlib.Core.List.{List, [], _∷_, _++_}
+use Prim.Native.Nat.{ℕ, _+_, _*_, _-_, _/_, _<_}
+use lib.ListN.{length, getD, take, drop}
+use lib.Dec.{eqb, leb, ltb}
+use Rattle.rules.specs.Sizes.{threadCount, registerCount, eventSize, eventCount, signalSize}
+use Rattle.rules.specs.Bytes.{num16, part, isZeros, chunks, blocks, allFrom}
+use Rattle.rules.specs.Image.{recordAt, entry}
+use Rattle.rules.specs.Machine.{Signal}
+use Rattle.rules.specs.Encoding.{signalBytes, signalFrom, noSignal}
+
+pub data Event : Type 0 where
+  arrive : Signal → Event
+  step cut : ℕ → Event
+
+-- the thread that an event names
+abbrev pub threadOf : Event → Option ℕ
+threadOf (arrive g) = none
+threadOf (step t) = some t
+threadOf (cut t) = some t
+
+abbrev pub Valid : Event → Type 0
+Valid e = (t : ℕ) → threadOf e ≡ some t → t < threadCount
+
+-- kind 1 arrival, 2 step, 3 cut; thread; label, value count, 25 values
+unfoldable pub eventBytes : Event → List ℕ
+eventBytes (arrive g) = 1 ∷ 0 ∷ signalBytes g
+eventBytes (step t) = 2 ∷ t ∷ signalBytes noSignal
+eventBytes (cut t) = 3 ∷ t ∷ signalBytes noSignal
+
+unfoldable pub eventFrom : List ℕ → Event
+eventFrom b = cond (eqb (getD b 0 0) 1) (arrive (signalFrom (drop 2 b))) (cond (eqb (getD b 0 0) 2) (step (getD b 1 0)) (cut (getD b 1 0)))
+
+-- an arrival has thread zero, a label of entry 3, a count 0 to 25 and zeros in what is unused
+unfoldable pub arrivalOk : List ℕ → List ℕ → Bool
+arrivalOk image b =
+    eqb (getD b 1 0) 0
+    && eqb (entry (recordAt image (num16 (drop 2 b)))) 3
+    && leb (getD b 4 0) registerCount
+    && isZeros (part b (5 + 2 * getD b 4 0) (2 * (registerCount - getD b 4 0)))
+
+-- a step and a cut have a thread 0 to 7, and the rest is zero
+unfoldable pub turnOk : List ℕ → Bool
+turnOk b = ltb (getD b 1 0) threadCount && isZeros (part b 2 signalSize)
+
+unfoldable pub eventOk : List ℕ → List ℕ → Bool
+eventOk image b =
+    cond (eqb (getD b 0 0) 1) (arrivalOk image b)
+    ((eqb (getD b 0 0) 2 || eqb (getD b 0 0) 3) && turnOk b)
+
+-- the number of events: m where the length is 55 × m, m 0 to 1,024
+abbrev pub eventsIn : List ℕ → ℕ
+eventsIn events = length events / eventSize
+
+abbrev pub eventsLengthOk : List ℕ → Bool
+eventsLengthOk events = eqb (length events) (eventSize * eventsIn events) && leb (eventsIn events) eventCount
+
+-- the event at an index breaks no rule
+unfoldable pub eventAtOk : List ℕ → List ℕ → ℕ → Bool
+eventAtOk image events i = eventOk image (drop (eventSize * i) events)
+
+unfoldable pub eventsFrom : List ℕ → List Event
+eventsFrom events = chunks eventFrom eventSize (eventsIn events) events

@@ -1,0 +1,56 @@
+-- "Image and block table": the fields of the image's records and of the block table.
+use mathlib.Core.Bool.{Bool, cond, _&&_}
+use mathlib.Core.List.{List, []}
+use Prim.Native.Nat.{ℕ, _+_, _*_, _/_}
+use lib.ListN.{length, getD, take, drop}
+use lib.Dec.{eqb, leb, ltb}
+use Rattle.rules.specs.Sizes.{recordSize, recordCount, blockCount, threadCount, rowSize}
+use Rattle.rules.specs.Bytes.{num16}
+
+-- the number of records: n where the length is 84 × n, n 1 to 512; otherwise 0
+unfoldable pub labels : List ℕ → ℕ
+labels image =
+    let n = length image / recordSize in
+    cond (eqb (length image) (recordSize * n) && leb n recordCount) n 0
+
+-- the record at a label is that part of the image; the part is empty if the image's length is bad or the label is not below n
+unfoldable pub recordAt : List ℕ → ℕ → List ℕ
+recordAt image l = cond (ltb l (labels image)) (take recordSize (drop (recordSize * l) image)) []
+
+-- a record's fields. Where there is no record the block is one that no block table has
+abbrev pub opcode : List ℕ → ℕ
+opcode r = getD r 0 0
+
+abbrev pub blockField : List ℕ → ℕ
+blockField r = getD r 1 blockCount
+
+abbrev pub entry : List ℕ → ℕ
+entry r = getD r 2 0
+
+abbrev pub operator : List ℕ → ℕ
+operator r = getD r 3 0
+
+abbrev pub labelA : List ℕ → ℕ
+labelA r = num16 (drop 4 r)
+
+abbrev pub labelB : List ℕ → ℕ
+labelB r = num16 (drop 6 r)
+
+abbrev pub operands : List ℕ → ℕ
+operands r = getD r 8 0
+
+abbrev pub kind : List ℕ → ℕ → ℕ
+kind r k = getD r (9 + 3 * k) 0
+
+abbrev pub value : List ℕ → ℕ → ℕ
+value r k = num16 (drop (10 + 3 * k) r)
+
+-- what the block table says of a block: its thread, its kind (0 FD, 1 CMX), and its lock. Lock b guards block b. A block past the
+-- table has a thread and a lock that nobody has
+pub record Row : Type 0 where
+  pub thread : ℕ
+  pub kind : ℕ
+  pub lock : ℕ
+
+unfoldable pub rowAt : List ℕ → ℕ → Row
+rowAt table b = record { thread = getD table (rowSize * b) threadCount; kind = getD table (rowSize * b + 1) 0; lock = b }

@@ -1,0 +1,17 @@
+-- The law of the machine, in the order of document 01. Whoever believes these files need believe nothing else.
+pub mod Sorts
+pub mod Sizes
+pub mod Bytes
+pub mod Image
+pub mod Statements
+pub mod Check
+pub mod Machine
+pub mod Encoding
+pub mod Answers
+pub mod Events
+pub mod Effects
+pub mod Steps
+pub mod WellFormed
+pub mod Order
+pub mod Walk
+pub mod Calls

@@ -1,0 +1,246 @@
+-- "Events and the answer to each": arrival, step and cut. A plan says what an event is to do, from what its own thread has; carrying
+-- the plan out is the only place that looks at other threads, and it looks at their lock sets alone.
+use mathlib.Core.Bool.{Bool, true, false, cond, not, _&&_, _||_}
+use mathlib.Core.Option.{Option, none, some}
+use mathlib.Core.List.{List, [], _∷_, _++_, map}
+use Prim.Native.Nat.{ℕ, _^_}
+use lib.Bits.{bitOr}
+use lib.ListN.{length, getD, set}
+use lib.Dec.{eqb, ltb}
+use Rattle.rules.specs.Sorts
+use Rattle.rules.specs.Sizes.{treeCount}
+use Rattle.rules.specs.Bytes.{has}
+use Rattle.rules.specs.Image.{recordAt, blockField, labelA, labelB, Row, rowAt}
+use Rattle.rules.specs.Statements.{statementOf, dataOf}
+use Rattle.rules.specs.Machine.{Signal, Tree, Job, ThreadState, idle, running, Machine, threadAt, locksOf, fill, first, put, treeThreads, window, keep}
+use Rattle.rules.specs.Events.{Event, arrive, step, cut}
+use Rattle.rules.specs.Effects.{Got, trap, got, Next, onA, onB, intoA, callA, back, Going, Outcome, ends, goes, View, outcome}
+use Rattle.rules.specs.declared.answer.Answer.{Answer}
+use Rattle.rules.specs.declared.answer.Answer.the-variants.{Taken, ListFull, NoWork, Waiting, Started, Moved, Exited, Trapped, WasCut, NothingToCut}
+
+-- ---- what a statement asks for, once its labels are put in
+
+-- a trap and its reason; an end; or the job as it goes on, the words of the block that it was in, a signal for its own tree, and the
+-- block whose lock it must have first
+pub data Effect : Type 0 where
+  traps : ℕ → Effect
+  exits : Effect
+  moves : Job → List ℕ → Option Signal → Option ℕ → Effect
+
+abbrev pub trapIf : Bool → ℕ → Effect → Effect
+trapIf true r e = traps r
+trapIf false r e = e
+
+-- RETURN takes the newest return label; the older ones stay
+abbrev pub newest : ℕ → List ℕ → ℕ
+newest a [] = a
+newest a (b ∷ l) = newest b l
+
+abbrev pub older : ℕ → List ℕ → List ℕ
+older a [] = []
+older a (b ∷ l) = a ∷ older b l
+
+-- a signal to label A with these values
+abbrev pub signalTo : ℕ → Option (List ℕ) → Option Signal
+signalTo a none = none
+signalTo a (some vs) = some (record { label = a; values = vs })
+
+-- an FD block of another thread
+unfoldable pub alien : Row → ℕ → Bool
+alien r t = eqb (r .kind) 0 && not (eqb (r .thread) t)
+
+-- of a label they are told the block, and of a block the row of the table. RETURN with no return label: reason 2; direct SEND or CALL
+-- to an FD block of another thread: reason 5
+module _ (block : ℕ → ℕ) (row : ℕ → Row) where
+  abbrev pub onward : ℕ → List ℕ → ℕ → Going → Option ℕ → Effect
+  onward l returns a g want = moves (record { label = l; returns = returns; registers = g .cells .registers }) (g .cells .words) (signalTo a (g .sent)) want
+
+  abbrev pub steer : ℕ → ℕ → ℕ → Going → Next → List ℕ → Effect
+  steer t a b g onA rs = onward a rs a g none
+  steer t a b g onB rs = onward b rs a g none
+  steer t a b g intoA rs = trapIf (alien (row (block a)) t) 5 (onward a rs a g (some (block a)))
+  steer t a b g callA rs = trapIf (alien (row (block a)) t) 5 (onward a (rs ++ b ∷ []) a g (some (block a)))
+  steer t a b g back [] = traps 2
+  steer t a b g back (r ∷ rs) = onward (newest r rs) (older r rs) a g none
+
+  abbrev pub resolve : ℕ → List ℕ → ℕ → ℕ → Got Outcome → Effect
+  resolve t rs a b (trap r) = traps r
+  resolve t rs a b (got ends) = exits
+  resolve t rs a b (got (goes g)) = steer t a b g (g .next) rs
+
+abbrev pub view : Job → List ℕ → ℕ → View
+view j words pending = record { cells = record { registers = j .registers; words = words }; depth = length (j .returns); pending = pending }
+
+-- ---- what the rules go by
+
+pub record Rules : Type 0 where
+  -- the block of a label; the thread and the lock of a block
+  pub block : ℕ → ℕ
+  pub thread : ℕ → ℕ
+  pub lock : ℕ → ℕ
+  -- what the statement at a job's label does, on thread t, with the words of its block and so many signals pending in its tree
+  pub act : ℕ → Job → List ℕ → ℕ → Effect
+  -- is there room for one more tree on a thread, beside trees on these threads?
+  pub room : List ℕ → ℕ → Bool
+
+-- the rules that an image and a block table make: 16 trees live leave no room
+abbrev pub blockAt : List ℕ → ℕ → ℕ
+blockAt image l = blockField (recordAt image l)
+
+unfoldable pub actBy : List ℕ → List ℕ → ℕ → Job → List ℕ → ℕ → Effect
+actBy image table t j words pending =
+    let r = recordAt image (j .label) in
+    resolve (blockAt image) (rowAt table) t (j .returns) (labelA r) (labelB r) (outcome (view j words pending) (statementOf r) (dataOf r))
+
+abbrev pub roomFor : List ℕ → ℕ → Bool
+roomFor threads t = ltb (length threads) treeCount
+
+abbrev pub rulesBy : List ℕ → List ℕ → Rules
+rulesBy image table = record {
+  block = blockAt image;
+  thread = λ b. rowAt table b .thread;
+  lock = λ b. rowAt table b .lock;
+  act = actBy image table;
+  room = roomFor;
+}
+
+-- ---- what an event is to do, from what its own thread has
+
+-- the job goes on, or starts: its words are written to a block, its tree gets these pending signals, and the lock of a block is wanted
+pub record Move : Type 0 where
+  pub job : Job
+  pub write : Option (ℕ × List ℕ)
+  pub pending : List Signal
+  pub want : Option ℕ
+  pub answer : Answer
+
+pub data Plan : Type 0 where
+  stay : Answer → Plan
+  grow : Tree → Plan
+  move : ℕ → Move → Plan
+  finish : ℕ → Answer → Plan
+
+pub record Reply : Type 0 where
+  pub state : Machine
+  pub answer : Answer
+
+-- the job that a signal starts: its values fill registers 0 upward
+abbrev pub begin : Signal → Job
+begin g = record { label = g .label; returns = []; registers = fill (g .values) }
+
+abbrev pub added : Option Signal → List Signal
+added none = []
+added (some g) = g ∷ []
+
+abbrev pub pendingOf : Option (List Signal) → List Signal
+pendingOf none = []
+pendingOf (some p) = p
+
+module _ (R : Rules) where
+  -- the thread of a signal's block, and a tree with this signal on it
+  abbrev pub home : Signal → ℕ
+  home g = R .thread (R .block (g .label))
+
+  abbrev pub founded : Signal → Tree
+  founded g = record { thread = home g; pending = g ∷ [] }
+
+  -- arrival: no room, code 2, no change; otherwise a tree with this signal
+  unfoldable pub planArrive : Signal → List Tree → Plan
+  planArrive g l = cond (R .room (treeThreads l) (home g)) (grow (founded g)) (stay ListFull)
+
+  -- step, idle thread: empty queue, code 3; otherwise the first tree's oldest signal is taken, if its block's lock can be
+  unfoldable pub planIdle : ℕ → Option (List Signal) → Plan
+  planIdle t none = stay NoWork
+  planIdle t (some []) = stay NoWork
+  planIdle t (some (g ∷ p)) = move t (record { job = begin g; write = none; pending = p; want = some (R .block (g .label)); answer = Started })
+
+  -- step, running thread: a buffered signal goes to the end of the job's own tree
+  unfoldable pub planRunning : ℕ → ℕ → List Signal → Effect → Plan
+  planRunning t b p (traps r) = finish t (Trapped r)
+  planRunning t b p exits = finish t Exited
+  planRunning t b p (moves j words g want) = move t (record { job = j; write = some (b, words); pending = p ++ added g; want = want; answer = Moved })
+
+  unfoldable pub planStep : ℕ → ThreadState → Option (List Signal) → List ℕ → Plan
+  planStep t idle f words = planIdle t f
+  planStep t (running locks j) f words =
+      planRunning t (R .block (j .label)) (pendingOf f) (R .act t j (window (R .block (j .label)) words) (length (pendingOf f)))
+
+  -- cut: code 9; on an idle thread code 10, no change
+  unfoldable pub planCut : ℕ → ThreadState → Plan
+  planCut t idle = stay NothingToCut
+  planCut t (running locks j) = finish t WasCut
+
+  unfoldable pub plan : Machine → Event → Plan
+  plan s (arrive g) = planArrive g (s .trees)
+  plan s (step t) = planStep t (threadAt s t) (first t (s .trees)) (s .words)
+  plan s (cut t) = planCut t (threadAt s t)
+
+  -- ---- and its doing, in the machine
+
+  unfoldable pub held : ℕ → List ThreadState → Bool
+  held l [] = false
+  held l (w ∷ ws) = has l (locksOf w) || held l ws
+
+  -- the lock of the wanted block, if a thread other than t holds it
+  unfoldable pub blocked : ℕ → List ThreadState → Option ℕ → Option ℕ
+  blocked t ws none = none
+  blocked t ws (some b) = cond (held (R .lock b) (set ws t idle)) (some (R .lock b)) none
+
+  -- the lock is taken
+  abbrev pub grant : Option ℕ → ℕ → ℕ
+  grant none locks = locks
+  grant (some b) locks = bitOr locks (2 ^ R .lock b)
+
+  abbrev pub written : Option (ℕ × List ℕ) → List ℕ → List ℕ
+  written none words = words
+  written (some p) words = keep (p .0) (p .1) words
+
+  abbrev pub applied : ℕ → Move → Machine → Machine
+  applied t m s = record {
+    words = written (m .write) (s .words);
+    threads = set (s .threads) t (running (grant (m .want) (locksOf (threadAt s t))) (m .job));
+    trees = put t (some (m .pending)) (s .trees);
+  }
+
+  -- a tree goes to the list's end
+  abbrev pub grown : Tree → Machine → Machine
+  grown x s = record { words = s .words; threads = s .threads; trees = s .trees ++ x ∷ [] }
+
+  -- an ended job's tree, if not empty, on the thread of its oldest signal's block
+  abbrev pub requeued : Option (List Signal) → List Tree
+  requeued none = []
+  requeued (some []) = []
+  requeued (some (g ∷ p)) = record { thread = home g; pending = g ∷ p } ∷ []
+
+  -- an end of any sort clears the thread to idle and keeps shared writes and pending signals: the job's tree leaves its place and, if not empty, goes to the list's end
+  abbrev pub finished : ℕ → Machine → Machine
+  finished t s = record {
+    words = s .words;
+    threads = set (s .threads) t idle;
+    trees = put t none (s .trees) ++ requeued (first t (s .trees));
+  }
+
+  -- waiting changes nothing
+  unfoldable pub attempt : ℕ → Move → Machine → Option ℕ → Reply
+  attempt t m s none = record { state = applied t m s; answer = m .answer }
+  attempt t m s (some l) = record { state = s; answer = Waiting (Sorts.lock l) }
+
+  unfoldable pub carry : Machine → Plan → Reply
+  carry s (stay a) = record { state = s; answer = a }
+  carry s (grow x) = record { state = grown x s; answer = Taken }
+  carry s (move t m) = attempt t m s (blocked t (s .threads) (m .want))
+  carry s (finish t a) = record { state = finished t s; answer = a }
+
+  unfoldable pub react : Machine → Event → Reply
+  react s e = carry s (plan s e)
+
+  -- ---- a list of events
+
+  -- an event and its answer
+  unfoldable pub answers : Machine → List Event → List Answer
+  answers s [] = []
+  answers s (e ∷ l) = react s e .answer ∷ answers (react s e .state) l
+
+  unfoldable pub final : Machine → List Event → Machine
+  final s [] = s
+  final s (e ∷ l) = final (react s e .state) l

@@ -1,0 +1,119 @@
+-- "Well formed": which state bytes a call accepts. The sentences of document 01 in their order.
+use mathlib.Core.Bool.{Bool, true, false, cond, _&&_, _||_}
+use mathlib.Core.List.{List, [], _∷_, map}
+use Prim.Native.Nat.{ℕ, _+_, _*_, _-_, _^_}
+use lib.Bits.{bitAnd}
+use lib.ListN.{length, getD, drop}
+use lib.Dec.{eqb, leb, ltb}
+use Rattle.rules.specs.Sizes.{threadCount, registerCount, returnCount, treeCount, pendingCount, wordsSize, threadSize, signalSize, treeSize, treesAt, idleLabel}
+use Rattle.rules.specs.Bytes.{num16, num32, part, isZeros, has, allFrom, every}
+use Rattle.rules.specs.Image.{labels, recordAt, entry, Row, rowAt}
+use Rattle.rules.specs.Machine.{Signal, Tree, Job, ThreadState, idle, running, Machine, locksOf, queue}
+use Rattle.rules.specs.Encoding.{machineFrom}
+use Rattle.rules.specs.Steps.{blockAt}
+
+-- ---- the bytes: counts within limits, unused bytes zero
+
+-- absent register values are zero
+unfoldable pub absentZero : List ℕ → ℕ → Bool
+absentZero b r = has r (num32 (drop 21 b)) || eqb (num16 (drop (25 + 2 * r) b)) 0
+
+-- a thread record: an idle thread's other fields are all zero; otherwise at most 8 return labels, zeros in the place of others, presence bits 0 to 24 only
+unfoldable pub runningTidy : List ℕ → Bool
+runningTidy b =
+    leb (getD b 4 0) returnCount
+    && isZeros (part b (5 + 2 * getD b 4 0) (2 * (returnCount - getD b 4 0)))
+    && ltb (num32 (drop 21 b)) (2 ^ registerCount)
+    && allFrom (absentZero b) 0 registerCount
+
+unfoldable pub threadTidy : List ℕ → Bool
+threadTidy b = cond (eqb (num16 b) idleLabel) (isZeros (part b 2 (threadSize - 2))) (runningTidy b)
+
+-- a signal: at most 25 values, zeros in the place of others
+unfoldable pub signalTidy : List ℕ → Bool
+signalTidy b = leb (getD b 2 0) registerCount && isZeros (part b (3 + 2 * getD b 2 0) (2 * (registerCount - getD b 2 0)))
+
+unfoldable pub signalAtTidy : List ℕ → ℕ → Bool
+signalAtTidy b i = signalTidy (drop (2 + signalSize * i) b)
+
+-- a tree record: at most 8 pending signals, zeros in the place of others
+unfoldable pub treeTidy : List ℕ → Bool
+treeTidy b =
+    leb (getD b 1 0) pendingCount
+    && allFrom (signalAtTidy b) 0 (getD b 1 0)
+    && isZeros (part b (2 + signalSize * getD b 1 0) (signalSize * (pendingCount - getD b 1 0)))
+
+unfoldable pub threadAtTidy : List ℕ → ℕ → Bool
+threadAtTidy state t = threadTidy (drop (wordsSize + threadSize * t) state)
+
+unfoldable pub treeAtTidy : List ℕ → ℕ → Bool
+treeAtTidy state i = treeTidy (drop (treesAt + 1 + treeSize * i) state)
+
+-- the whole: at most 16 trees, zeros in the place of others
+unfoldable pub stateTidy : List ℕ → Bool
+stateTidy state =
+    allFrom (threadAtTidy state) 0 threadCount
+    && leb (getD state treesAt 0) treeCount
+    && allFrom (treeAtTidy state) 0 (getD state treesAt 0)
+    && isZeros (part state (treesAt + 1 + treeSize * getD state treesAt 0) (treeSize * (treeCount - getD state treesAt 0)))
+
+-- ---- the machine
+
+-- a block is CMX or the thread's own
+abbrev pub openTo : Row → ℕ → Bool
+openTo r t = eqb (r .kind) 1 || eqb (r .thread) t
+
+-- no lock in two sets
+unfoldable pub apart : List ThreadState → Bool
+apart [] = true
+apart (w ∷ ws) = every (λ (v : ThreadState). eqb (bitAnd (locksOf w) (locksOf v)) 0) ws && apart ws
+
+module _ (image table : List ℕ) where
+  -- a label of thread t's job, t holding these locks: it is below n, the lock of its block is held, and the block is CMX or t's own
+  unfoldable pub placeOk : ℕ → ℕ → ℕ → Bool
+  placeOk t locks l =
+      let r = rowAt table (blockAt image l) in
+      ltb l (labels image) && has (r .lock) locks && openTo r t
+
+  unfoldable pub threadOk : ℕ → ThreadState → Bool
+  threadOk t idle = true
+  threadOk t (running locks j) = every (placeOk t locks) (j .label ∷ j .returns)
+
+  -- threads t, t + 1, ..
+  unfoldable pub threadsOk : ℕ → List ThreadState → Bool
+  threadsOk t [] = true
+  threadsOk t (w ∷ ws) = threadOk t w && threadsOk (t + 1) ws
+
+  -- a pending signal's label is below n and has entry 2 or 3
+  unfoldable pub pendingOk : Signal → Bool
+  pendingOk g =
+      let e = entry (recordAt image (g .label)) in
+      eqb e 2 || eqb e 3
+
+  -- a thread number within limits, and pending signals as above
+  unfoldable pub treeOk : Tree → Bool
+  treeOk x = ltb (x .thread) threadCount && every pendingOk (x .pending)
+
+  -- a tree that is not a running thread's first has a signal pending, and belongs to the thread of the first one's block
+  abbrev pub homedAs : ℕ → List Signal → Bool
+  homedAs t [] = false
+  homedAs t (g ∷ p) = eqb t (rowAt table (blockAt image (g .label)) .thread)
+
+  unfoldable pub homed : Tree → Bool
+  homed x = homedAs (x .thread) (x .pending)
+
+  -- a running thread has a tree; only this first tree may have none pending
+  abbrev pub queueOk : ThreadState → List Tree → Bool
+  queueOk idle l = every homed l
+  queueOk (running locks j) [] = false
+  queueOk (running locks j) (x ∷ l) = every homed l
+
+  unfoldable pub queuesOk : ℕ → List ThreadState → List Tree → Bool
+  queuesOk t [] l = true
+  queuesOk t (w ∷ ws) l = queueOk w (queue t l) && queuesOk (t + 1) ws l
+
+  unfoldable pub machineOk : Machine → Bool
+  machineOk s = threadsOk 0 (s .threads) && apart (s .threads) && every treeOk (s .trees) && queuesOk 0 (s .threads) (s .trees)
+
+  unfoldable pub wellFormed : List ℕ → Bool
+  wellFormed state = stateTidy state && machineOk (machineFrom state)

@@ -1,0 +1,4 @@
+pub mod Same
+pub mod Events
+pub mod Running
+pub mod Statements

@@ -1,0 +1,4 @@
+pub mod Distinct
+pub mod Walked
+pub mod Waits
+pub mod Met

@@ -1,0 +1,1 @@
+// What holds of the walk along waits: laws of the rules.
