@@ -39,12 +39,12 @@ module _ (R : Rules) where
 
   -- ---- the parts of the machine, changed by one thread and read by another
 
-  written-other : (w : Option (ℕ × List ℕ)) (ws : List ℕ) (b : ℕ) → ((p : ℕ × List ℕ) → w ≡ some p → b ≢ p .0) → window b (written R w ws) ≡ window b ws
+  written-other : (w : Option (ℕ × List ℕ)) (ws : List ℕ) (b : ℕ) → ((p : ℕ × List ℕ) → w ≡ some p → b ≢ p .0) → window b (written w ws) ≡ window b ws
   written-other none ws b h = refl
   written-other (some p) ws b h = window-keep-other (p .0) b (p .1) ws (h p refl)
 
   written-comm : (w v : Option (ℕ × List ℕ)) (ws : List ℕ) → ((p q : ℕ × List ℕ) → w ≡ some p → v ≡ some q → p .0 ≢ q .0)
-      → written R w (written R v ws) ≡ written R v (written R w ws)
+      → written w (written v ws) ≡ written v (written w ws)
   written-comm none v ws h = refl
   written-comm (some p) none ws h = refl
   written-comm (some p) (some q) ws h = keep-comm (p .0) (q .0) (p .1) (q .1) ws (h p q refl refl)
@@ -65,7 +65,7 @@ module _ (R : Rules) where
     cells = λ j e. written-other (m .write) (s .words) (R .block (j .label)) (λ p f. unlike s t u _ _ i n (i .keeps t j e (R .block (j .label)) (List·Memᴰ·head refl)) (d .writes p f));
   }
 
-  pub same-grown : (s : Machine) (t : ℕ) (x : Tree) (p : List Signal) → first t (s .trees) ≡ some p → Same t s (grown R x s)
+  pub same-grown : (s : Machine) (t : ℕ) (x : Tree) (p : List Signal) → first t (s .trees) ≡ some p → Same t s (grown x s)
   same-grown s t x p h = record { thread = refl; tree = first-append t p (s .trees) (x ∷ []) h ∙ sym h; cells = λ j e. refl }
 
   pub same-finished : (s : Machine) (t u : ℕ) (p : List Signal) → first t (s .trees) ≡ some p → t ≢ u → Same t s (finished R u s)
@@ -85,7 +85,7 @@ module _ (R : Rules) where
       threads′ = let g : u ≢ t = λ e. h (sym e) in rw (getD-set-other (s .threads) u t, getD-set-other (s .threads) t u) (set-comm (s .threads) u t _ _ g)
 
   pub comm-grown : (s : Machine) (t : ℕ) (m : Move) (x : Tree) (p : List Signal) → first t (s .trees) ≡ some p
-      → applied R t m (grown R x s) ≡ grown R x (applied R t m s)
+      → applied R t m (grown x s) ≡ grown x (applied R t m s)
   comm-grown s t m x p h = machine-path refl refl (put-append t (some (m .pending)) p (s .trees) (x ∷ []) h)
 
   pub comm-finished : (s : Machine) (t u : ℕ) (m : Move) (p : List Signal) → t ≢ u → first t (s .trees) ≡ some p

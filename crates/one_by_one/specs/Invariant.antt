@@ -77,7 +77,7 @@ module _ (R : Rules) (L : Laws R) where
 
   good-running : (s : Machine) (t l : ℕ) (j : Job) (e : Effect) → Invariant R s → threadAt s t ≡ running l j
       → R .act t j (window (R .block (j .label)) (s .words)) (length (pendingOf (first t (s .trees)))) ≡ e
-      → Good R s (step t) (planRunning R t (R .block (j .label)) (pendingOf (first t (s .trees))) e)
+      → Good R s (step t) (planRunning t (R .block (j .label)) (pendingOf (first t (s .trees))) e)
   unfolding planRunning
   good-running s t l j (traps r) i w k = (refl, refl)
   good-running s t l j exits i w k = (refl, refl)
@@ -112,7 +112,7 @@ module _ (R : Rules) (L : Laws R) where
       case (running l j) k = good-running s t l j _ i k refl
   good s (cut t) i = case (threadAt s t)
     where
-      case : (w : ThreadState) → Good R s (cut t) (planCut R t w)
+      case : (w : ThreadState) → Good R s (cut t) (planCut t w)
       case idle = inl refl
       case (running l j) = (refl, refl)
 
@@ -191,7 +191,7 @@ module _ (R : Rules) (L : Laws R) where
       rooted = λ k j h. rooted-finished k j (ℕ-discrete k t) h;
     }
 
-  pub invariant-grown : (s : Machine) (x : Tree) → Invariant R s → Invariant R (grown R x s)
+  pub invariant-grown : (s : Machine) (x : Tree) → Invariant R s → Invariant R (grown x s)
   invariant-grown s x i = record {
     size = i .size;
     apart = i .apart;

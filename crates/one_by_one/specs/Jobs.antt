@@ -91,7 +91,7 @@ module _ (R : Rules) where
   before-idle s t (some []) h = tt
   before-idle s t (some (g ∷ p)) h = inl (refl, h)
 
-  before-running : (s : Machine) (t b : ℕ) (p : List Signal) (e : Effect) → Running (threadAt s t) → Before s (planRunning R t b p e)
+  before-running : (s : Machine) (t b : ℕ) (p : List Signal) (e : Effect) → Running (threadAt s t) → Before s (planRunning t b p e)
   unfolding planRunning
   before-running s t b p (traps r) h = h
   before-running s t b p exits h = h
@@ -111,7 +111,7 @@ module _ (R : Rules) where
       case (running locks j) k = before-running s t _ _ _ (rw k tt)
   before s (cut t) = case (threadAt s t) refl
     where
-      case : (w : ThreadState) → threadAt s t ≡ w → Before s (planCut R t w)
+      case : (w : ThreadState) → threadAt s t ≡ w → Before s (planCut t w)
       case idle k = tt
       case (running locks j) k = rw k tt
 

@@ -50,13 +50,13 @@ module _ (R : Rules) where
       go (yes e) = inr (b, refl, e)
       go (no n) = inl (sym (has-other l (R .lock b) k n) ∙ h)
 
-  pub held-false : (l : ℕ) (ts : List ThreadState) → held R l ts ≡ false → (k : ℕ) → has l (locksOf (getD ts k idle)) ≡ false
+  pub held-false : (l : ℕ) (ts : List ThreadState) → held l ts ≡ false → (k : ℕ) → has l (locksOf (getD ts k idle)) ≡ false
   unfolding held
   held-false l [] h k = has-none l
-  held-false l (x ∷ ts) h zero = or-false (has l (locksOf x)) (held R l ts) h .0
-  held-false l (x ∷ ts) h (suc k) = held-false l ts (or-false (has l (locksOf x)) (held R l ts) h .1) k
+  held-false l (x ∷ ts) h zero = or-false (has l (locksOf x)) (held l ts) h .0
+  held-false l (x ∷ ts) h (suc k) = held-false l ts (or-false (has l (locksOf x)) (held l ts) h .1) k
 
-  pub held-of : (l : ℕ) (ts : List ThreadState) → ((k : ℕ) → has l (locksOf (getD ts k idle)) ≡ false) → held R l ts ≡ false
+  pub held-of : (l : ℕ) (ts : List ThreadState) → ((k : ℕ) → has l (locksOf (getD ts k idle)) ≡ false) → held l ts ≡ false
   unfolding held
   held-of l [] h = refl
   held-of l (x ∷ ts) h = or-intro _ _ (h zero) (held-of l ts (λ k. h (suc k)))

@@ -142,7 +142,7 @@ module _ (R : Rules) (L : Laws R) where
     rest (stay a) g k = record { same = refl; then = react-move s x (j .thread) (j .act) (j .plans) (j .clear) }
     rest (grow z) g k =
         let r = j .sound .root in
-        record { same = refl; then = again (grown R z s) (same-grown R s (j .thread) z (r .0) (r .1)) free ∙ leaves (comm-grown R s (j .thread) (j .act) z (r .0) (r .1)) }
+        record { same = refl; then = again (grown z s) (same-grown R s (j .thread) z (r .0) (r .1)) free ∙ leaves (comm-grown R s (j .thread) (j .act) z (r .0) (r .1)) }
     rest (move t m) g k = rest-move t m _ g refl k
     rest (finish t a) g k =
         let r = j .sound .root in

@@ -57,7 +57,7 @@ module _ (R : Rules) where
   idle-ends t (some []) = λ e. never (cc)
   idle-ends t (some (g ∷ p)) = λ e. never (cc)
 
-  running-ends : (t b : ℕ) (p : List Signal) (x : Effect) → Ends (step t) (planRunning R t b p x)
+  running-ends : (t b : ℕ) (p : List Signal) (x : Effect) → Ends (step t) (planRunning t b p x)
   unfolding planRunning
   running-ends t b p (traps r) = (refl, refl)
   running-ends t b p exits = (refl, refl)
@@ -68,7 +68,7 @@ module _ (R : Rules) where
   step-ends t idle f words = idle-ends t f
   step-ends t (running locks j) f words = running-ends t _ _ _
 
-  cut-ends : (t : ℕ) (w : ThreadState) → Ends (cut t) (planCut R t w)
+  cut-ends : (t : ℕ) (w : ThreadState) → Ends (cut t) (planCut t w)
   unfolding planCut
   cut-ends t idle = λ e. never (cc)
   cut-ends t (running locks j) = (refl, refl)
@@ -127,7 +127,7 @@ module _ (R : Rules) where
   attempt-starts s t m none n e = n e
   attempt-starts s t m (some l) n e = never (cc)
 
-  running-starts : (s : Machine) (t b : ℕ) (p : List Signal) (x : Effect) → carry R s (planRunning R t b p x) .answer ≡ Started → ⊥
+  running-starts : (s : Machine) (t b : ℕ) (p : List Signal) (x : Effect) → carry R s (planRunning t b p x) .answer ≡ Started → ⊥
   unfolding planRunning carry
   running-starts s t b p (traps r) e = never (cc)
   running-starts s t b p exits e = never (cc)

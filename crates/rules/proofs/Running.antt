@@ -69,7 +69,7 @@ module _ (image table : List ℕ) {s : Machine} {t locks : ℕ} {j : Job} {x : S
 
   stepped : react (rulesBy image table) s (step t)
       ≡ carry (rulesBy image table) s
-      (planRunning (rulesBy image table) t (blockAt image (j .label)) (pendingOf (first t (s .trees))) (effect image table s t j x values))
+      (planRunning t (blockAt image (j .label)) (pendingOf (first t (s .trees))) (effect image table s t j x values))
   unfolding react plan planStep
   stepped = rw (r .thread, acts)
 

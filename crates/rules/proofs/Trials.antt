@@ -47,7 +47,7 @@ cleared-idle w e = rw e (record { locks = refl; returns = refl; presence = refl 
 
 -- an arrival beside fewer than 16 trees, and beside more
 module _ (image table : List ℕ) (s : Machine) (g : Signal) where
-  taken : length (s .trees) < 16 → react (rulesBy image table) s (arrive g) ≡ record { state = grown (rulesBy image table) (founded (rulesBy image table) g) s; answer = Taken }
+  taken : length (s .trees) < 16 → react (rulesBy image table) s (arrive g) ≡ record { state = grown (founded (rulesBy image table) g) s; answer = Taken }
   unfolding react plan planArrive carry
   taken h = rw (length-map, lt-ltb (length (s .trees)) 16 h)
 

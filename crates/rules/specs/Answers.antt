@@ -1,5 +1,5 @@
 -- The answer to an event: its code and its detail, the two bytes of document 01, and what the one-by-one reading does with it.
-use mathlib.Core.Bool.{Bool, cond, _||_}
+use mathlib.Core.Bool.{cond, _||_}
 use mathlib.Core.List.{List, [], _∷_}
 use Prim.Native.Nat.{ℕ}
 use lib.Dec.{eqb}

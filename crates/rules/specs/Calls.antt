@@ -9,13 +9,13 @@ use lib.Dec.{eqb, ltb}
 use Rattle.rules.specs.Sizes.{wordsSize, stateSize, answerSize, threadCount}
 use Rattle.rules.specs.Bytes.{blocks}
 use Rattle.rules.specs.Check.{refusal, firstFault, firstOf, imageFaults}
-use Rattle.rules.specs.Machine.{Machine, fresh}
+use Rattle.rules.specs.Machine.{fresh}
 use Rattle.rules.specs.Encoding.{encode, wordsFrom, machineFrom}
 use Rattle.rules.specs.WellFormed.{wellFormed}
 use Rattle.rules.specs.Answers.{answerBytes}
 use Rattle.rules.specs.Events.{eventsIn, eventsLengthOk, eventAtOk, eventsFrom}
-use Rattle.rules.specs.Steps.{Rules, rulesBy, answers, final}
-use Rattle.rules.specs.Walk.{Walk, walkFrom, metBytes, metCount}
+use Rattle.rules.specs.Steps.{rulesBy, answers, final}
+use Rattle.rules.specs.Walk.{walkFrom, metBytes, metCount}
 
 -- ---- the causes
 

@@ -4,11 +4,11 @@ use mathlib.Core.Path.{_≡_}
 use mathlib.Core.Bool.{Bool, true, cond, _&&_, _||_}
 use mathlib.Core.List.{List, [], _∷_}
 use Prim.Native.Nat.{ℕ, _+_, _*_}
-use lib.ListN.{length, getD}
+use lib.ListN.{length}
 use lib.Dec.{eqb, leb, ltb}
 use Rattle.rules.specs.Sizes.{blockCount, threadCount, registerCount, wordCount, operandCount, tableSize}
 use Rattle.rules.specs.Bytes.{allFrom, firstBad}
-use Rattle.rules.specs.Image.{labels, recordAt, opcode, blockField, entry, operator, labelA, labelB, operands, kind, value, Row, rowAt}
+use Rattle.rules.specs.Image.{labels, recordAt, opcode, blockField, entry, operator, labelA, labelB, operands, kind, value, rowAt}
 use Rattle.rules.specs.Statements.{statementOf, roleA, roleB}
 use Rattle.rules.specs.declared.statement.Role.{Role}
 use Rattle.rules.specs.declared.statement.Role.the-variants.{Unused, Inner, Direct, Local, Buffered}

@@ -15,10 +15,8 @@ use Rattle.rules.specs.declared.statement.Operator.{Operator}
 use Rattle.rules.specs.declared.statement.Operator.the-variants.{Add, Subtract, Multiply}
 use Rattle.rules.specs.declared.statement.Value.{Value}
 use Rattle.rules.specs.declared.statement.Value.the-variants.{Copy, Join}
-use Rattle.rules.specs.declared.statement.Assignment.{Assignment}
 use Rattle.rules.specs.declared.statement.Relation.{Relation}
 use Rattle.rules.specs.declared.statement.Relation.the-variants.{Equal, Less}
-use Rattle.rules.specs.declared.statement.Condition.{Condition}
 use Rattle.rules.specs.declared.statement.Statement.{Statement}
 use Rattle.rules.specs.declared.statement.Statement.the-variants.{Skip, Assign, If, SendDirect, SendBuffered, Call, Return, Transfer, Exit}
 

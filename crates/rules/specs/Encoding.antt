@@ -1,9 +1,9 @@
 -- "The state: 7,929 bytes": the bytes of a machine, and the machine that bytes say. Unused bytes are zero by construction.
-use mathlib.Core.Bool.{Bool, cond}
+use mathlib.Core.Bool.{cond}
 use mathlib.Core.Option.{Option, none, some}
 use mathlib.Core.List.{List, [], _∷_, _++_, map}
 use Prim.Native.Nat.{ℕ, zero, suc, _+_, _*_}
-use lib.ListN.{length, getD, drop, replicate}
+use lib.ListN.{length, getD, drop}
 use lib.Dec.{eqb}
 use Rattle.rules.specs.Sizes.{threadCount, blockCount, wordCount, registerCount, returnCount, treeCount, pendingCount, wordsSize, threadSize, signalSize, treeSize, treesAt, idleLabel}
 use Rattle.rules.specs.Bytes.{num16, num32, le16, le32, has, blocks, pad, chunks}

@@ -2,12 +2,12 @@
 use mathlib.Core.Bool.{Bool, cond, _&&_, _||_}
 use mathlib.Core.Path.{_≡_}
 use mathlib.Core.Option.{Option, none, some}
-use mathlib.Core.List.{List, [], _∷_, _++_}
+use mathlib.Core.List.{List, _∷_}
 use Prim.Native.Nat.{ℕ, _+_, _*_, _-_, _/_, _<_}
-use lib.ListN.{length, getD, take, drop}
+use lib.ListN.{length, getD, drop}
 use lib.Dec.{eqb, leb, ltb}
 use Rattle.rules.specs.Sizes.{threadCount, registerCount, eventSize, eventCount, signalSize}
-use Rattle.rules.specs.Bytes.{num16, part, isZeros, chunks, blocks, allFrom}
+use Rattle.rules.specs.Bytes.{num16, part, isZeros, chunks}
 use Rattle.rules.specs.Image.{recordAt, entry}
 use Rattle.rules.specs.Machine.{Signal}
 use Rattle.rules.specs.Encoding.{signalBytes, signalFrom, noSignal}

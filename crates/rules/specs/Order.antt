@@ -1,11 +1,10 @@
 -- "The one-by-one reading": the second order of an event list, made from the events and their answers, and from nothing else.
-use mathlib.Core.Path.{_≡_}
 use mathlib.Core.List.{List, [], _∷_, _++_, flatten}
 use Prim.Native.Nat.{ℕ, zero, suc}
 use lib.ListN.{getD, set, replicate, take, drop}
 use Rattle.rules.specs.Sizes.{threadCount, eventSize, answerSize}
 use Rattle.rules.specs.Machine.{Machine}
-use Rattle.rules.specs.Events.{Event, arrive, step, cut, Valid}
+use Rattle.rules.specs.Events.{Event, arrive, step, cut}
 use Rattle.rules.specs.Answers.{Sort, out, now, join, close, sort, sortOfCode}
 use Rattle.rules.specs.Steps.{Rules, react}
 use Rattle.rules.specs.declared.answer.Answer.{Answer}

@@ -2,10 +2,10 @@
 -- the plan out is the only place that looks at other threads, and it looks at their lock sets alone.
 use mathlib.Core.Bool.{Bool, true, false, cond, not, _&&_, _||_}
 use mathlib.Core.Option.{Option, none, some}
-use mathlib.Core.List.{List, [], _∷_, _++_, map}
+use mathlib.Core.List.{List, [], _∷_, _++_}
 use Prim.Native.Nat.{ℕ, _^_}
 use lib.Bits.{bitOr}
-use lib.ListN.{length, getD, set}
+use lib.ListN.{length, set}
 use lib.Dec.{eqb, ltb}
 use Rattle.rules.specs.Sorts
 use Rattle.rules.specs.Sizes.{treeCount}
@@ -136,6 +136,33 @@ abbrev pub pendingOf : Option (List Signal) → List Signal
 pendingOf none = []
 pendingOf (some p) = p
 
+-- step, running thread: a buffered signal goes to the end of the job's own tree
+unfoldable pub planRunning : ℕ → ℕ → List Signal → Effect → Plan
+planRunning t b p (traps r) = finish t (Trapped r)
+planRunning t b p exits = finish t Exited
+planRunning t b p (moves j words g want) = move t (record { job = j; write = some (b, words); pending = p ++ added g; want = want; answer = Moved })
+
+-- cut: code 9; on an idle thread code 10, no change
+unfoldable pub planCut : ℕ → ThreadState → Plan
+planCut t idle = stay NothingToCut
+planCut t (running locks j) = finish t WasCut
+
+-- ---- what carrying a plan out needs of no rules
+
+-- some thread holds a lock
+unfoldable pub held : ℕ → List ThreadState → Bool
+held l [] = false
+held l (w ∷ ws) = has l (locksOf w) || held l ws
+
+-- the words of a block are stored
+abbrev pub written : Option (ℕ × List ℕ) → List ℕ → List ℕ
+written none words = words
+written (some p) words = keep (p .0) (p .1) words
+
+-- a tree goes to the list's end
+abbrev pub grown : Tree → Machine → Machine
+grown x s = record { words = s .words; threads = s .threads; trees = s .trees ++ x ∷ [] }
+
 module _ (R : Rules) where
   -- the thread of a signal's block, and a tree with this signal on it
   abbrev pub home : Signal → ℕ
@@ -154,21 +181,10 @@ module _ (R : Rules) where
   planIdle t (some []) = stay NoWork
   planIdle t (some (g ∷ p)) = move t (record { job = begin g; write = none; pending = p; want = some (R .block (g .label)); answer = Started })
 
-  -- step, running thread: a buffered signal goes to the end of the job's own tree
-  unfoldable pub planRunning : ℕ → ℕ → List Signal → Effect → Plan
-  planRunning t b p (traps r) = finish t (Trapped r)
-  planRunning t b p exits = finish t Exited
-  planRunning t b p (moves j words g want) = move t (record { job = j; write = some (b, words); pending = p ++ added g; want = want; answer = Moved })
-
   unfoldable pub planStep : ℕ → ThreadState → Option (List Signal) → List ℕ → Plan
   planStep t idle f words = planIdle t f
   planStep t (running locks j) f words =
       planRunning t (R .block (j .label)) (pendingOf f) (R .act t j (window (R .block (j .label)) words) (length (pendingOf f)))
-
-  -- cut: code 9; on an idle thread code 10, no change
-  unfoldable pub planCut : ℕ → ThreadState → Plan
-  planCut t idle = stay NothingToCut
-  planCut t (running locks j) = finish t WasCut
 
   unfoldable pub plan : Machine → Event → Plan
   plan s (arrive g) = planArrive g (s .trees)
@@ -176,10 +192,6 @@ module _ (R : Rules) where
   plan s (cut t) = planCut t (threadAt s t)
 
   -- ---- and its doing, in the machine
-
-  unfoldable pub held : ℕ → List ThreadState → Bool
-  held l [] = false
-  held l (w ∷ ws) = has l (locksOf w) || held l ws
 
   -- the lock of the wanted block, if a thread other than t holds it
   unfoldable pub blocked : ℕ → List ThreadState → Option ℕ → Option ℕ
@@ -191,20 +203,12 @@ module _ (R : Rules) where
   grant none locks = locks
   grant (some b) locks = bitOr locks (2 ^ R .lock b)
 
-  abbrev pub written : Option (ℕ × List ℕ) → List ℕ → List ℕ
-  written none words = words
-  written (some p) words = keep (p .0) (p .1) words
-
   abbrev pub applied : ℕ → Move → Machine → Machine
   applied t m s = record {
     words = written (m .write) (s .words);
     threads = set (s .threads) t (running (grant (m .want) (locksOf (threadAt s t))) (m .job));
     trees = put t (some (m .pending)) (s .trees);
   }
-
-  -- a tree goes to the list's end
-  abbrev pub grown : Tree → Machine → Machine
-  grown x s = record { words = s .words; threads = s .threads; trees = s .trees ++ x ∷ [] }
 
   -- an ended job's tree, if not empty, on the thread of its oldest signal's block
   abbrev pub requeued : Option (List Signal) → List Tree
@@ -236,7 +240,6 @@ module _ (R : Rules) where
 
   -- ---- a list of events
 
-  -- an event and its answer
   unfoldable pub answers : Machine → List Event → List Answer
   answers s [] = []
   answers s (e ∷ l) = react s e .answer ∷ answers (react s e .state) l

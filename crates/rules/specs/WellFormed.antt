@@ -1,14 +1,14 @@
 -- "Well formed": which state bytes a call accepts. The sentences of document 01 in their order.
 use mathlib.Core.Bool.{Bool, true, false, cond, _&&_, _||_}
-use mathlib.Core.List.{List, [], _∷_, map}
+use mathlib.Core.List.{List, [], _∷_}
 use Prim.Native.Nat.{ℕ, _+_, _*_, _-_, _^_}
 use lib.Bits.{bitAnd}
-use lib.ListN.{length, getD, drop}
+use lib.ListN.{getD, drop}
 use lib.Dec.{eqb, leb, ltb}
 use Rattle.rules.specs.Sizes.{threadCount, registerCount, returnCount, treeCount, pendingCount, wordsSize, threadSize, signalSize, treeSize, treesAt, idleLabel}
 use Rattle.rules.specs.Bytes.{num16, num32, part, isZeros, has, allFrom, every}
 use Rattle.rules.specs.Image.{labels, recordAt, entry, Row, rowAt}
-use Rattle.rules.specs.Machine.{Signal, Tree, Job, ThreadState, idle, running, Machine, locksOf, queue}
+use Rattle.rules.specs.Machine.{Signal, Tree, ThreadState, idle, running, Machine, locksOf, queue}
 use Rattle.rules.specs.Encoding.{machineFrom}
 use Rattle.rules.specs.Steps.{blockAt}
 

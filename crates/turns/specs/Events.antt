@@ -23,7 +23,7 @@ reply s a = record { state = s; answer = a }
 module _ (R : Rules) (s : Machine) where
   -- ---- arrival
 
-  pub arrives : (g : Signal) → R .room (treeThreads (s .trees)) (home R g) ≡ true → react R s (arrive g) ≡ reply (grown R (founded R g) s) Taken
+  pub arrives : (g : Signal) → R .room (treeThreads (s .trees)) (home R g) ≡ true → react R s (arrive g) ≡ reply (grown (founded R g) s) Taken
   unfolding react plan planArrive carry
   arrives g e = rw e refl
 
@@ -55,13 +55,13 @@ module _ (R : Rules) (s : Machine) where
       start : Move
       start = record { job = begin g; write = none; pending = p; want = some (R .block (g .label)); answer = Started }
 
-      starts : react R s (step t) ≡ attempt R t start s (cond (held R lock (set (s .threads) t idle)) (some lock) none)
+      starts : react R s (step t) ≡ attempt R t start s (cond (held lock (set (s .threads) t idle)) (some lock) none)
       unfolding react plan planStep planIdle carry start blocked
       starts = rw (rests, tree) refl
 
-      pub start-waits : held R lock (set (s .threads) t idle) ≡ true → react R s (step t) ≡ reply s (Waiting (Sorts.lock lock))
+      pub start-waits : held lock (set (s .threads) t idle) ≡ true → react R s (step t) ≡ reply s (Waiting (Sorts.lock lock))
       start-waits h = starts ∙ unfold attempt in rw h refl
 
-      pub start-runs : held R lock (set (s .threads) t idle) ≡ false
+      pub start-runs : held lock (set (s .threads) t idle) ≡ false
           → react R s (step t) ≡ reply (record { words = s .words; threads = set (s .threads) t (running (bitOr 0 (2 ^ lock)) (begin g)); trees = put t (some p) (s .trees) }) Started
       start-runs h = starts ∙ unfold attempt start in rw (h, rests) refl

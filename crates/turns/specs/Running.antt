@@ -22,7 +22,7 @@ module _ (R : Rules) (s : Machine) (t l : ℕ) (j : Job) (p : List Signal) (runs
   abbrev pub effect : Effect
   effect = R .act t j (window block (s .words)) (length p)
 
-  by-effect : (e : Effect) → effect ≡ e → react R s (step t) ≡ carry R s (planRunning R t block p e)
+  by-effect : (e : Effect) → effect ≡ e → react R s (step t) ≡ carry R s (planRunning t block p e)
   unfolding react plan planStep
   by-effect e h = rw (runs, tree, h) refl
 
@@ -46,10 +46,10 @@ module _ (R : Rules) (s : Machine) (t l : ℕ) (j : Job) (p : List Signal) (runs
       ∙ rw (keep-window block (s .words), append-nil p, put-same t p (s .trees) tree) refl
 
   module _ (k : Job) (c : ℕ) (h : effect ≡ moves k (window block (s .words)) none (some c)) where
-    pub waits-for : held R (R .lock c) (set (s .threads) t idle) ≡ true → react R s (step t) ≡ reply s (Waiting (Sorts.lock (R .lock c)))
+    pub waits-for : held (R .lock c) (set (s .threads) t idle) ≡ true → react R s (step t) ≡ reply s (Waiting (Sorts.lock (R .lock c)))
     waits-for e = by-effect (moves k (window block (s .words)) none (some c)) h ∙ unfold carry planRunning blocked attempt in rw e refl
 
-    pub enters : held R (R .lock c) (set (s .threads) t idle) ≡ false → react R s (step t) ≡ reply (withThread s t (running (bitOr l (2 ^ R .lock c)) k)) Moved
+    pub enters : held (R .lock c) (set (s .threads) t idle) ≡ false → react R s (step t) ≡ reply (withThread s t (running (bitOr l (2 ^ R .lock c)) k)) Moved
     enters e =
         by-effect (moves k (window block (s .words)) none (some c)) h
         ∙ unfold carry planRunning blocked attempt in rw (e, runs, keep-window block (s .words), append-nil p, put-same t p (s .trees) tree) refl

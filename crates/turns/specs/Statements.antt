@@ -107,10 +107,10 @@ module _ (image table : List ℕ) (s : Machine) (t l : ℕ) (j : Job) (p : List 
         sends : effect ≡ moves (jobAt (labelA r) (j .returns) (fill vs)) (window own (s .words)) none (some into)
         sends = unfold actBy outcome perform in rw (e, h, q) refl
 
-        pub send-waits : held R lock (set (s .threads) t idle) ≡ true → react R s (step t) ≡ reply s (Waiting (Sorts.lock lock))
+        pub send-waits : held lock (set (s .threads) t idle) ≡ true → react R s (step t) ≡ reply s (Waiting (Sorts.lock lock))
         send-waits w = waits-for R s t l j p runs tree _ into sends w
 
-        pub send-enters : held R lock (set (s .threads) t idle) ≡ false
+        pub send-enters : held lock (set (s .threads) t idle) ≡ false
             → react R s (step t) ≡ reply (withThread s t (running (bitOr l (2 ^ lock)) (jobAt (labelA r) (j .returns) (fill vs)))) Moved
         send-enters w = enters R s t l j p runs tree _ into sends w
 
@@ -145,10 +145,10 @@ module _ (image table : List ℕ) (s : Machine) (t l : ℕ) (j : Job) (p : List 
           calls : effect ≡ moves (jobAt (labelA r) (j .returns ++ labelB r ∷ []) (fill vs)) (window own (s .words)) none (some into)
           calls = unfold actBy outcome perform in rw (e, h, d, q) refl
 
-          pub call-waits : held R lock (set (s .threads) t idle) ≡ true → react R s (step t) ≡ reply s (Waiting (Sorts.lock lock))
+          pub call-waits : held lock (set (s .threads) t idle) ≡ true → react R s (step t) ≡ reply s (Waiting (Sorts.lock lock))
           call-waits w = waits-for R s t l j p runs tree _ into calls w
 
-          pub call-enters : held R lock (set (s .threads) t idle) ≡ false
+          pub call-enters : held lock (set (s .threads) t idle) ≡ false
               → react R s (step t) ≡ reply (withThread s t (running (bitOr l (2 ^ lock)) (jobAt (labelA r) (j .returns ++ labelB r ∷ []) (fill vs)))) Moved
           call-enters w = enters R s t l j p runs tree _ into calls w
 

@@ -29,7 +29,7 @@ module _ (R : Rules) where
   Turned s t Taken = ⊥
   Turned s t ListFull = ⊥
   Turned s t NoWork = (threadAt s t ≡ idle) × ((p : List Signal) → first t (s .trees) ≡ some p → p ≡ [])
-  Turned s t (Waiting l) = held R (l .0) (set (s .threads) t idle) ≡ true
+  Turned s t (Waiting l) = held (l .0) (set (s .threads) t idle) ≡ true
   Turned s t Started = Unit {0}
   Turned s t Moved = Unit {0}
   Turned s t Exited = Unit {0}
@@ -37,7 +37,7 @@ module _ (R : Rules) where
   Turned s t WasCut = ⊥
   Turned s t NothingToCut = ⊥
 
-  turned-blocked : (s : Machine) (t : ℕ) (m : Move) (b : ℕ) (h : Bool) → held R (R .lock b) (set (s .threads) t idle) ≡ h → Turned s t (m .answer)
+  turned-blocked : (s : Machine) (t : ℕ) (m : Move) (b : ℕ) (h : Bool) → held (R .lock b) (set (s .threads) t idle) ≡ h → Turned s t (m .answer)
       → Turned s t (attempt R t m s (cond h (some (R .lock b)) none) .answer)
   unfolding attempt
   turned-blocked s t m b true e k = e
@@ -54,7 +54,7 @@ module _ (R : Rules) where
   turned-idle s t (some []) i e = (i, λ p h. cc)
   turned-idle s t (some (g ∷ q)) i e = turned-move s t _ _ tt
 
-  turned-running : (s : Machine) (t b : ℕ) (p : List Signal) (e : Effect) → Turned s t (carry R s (planRunning R t b p e) .answer)
+  turned-running : (s : Machine) (t b : ℕ) (p : List Signal) (e : Effect) → Turned s t (carry R s (planRunning t b p e) .answer)
   unfolding carry planRunning
   turned-running s t b p (traps r) = tt
   turned-running s t b p exits = tt
@@ -80,7 +80,7 @@ module _ (R : Rules) where
   -- its holder, if a thread other than t has it
   abbrev pub heldBy : List ThreadState → ℕ → Option ℕ → Option ℕ
   heldBy ws t none = none
-  heldBy ws t (some l) = cond (held R l (set ws t idle)) (some (holder l ws)) none
+  heldBy ws t (some l) = cond (held l (set ws t idle)) (some (holder l ws)) none
 
   -- no plan of a turn says of itself that it waits
   abbrev Plain : ℕ → Plan → Type 0
@@ -95,7 +95,7 @@ module _ (R : Rules) where
   plain-idle t (some []) = refl
   plain-idle t (some (g ∷ p)) = (refl, refl)
 
-  plain-running : (t b : ℕ) (p : List Signal) (e : Effect) → Plain t (planRunning R t b p e)
+  plain-running : (t b : ℕ) (p : List Signal) (e : Effect) → Plain t (planRunning t b p e)
   unfolding planRunning
   plain-running t b p (traps r) = refl
   plain-running t b p exits = refl
@@ -120,7 +120,7 @@ module _ (R : Rules) where
 
       case : (w : Option ℕ) → Option·map (λ l. holder l (s .threads)) (asked (attempt R t m s (blocked R t (s .threads) w) .answer)) ≡ heldBy (s .threads) t (Option·map (R .lock) w)
       case none = rw (h .1) refl
-      case (some b) = free b (held R (R .lock b) (set (s .threads) t idle))
+      case (some b) = free b (held (R .lock b) (set (s .threads) t idle))
   carried s t (finish u a) h = rw h refl
 
   pub awaits-plan : (s : Machine) (t : ℕ) → awaits R s t ≡ heldBy (s .threads) t (wants R (plan R s (turn s t)))
@@ -157,18 +157,18 @@ holder-holds l (w ∷ ws) (suc k) h = case (has l (locksOf w)) refl (holder-hold
 
 module _ (R : Rules) where
   -- a lock that is held has a thread that holds it
-  held-some : (l : ℕ) (ws : List ThreadState) → held R l ws ≡ true → (k : ℕ) × (has l (locksOf (getD ws k idle)) ≡ true)
+  held-some : (l : ℕ) (ws : List ThreadState) → held l ws ≡ true → (k : ℕ) × (has l (locksOf (getD ws k idle)) ≡ true)
   unfolding held
   held-some l [] h = never (cc)
   held-some l (w ∷ ws) h = case (or-cases _ _ h) (held-some l ws)
     where
-      case : (has l (locksOf w) ≡ true) ⊎ (held R l ws ≡ true) → (held R l ws ≡ true → (k : ℕ) × (has l (locksOf (getD ws k idle)) ≡ true))
+      case : (has l (locksOf w) ≡ true) ⊎ (held l ws ≡ true) → (held l ws ≡ true → (k : ℕ) × (has l (locksOf (getD ws k idle)) ≡ true))
           → (k : ℕ) × (has l (locksOf (getD (w ∷ ws) k idle)) ≡ true)
       case (inl e) ih = (0, e)
       case (inr e) ih = (suc (ih e .0), ih e .1)
 
   -- held by a thread other than t
-  held-other : (l : ℕ) (ws : List ThreadState) (t : ℕ) → held R l (set ws t idle) ≡ true → (k : ℕ) × (k ≢ t) × (has l (locksOf (getD ws k idle)) ≡ true)
+  held-other : (l : ℕ) (ws : List ThreadState) (t : ℕ) → held l (set ws t idle) ≡ true → (k : ℕ) × (k ≢ t) × (has l (locksOf (getD ws k idle)) ≡ true)
   held-other l ws t h = case (held-some l (set ws t idle) h)
     where
       case : ((k : ℕ) × (has l (locksOf (getD (set ws t idle) k idle)) ≡ true)) → (k : ℕ) × (k ≢ t) × (has l (locksOf (getD ws k idle)) ≡ true)
@@ -184,13 +184,13 @@ module _ (R : Rules) where
     pub answer : react R s (turn s t) .answer ≡ Waiting (Sorts.lock lock)
     pub holds : has lock (locksOf (threadAt s u)) ≡ true
     pub inside : u < length (s .threads)
-    pub other : held R lock (set (s .threads) t idle) ≡ true
+    pub other : held lock (set (s .threads) t idle) ≡ true
 
   pub awaited : (s : Machine) (t u : ℕ) → awaits R s t ≡ some u → Awaited s t u
   unfolding awaits
   awaited s t u e = case (react R s (turn s t) .answer) refl (turned R s t) e
     where
-      from : (l : ℕ) → react R s (turn s t) .answer ≡ Waiting (Sorts.lock l) → held R l (set (s .threads) t idle) ≡ true → Option·map (λ k. holder k (s .threads)) (some l) ≡ some u → Awaited s t u
+      from : (l : ℕ) → react R s (turn s t) .answer ≡ Waiting (Sorts.lock l) → held l (set (s .threads) t idle) ≡ true → Option·map (λ k. holder k (s .threads)) (some l) ≡ some u → Awaited s t u
       from l a h q =
           let k = held-other l (s .threads) t h in
           let g : u ≡ holder l (s .threads) = cc in

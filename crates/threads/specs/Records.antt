@@ -1,0 +1,169 @@
+-- The 75 bytes of a thread's state: written they are those of the thread that it says, and read they say the thread that they are of.
+use mathlib.Core.Path.{_≡_, refl, sym, ap, _∙_}
+use mathlib.Core.Bool.{Bool, true, false, cond}
+use mathlib.Core.List.{List, [], _∷_, _++_, map}
+use Prim.Native.Nat.{ℕ, zero, suc, _+_, _*_, _-_, _≤_, _<_}
+use native.Mathlib.Nat.{add-zero}
+use native.Mathlib.Omega.{arith}
+use lib.Dec.{eqb}
+use lib.ListN.{length, getD, take, drop, replicate, length-append, length-drop, length-replicate, getD-replicate, take-append-drop}
+use lib.Seq.{drop-drop, ext-getD, getD-drop, getD-take, length-take-le, take-all}
+use borrow.Author.Tests.{eqb-true, eqb-false}
+use Rattle.rules.specs.Sorts.{label}
+use Rattle.rules.specs.Sizes.{returnCount, registerCount, threadSize, idleLabel}
+use Rattle.rules.specs.Bytes.{num16, num32, part, isZeros, pad, chunks}
+use Rattle.rules.specs.Machine as law
+use Rattle.rules.specs.Machine.{idle, running}
+use Rattle.rules.specs.Encoding.{valueOr0, presence, threadRaw, threadBytes, threadFrom, jobFrom}
+use Rattle.rules.specs.WellFormed.{absentZero, runningTidy, threadTidy}
+use Rattle.fields.specs.Blocks.{pad-full, pad-split}
+use Rattle.encoding.specs.Sized.{SizedThread}
+use Rattle.encoding.specs.Lengths.{length-thread}
+use Rattle.encoding.specs.Tests.{zeros-part}
+use Rattle.encoding.specs.Runs.{length-chunks, chunks-at}
+use Rattle.encoding.specs.Registers.{presence-forth, values-forth}
+use Rattle.encoding.specs.Threads.{RunningRead, running-read, thread-back, thread-tidy}
+use Rattle.threads.specs.Returns.{TidyReturns}
+use Rattle.threads.specs.Registers.{none-registers, none-tidy}
+use Rattle.threads.specs.Threads.{stateOf, jobOf, registersOf, Tidy, Says}
+use Rattle.threads.specs.declared.thread.ThreadState.{ThreadState}
+
+-- the bytes of the fields
+unfoldable pub rawBytes : ThreadState → List ℕ
+rawBytes w = threadRaw (w .label .0) (w .locks) (w .depth) (w .returns) (w .present) (w .registers)
+
+-- the fields that bytes say
+unfoldable pub rawThread : List ℕ → ThreadState
+rawThread b = record {
+  label = label (num16 b);
+  locks = num16 (drop 2 b);
+  depth = getD (drop 4 b) 0 0;
+  returns = chunks num16 2 returnCount (drop 5 b);
+  present = num32 (drop 21 b);
+  registers = chunks num16 2 registerCount (drop 25 b);
+}
+
+-- ---- written
+
+-- what is in use, filled up with zeros, is the whole
+padded : (n k : ℕ) (l : List ℕ) → length l ≡ n → k ≤ n → drop k l ≡ replicate (n - k) 0 → pad 0 n (take k l) ≡ pad 0 n l
+padded n k l e h z =
+    let t : length (take k l) ≡ k = length-take-le k l (omega arith) in
+    pad-split 0 n (take k l) (omega arith) ∙ rw (t, ← z) (take-append-drop k l) ∙ sym (pad-full 0 n l e)
+
+module _ (w : ThreadState) (z : Tidy w) where
+  present-is : presence (registersOf w) ≡ w .present
+  present-is = presence-forth (w .present) (w .registers) 0 registerCount (omega (arith, z .registers .within)) ∙ omega arith
+
+  values-are : map valueOr0 (registersOf w) ≡ w .registers
+  values-are =
+      values-forth (w .present) (w .registers) 0 registerCount (omega (arith, z .registers .sized)) (λ i l h. z .registers .absent i (omega arith))
+      ∙ take-all registerCount (w .registers) (omega (arith, z .registers .sized))
+
+  running-bytes : threadBytes (running (w .locks) (jobOf w)) ≡ rawBytes w
+  unfolding threadBytes rawBytes threadRaw
+  running-bytes =
+      let r = z .returns in
+      rw (length-take-le (w .depth) (w .returns) (omega (arith, r .sized, r .within)), padded returnCount (w .depth) (w .returns) (r .sized) (r .within) (r .unused), present-is, values-are)
+
+  idle-bytes : w .label .0 ≡ idleLabel → threadBytes idle ≡ rawBytes w
+  unfolding threadBytes rawBytes threadRaw pad
+  idle-bytes e =
+      let n = z .nothing e in
+      let r : pad 0 returnCount (w .returns) ≡ pad 0 returnCount [] = sym (padded returnCount (w .depth) (w .returns) (z .returns .sized) (z .returns .within) (z .returns .unused)) ∙ rw (n .1) in
+      let v : w .registers ≡ replicate registerCount 0 = sym values-are ∙ rw (n .2, none-registers (w .registers) 0 registerCount) in
+      let g : pad 0 registerCount (w .registers) ≡ pad 0 registerCount [] = rw v in
+      rw (e, n .0, n .1, n .2, r, g)
+
+  pub bytes-are : threadBytes (stateOf w) ≡ rawBytes w
+  unfolding stateOf
+  bytes-are = go (eqb (w .label .0) idleLabel) refl
+    where
+      go : (b : Bool) → eqb (w .label .0) idleLabel ≡ b → threadBytes (cond b idle (running (w .locks) (jobOf w))) ≡ rawBytes w
+      go true e = idle-bytes (eqb-true (w .label .0) idleLabel e)
+      go false e = running-bytes
+
+-- ---- read
+
+-- a run of zeros reads as zero
+module _ (l : List ℕ) (k m : ℕ) (z : part l k m ≡ replicate m 0) where
+  zero-byte : (i : ℕ) → k ≤ i → i < k + m → getD l i 0 ≡ 0
+  unfolding part
+  zero-byte i h h′ =
+      let e : k + (i - k) ≡ i = omega arith in
+      let f : getD (part l k m) (i - k) 0 ≡ 0 = rw z (getD-replicate m (i - k) 0 0 (omega arith)) in
+      rw (getD-take m (drop k l) (i - k) 0 (omega arith), getD-drop k l (i - k) 0, e) at f
+
+  zero-num : (i : ℕ) → k ≤ i → i + 1 < k + m → num16 (drop i l) ≡ 0
+  unfolding num16
+  zero-num i h h′ = rw (getD-drop i l 0 0, getD-drop i l 1 0, add-zero) (omega (arith, zero-byte i h (omega arith), zero-byte (i + 1) (omega arith) h′))
+
+module _ (b : List ℕ) where
+  -- the numbers at the places of return labels that are not in use are zero
+  returns-read : (n : ℕ) → n ≤ returnCount → ((j : ℕ) → n ≤ j → j < returnCount → num16 (drop (2 * j) (drop 5 b)) ≡ 0) → TidyReturns n (chunks num16 2 returnCount (drop 5 b))
+  returns-read n h z =
+      let l = chunks num16 2 returnCount (drop 5 b) in
+      let s : length l ≡ returnCount = length-chunks num16 2 returnCount (drop 5 b) in
+      let d : length (drop n l) ≡ returnCount - n = length-drop n l ∙ rw s in
+      record {
+        sized = s;
+        within = h;
+        unused = ext-getD 0 (drop n l) (replicate (returnCount - n) 0) (d ∙ sym (length-replicate (returnCount - n) 0)) (λ i hi.
+            let hi′ : i < returnCount - n = rw d at hi in
+            getD-drop n l i 0 ∙ chunks-at num16 2 returnCount (drop 5 b) 0 (n + i) (omega arith) ∙ z (n + i) (omega arith) (omega arith) ∙ sym (getD-replicate (returnCount - n) i 0 0 hi′));
+      }
+
+  running-tidy : (num16 b ≡ idleLabel → ⊥) → RunningRead b → Tidy (rawThread b)
+  unfolding rawThread absentZero
+  running-tidy e o =
+      record {
+        returns = rw (getD-drop 4 b 0 0) (returns-read (getD b 4 0) (o .few) (λ j h h′. zero-num (drop 5 b) (2 * getD b 4 0) (2 * (returnCount - getD b 4 0)) (o .zeros) (2 * j) (omega arith) (omega arith)));
+        registers = record {
+          sized = length-chunks num16 2 registerCount (drop 25 b);
+          within = o .present;
+          absent = λ r h. rw (chunks-at num16 2 registerCount (drop 25 b) 0 r h, drop-drop) (o .absent r h);
+        };
+        nothing = λ q. absurd (e q);
+      }
+
+  idle-tidy : part b 2 (threadSize - 2) ≡ replicate (threadSize - 2) 0 → Tidy (rawThread b)
+  unfolding rawThread num32
+  idle-tidy z =
+      let d : getD (drop 4 b) 0 0 ≡ 0 = getD-drop 4 b 0 0 ∙ zero-byte b 2 73 z 4 (omega arith) (omega arith) in
+      let p : num32 (drop 21 b) ≡ 0 = omega (arith, zero-num b 2 73 z 21 (omega arith) (omega arith), zero-num b 2 73 z 23 (omega arith) (omega arith), ap num16 (drop-drop 2 21 b)) in
+      record {
+        returns = rw d (returns-read 0 (omega arith) (λ j h h′. rw drop-drop (zero-num b 2 73 z (5 + 2 * j) (omega arith) (omega arith))));
+        registers = rw p (none-tidy _ (length-chunks num16 2 registerCount (drop 25 b)) (λ r h. rw (chunks-at num16 2 registerCount (drop 25 b) 0 r h, drop-drop) (zero-num b 2 73 z (25 + 2 * r) (omega arith) (omega arith))));
+        nothing = λ q. (zero-num b 2 73 z 2 (omega arith) (omega arith), d, p);
+      }
+
+take-chunks : {A : Type 0} (g : List ℕ → A) (n k m : ℕ) (s : List ℕ) → k ≤ m → take k (chunks g n m s) ≡ chunks g n k s
+unfolding chunks
+take-chunks g n zero m s h = refl
+take-chunks g n (suc k) zero s h = absurd (omega arith)
+take-chunks g n (suc k) (suc m) s h = ap (λ l. g s ∷ l) (take-chunks g n k m (drop n s) (omega arith))
+
+pub bytes-say : (b : List ℕ) → threadSize ≤ length b → threadTidy b ≡ true → Says (rawThread b) (threadFrom b)
+unfolding threadTidy
+bytes-say b l e = go (eqb (num16 b) idleLabel) refl e
+  where
+    job-is : RunningRead b → jobOf (rawThread b) ≡ jobFrom b
+    job-is o = unfold rawThread jobFrom in
+        let h : getD (drop 4 b) 0 0 ≤ returnCount = omega (arith, getD-drop 4 b 0 0, o .few) in
+        rw (take-chunks num16 2 (getD (drop 4 b) 0 0) returnCount (drop 5 b) h)
+
+    state-is : (c : Bool) → eqb (num16 b) idleLabel ≡ c → stateOf (rawThread b) ≡ cond c idle (running (num16 (drop 2 b)) (jobOf (rawThread b)))
+    state-is c p = unfold stateOf rawThread in rw p
+
+    from-is : (c : Bool) → eqb (num16 b) idleLabel ≡ c → threadFrom b ≡ cond c idle (running (num16 (drop 2 b)) (jobFrom b))
+    from-is c p = unfold threadFrom in rw p
+
+    go : (c : Bool) → eqb (num16 b) idleLabel ≡ c → cond c (isZeros (part b 2 73)) (runningTidy b) ≡ true → Says (rawThread b) (threadFrom b)
+    go true p t = record { state = state-is true p ∙ sym (from-is true p); tidy = idle-tidy b (zeros-part b 2 73 (omega arith) t) }
+    go false p t =
+        let o = running-read b l t in
+        record { state = state-is false p ∙ ap (running (num16 (drop 2 b))) (job-is o) ∙ sym (from-is false p); tidy = running-tidy b (eqb-false (num16 b) idleLabel p) o }
+
+-- the thread that bytes were written of
+pub bytes-of : (x : law.ThreadState) → SizedThread x → (q : List ℕ) → Says (rawThread (threadBytes x ++ q)) x
+bytes-of x z q = rw (thread-back x z q) at (bytes-say (threadBytes x ++ q) (simp length-append (omega (arith, length-thread x))) (thread-tidy x z q))
