@@ -1,0 +1,1 @@
+// Demand 3, whole: the one-by-one reading of a list of calls. Theorems only, in specs/.

@@ -1,0 +1,40 @@
+-- Which bits of a byte are zero.
+use mathlib.Core.Path.{_≡_, refl, ap, _∙_}
+use mathlib.Core.Bool.{Bool, true, false, _&&_}
+use Prim.Native.Nat.{ℕ, _+_, _*_, _/_, _<_}
+use native.Mathlib.Nat.{mod-eq-of-lt}
+use native.Mathlib.Omega.{arith}
+use lib.Bits.{bitAnd, bitOr, or-add-and, and-le-l, and-le-r, and-zero-r, and-mask, and-high}
+use lib.Dec.{eqb, ltb}
+use borrow.Author.Tests.{eqb-true, eqb-false, eq-eqb, ne-eqb, ltb-true, ltb-false}
+
+pub or-zero : (a b : ℕ) → eqb (bitOr a b) 0 ≡ (eqb a 0 && eqb b 0)
+or-zero a b = go (eqb a 0) (eqb b 0) refl refl
+  where
+    go : (p q : Bool) → eqb a 0 ≡ p → eqb b 0 ≡ q → eqb (bitOr a b) 0 ≡ (p && q)
+    go true true e f = rw (eqb-true a 0 e, eqb-true b 0 f)
+    go true false e f = ne-eqb (bitOr a b) 0 (λ z. eqb-false b 0 f (omega (arith, or-add-and a b, and-le-l a b)))
+    go false q e f = ne-eqb (bitOr a b) 0 (λ z. eqb-false a 0 e (omega (arith, or-add-and a b, and-le-r a b)))
+
+-- 252 tests that a byte is below 4, 255 that it is 0
+pub below-four : (x : ℕ) → x < 256 → eqb (bitAnd x 252) 0 ≡ ltb x 4
+below-four x h = go (ltb x 4) refl (and-high x 6 2 ∙ ap (λ y. y * 4) (mod-eq-of-lt (omega arith)))
+  where
+    go : (t : Bool) → ltb x 4 ≡ t → bitAnd x 252 ≡ x / 4 * 4 → eqb (bitAnd x 252) 0 ≡ t
+    go true l e = eq-eqb (bitAnd x 252) 0 (omega (arith, ltb-true x 4 l))
+    go false l e = ne-eqb (bitAnd x 252) 0 (λ z. omega (arith, ltb-false x 4 l))
+
+pub all-bits : (x : ℕ) → x < 256 → eqb (bitAnd x 255) 0 ≡ eqb x 0
+all-bits x h = ap (λ y. eqb y 0) (and-mask x 8 ∙ mod-eq-of-lt h)
+
+pub no-bits : (x : ℕ) → eqb (bitAnd x 0) 0 ≡ true
+no-bits x = rw and-zero-r
+
+-- a 16-bit number is zero where both its bytes are
+pub sum-zero : (a b : ℕ) → eqb (a + 256 * b) 0 ≡ (eqb a 0 && eqb b 0)
+sum-zero a b = go (eqb a 0) (eqb b 0) refl refl
+  where
+    go : (p q : Bool) → eqb a 0 ≡ p → eqb b 0 ≡ q → eqb (a + 256 * b) 0 ≡ (p && q)
+    go true true e f = rw (eqb-true a 0 e, eqb-true b 0 f)
+    go true false e f = ne-eqb (a + 256 * b) 0 (λ z. eqb-false b 0 f (omega arith))
+    go false q e f = ne-eqb (a + 256 * b) 0 (λ z. eqb-false a 0 e (omega arith))

@@ -1,0 +1,134 @@
+-- The test of the places for operands is the test of bits over all their bytes, and the test of the values after it.
+use mathlib.Core.Path.{_≡_, refl, sym, ap, _∙_}
+use mathlib.Core.Bool.{Bool, true, false, cond, _&&_, and-true, and-assoc, or-false}
+use mathlib.Core.List.{List}
+use Prim.Native.Nat.{ℕ, zero, suc, _+_, _*_, _%_, _≤_, _<_, _-_}
+use native.Mathlib.Omega.{arith}
+use lib.Dec.{eqb, ltb}
+use lib.ListN.{getD}
+use lib.Seq.{getD-drop}
+use borrow.Author.Tests.{ltb-true, ltb-false, eqb-true, ne-eqb, lt-ltb, le-ltb}
+use Rattle.rules.specs.Bytes.{num16, allFrom}
+use Rattle.rules.specs.Image.{operands, kind, value}
+use Rattle.rules.specs.Check.{operandOk, slotOk}
+use Rattle.image.specs.Runs.{all-at, all-holds, all-same, all-both, all-split, all-threes}
+use Rattle.image.specs.Operands.{limitsOf, markOf, Marks, bitsOk, placeOk, valueOk}
+use Rattle.image.proofs.Bits.{below-four, all-bits, no-bits, sum-zero}
+
+twice : (a b c : Bool) → (a && b && (b && c)) ≡ (a && (b && c))
+twice true true c = refl
+twice true false c = refl
+twice false b c = refl
+
+-- two runs of 64 and 16 bytes that overlap by 5 are a run of 75
+pub overlap : (f : ℕ → Bool) → (allFrom f 0 64 && allFrom f 59 16) ≡ allFrom f 0 75
+overlap f =
+    let first : allFrom f 0 64 ≡ (allFrom f 0 59 && allFrom f 59 5) = all-split f 0 59 5 in
+    let second : allFrom f 59 16 ≡ (allFrom f 59 5 && allFrom f 64 11) = all-split f 59 5 11 in
+    let whole : allFrom f 0 75 ≡ (allFrom f 0 59 && allFrom f 59 16) = all-split f 0 59 16 in
+    rw (whole, first, second) (twice (allFrom f 0 59) (allFrom f 59 5) (allFrom f 64 11))
+
+-- what is b below c and d from c on
+by-test : (k c : ℕ) (a b d : Bool) → (k < c → a ≡ b) → (c ≤ k → a ≡ d) → a ≡ cond (ltb k c) b d
+by-test k c a b d f g = go (ltb k c) refl
+  where
+    go : (t : Bool) → ltb k c ≡ t → a ≡ cond t b d
+    go true e = f (ltb-true k c e)
+    go false e = g (ltb-false k c e)
+
+-- ---- the marks
+
+mark-kind : (x : ℕ) → x < 25 → markOf (3 * x) ≡ 252
+mark-kind x h =
+    let e : 3 * x % 3 ≡ 0 = omega arith in
+    rw (lt-ltb (3 * x) 75 (omega arith), e)
+
+mark-value : (x d : ℕ) → x < 25 → 0 < d → d < 3 → markOf (3 * x + d) ≡ 0
+mark-value x d h p q =
+    let e : (3 * x + d) % 3 ≡ d = omega arith in
+    rw (lt-ltb (3 * x + d) 75 (omega arith), e, ne-eqb d 0 (λ z. omega arith))
+
+mark-rest : (j : ℕ) → 75 ≤ j → markOf j ≡ 255
+mark-rest j h = rw (le-ltb j 75 h)
+
+module _ (m : List ℕ) (marks : Marks m) where
+  mark-at : (j : ℕ) → j < 150 → getD m j 0 ≡ markOf j
+  unfolding Marks
+  mark-at j h = eqb-true (getD m j 0) (markOf j) (all-at (λ j. eqb (getD m j 0) (markOf j)) 0 150 j marks (omega arith) (omega arith))
+
+  module _ (r : List ℕ) (bytes : (i : ℕ) → getD r i 0 < 256) (c : ℕ) (most : c ≤ 25) where
+    used : (k : ℕ) → k < c → (bitsOk m r c (3 * k) && bitsOk m r c (3 * k + 1) && bitsOk m r c (3 * k + 2)) ≡ ltb (kind r k) 4
+    unfolding bitsOk
+    used k h =
+        let x : ℕ = 25 - c + k in
+        let at₀ : 75 - 3 * c + 3 * k ≡ 3 * x = omega arith in
+        let at₁ : 75 - 3 * c + (3 * k + 1) ≡ 3 * x + 1 = omega arith in
+        let at₂ : 75 - 3 * c + (3 * k + 2) ≡ 3 * x + 2 = omega arith in
+        rw (at₀, at₁, at₂, mark-at (3 * x) (omega arith), mark-at (3 * x + 1) (omega arith), mark-at (3 * x + 2) (omega arith), mark-kind x (omega arith), mark-value x 1 (omega arith) (omega arith) (omega arith), mark-value x 2 (omega arith) (omega arith) (omega arith), no-bits, no-bits, and-true, and-true)
+        (below-four (kind r k) (bytes (9 + 3 * k)))
+
+    unused : (k : ℕ) → k < 25 → c ≤ k → (bitsOk m r c (3 * k) && bitsOk m r c (3 * k + 1) && bitsOk m r c (3 * k + 2)) ≡ (eqb (kind r k) 0 && eqb (value r k) 0)
+    unfolding bitsOk num16
+    unused k l h =
+        let low : 9 + (3 * k + 1) ≡ 10 + 3 * k + 0 = omega arith in
+        let high : 9 + (3 * k + 2) ≡ 10 + 3 * k + 1 = omega arith in
+        let rest : (i : ℕ) → i < 75 → 3 * c ≤ i → getD m (75 - 3 * c + i) 0 ≡ 255 = λ i p q. mark-at (75 - 3 * c + i) (omega arith) ∙ mark-rest (75 - 3 * c + i) (omega arith) in
+        rw (rest (3 * k) (omega arith) (omega arith), rest (3 * k + 1) (omega arith) (omega arith), rest (3 * k + 2) (omega arith) (omega arith), all-bits (kind r k) (bytes (9 + 3 * k)), all-bits (getD r (9 + (3 * k + 1)) 0) (bytes (9 + (3 * k + 1))), all-bits (getD r (9 + (3 * k + 2)) 0) (bytes (9 + (3 * k + 2))), low, high, getD-drop, getD-drop, sum-zero, and-assoc)
+
+    place : (k : ℕ) → k < 25 → (bitsOk m r c (3 * k) && bitsOk m r c (3 * k + 1) && bitsOk m r c (3 * k + 2)) ≡ placeOk r c k
+    unfolding placeOk
+    place k l = by-test k c _ _ _ (used k) (unused k l)
+
+    pub places : allFrom (bitsOk m r c) 0 75 ≡ allFrom (placeOk r c) 0 25
+    places = all-threes (bitsOk m r c) 0 25 ∙ all-same (λ k. bitsOk m r c (3 * k) && bitsOk m r c (3 * k + 1) && bitsOk m r c (3 * k + 2)) (placeOk r c) 0 25 (λ k p q. place k (omega arith))
+
+-- ---- the values
+
+-- an operand's kind is below 4
+kind-small : (k v : ℕ) → operandOk k v ≡ (ltb k 4 && operandOk k v)
+kind-small k v = go (ltb k 4) refl
+  where
+    go : (t : Bool) → ltb k 4 ≡ t → operandOk k v ≡ (t && operandOk k v)
+    go true e = refl
+    go false e = simp (ne-eqb k 1 (λ z. omega (arith, ltb-false k 4 e)), ne-eqb k 2 (λ z. omega (arith, ltb-false k 4 e)), ne-eqb k 3 (λ z. omega (arith, ltb-false k 4 e)))
+
+-- a kind's values are those below its limit
+limit : (k v : ℕ) → k < 4 → v < 65536 → operandOk k v ≡ ltb v (getD limitsOf k 0)
+limit zero v h l = sym (le-ltb v 0 (omega arith))
+limit (suc zero) v h l = sym (lt-ltb v 65536 l)
+limit (suc (suc zero)) v h l = or-false (ltb v 25)
+limit (suc (suc (suc zero))) v h l = refl
+limit (suc (suc (suc (suc k)))) v h l = absurd (omega arith)
+
+pub value-limit : (r ls : List ℕ) (k kd v : ℕ) → kd ≡ kind r k → v ≡ value r k → ls ≡ limitsOf → kd < 4 → v < 65536 → valueOk r k ≡ ltb v (getD ls kd 0)
+unfolding valueOk
+value-limit r ls k kd v e f g h l = rw (← e, ← f, g) (limit kd v h l)
+
+module _ (r : List ℕ) (c : ℕ) (most : c ≤ 25) where
+  pub kind-below : allFrom (placeOk r c) 0 25 ≡ true → (k : ℕ) → k < c → kind r k < 4
+  unfolding placeOk
+  kind-below e k h = ltb-true (kind r k) 4 (sym (rw (lt-ltb k c h)) ∙ all-at (placeOk r c) 0 25 k e (omega arith) (omega arith))
+
+  abbrev value-used : ℕ → Bool
+  value-used k = cond (ltb k c) (valueOk r k) true
+
+  slot : (k : ℕ) → c ≡ operands r → slotOk r k ≡ (placeOk r c k && value-used k)
+  unfolding slotOk placeOk valueOk
+  slot k e = rw (← e) (go (ltb k c))
+    where
+      go : (t : Bool) → cond t (operandOk (kind r k) (value r k)) (eqb (kind r k) 0 && eqb (value r k) 0) ≡ (cond t (ltb (kind r k) 4) (eqb (kind r k) 0 && eqb (value r k) 0) && cond t (operandOk (kind r k) (value r k)) true)
+      go true = kind-small (kind r k) (value r k)
+      go false = sym (and-true _)
+
+  values-used : allFrom value-used 0 25 ≡ allFrom (valueOk r) 0 c
+  values-used =
+      let e : c + (25 - c) ≡ 25 = omega arith in
+      let first : allFrom value-used 0 c ≡ allFrom (valueOk r) 0 c = all-same value-used (valueOk r) 0 c (λ k p q. rw (lt-ltb k c (omega arith))) in
+      let rest : allFrom value-used (0 + c) (25 - c) ≡ true = all-holds value-used (0 + c) (25 - c) (λ k p q. rw (le-ltb k c (omega arith))) in
+      rw e at (all-split value-used 0 c (25 - c)) ∙ rw (first, rest, and-true)
+
+  pub slots : c ≡ operands r → allFrom (slotOk r) 0 25 ≡ (allFrom (placeOk r c) 0 25 && allFrom (valueOk r) 0 c)
+  slots e =
+      all-same (slotOk r) (λ k. placeOk r c k && value-used k) 0 25 (λ k p q. slot k e)
+      ∙ all-both (placeOk r c) value-used 0 25
+      ∙ ap (λ b. allFrom (placeOk r c) 0 25 && b) values-used

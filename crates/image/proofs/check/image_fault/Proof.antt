@@ -1,0 +1,45 @@
+use mathlib.Core.Path.{sym, _∙_}
+use Rattle.image.specs.Faults.{found, passed, last, table-length}
+use borrow.Author.Needs.{needs}
+use Rattle.image.proofs.check.image_fault.Statement.{statement}
+use Rattle.image.proofs.check.image_fault.Tie as tie
+
+returns : tie.Need-returns
+returns c = rw (← c .before .image-length-fault .ensures) (sym (found _ _ (c .if1 .taken)))
+
+returns-2 : tie.Need-returns-2
+returns-2 c =
+    let c1 = c .before .before in
+    rw (← c1 .before .image-length-fault .ensures, ← c .before .table-length-fault .ensures) (sym (passed _ _ (c1 .if1 .left) ∙ found _ _ (c .if2 .taken)))
+
+table-fault-requires : tie.Need-table-fault-requires
+table-fault-requires c κs = table-length _ (sym (c .before .table-length-fault .ensures) ∙ c .if2 .left)
+
+returns-3 : tie.Need-returns-3
+returns-3 c =
+    let c2 = c .before .before in
+    let c1 = c2 .before .before in
+    rw (← c1 .before .image-length-fault .ensures, ← c2 .before .table-length-fault .ensures, ← c .before .table-fault .ensures)
+    (sym (passed _ _ (c1 .if1 .left) ∙ passed _ _ (c2 .if2 .left) ∙ found _ _ (c .if3 .taken)))
+
+returns-4 : tie.Need-returns-4
+returns-4 c =
+    let c3 = c .before in
+    let c2 = c3 .before .before in
+    let c1 = c2 .before .before in
+    rw (← c1 .before .image-length-fault .ensures, ← c2 .before .table-length-fault .ensures, ← c3 .before .table-fault .ensures, ← c .record-fault .ensures)
+    (sym (passed _ _ (c1 .if1 .left) ∙ passed _ _ (c2 .if2 .left) ∙ passed _ _ (c3 .if3 .left) ∙ last _))
+
+pub image-fault-spec : {M : Type 1} → statement M
+image-fault-spec =
+    tie.close
+    (tie.spec
+    (λ c κs. search needs)
+    (λ c κs. search needs)
+    returns
+    (λ c κs. search needs)
+    returns-2
+    table-fault-requires
+    returns-3
+    (λ c κs. search needs)
+    returns-4)

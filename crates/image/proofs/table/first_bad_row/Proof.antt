@@ -1,0 +1,38 @@
+use Prim.Native.Nat.{_-_}
+use native.Mathlib.Omega.{arith}
+use Rattle.rules.specs.Check.{rowOk}
+use Rattle.fields.specs.Tests.{Searching, begin, next, here, none}
+use Rattle.image.proofs.table.first_bad_row.Statement.{statement}
+use Rattle.image.proofs.table.first_bad_row.Tie as tie
+
+abbrev Inv-loop : tie.InvT-loop
+Inv-loop table b₀ b = Searching (rowOk table) 16 b
+
+abbrev μ-loop : tie.MeasureT-loop
+μ-loop table b₀ b = 16 - b
+
+loop-holds : tie.Need-loop-holds Inv-loop μ-loop
+loop-holds c = begin _ 16
+
+returns : tie.Need-returns Inv-loop μ-loop
+returns c = here _ 16 _ (c .before .before .before .loop .inv) _ (c .before .before .loop-test .taken) (c .before .row-ok .ensures) (c .if1 .taken)
+
+loop-again : tie.Need-loop-again Inv-loop μ-loop
+loop-again c = next _ 16 _ (c .before .before .before .loop .inv) _ (c .before .before .loop-test .taken) (c .before .row-ok .ensures) (c .if1 .left)
+
+returns-2 : tie.Need-returns-2 Inv-loop μ-loop
+returns-2 c = none _ 16 _ (c .before .loop .inv) (c .loop-test .left)
+
+pub first-bad-row-spec : {M : Type 1} → statement M
+first-bad-row-spec =
+    tie.close
+    (tie.spec
+    Inv-loop
+    μ-loop
+    loop-holds
+    (λ c κs. omega arith)
+    returns
+    (λ c. omega arith)
+    (λ c. omega arith)
+    loop-again
+    returns-2)

@@ -1,0 +1,53 @@
+-- The laws of lists of refusals, and what holds of an image and a table that pass the check.
+use mathlib.Core.Path.{_≡_, refl, _∙_}
+use mathlib.Core.Bool.{Bool, true, false, cond}
+use mathlib.Core.List.{List, [], _∷_, _++_}
+use Prim.Native.Nat.{ℕ, zero, suc, _<_}
+use native.Mathlib.Omega.{arith}
+use lib.Dec.{eqb}
+use lib.ListN.{length}
+use borrow.Author.Tests.{eqb-true, eq-eqb, ne-eqb}
+use Rattle.rules.specs.Check.{refusal, firstOf, tableLengthFault, imageFaults, Checked}
+
+-- ---- the first refusal of a list
+
+-- it applies, or the rest decides
+pub found : (x : ℕ) (xs : List ℕ) → (x ≡ 0 → ⊥) → firstOf (x ∷ xs) ≡ x
+unfolding firstOf
+found x xs h = rw (ne-eqb x 0 h)
+
+pub passed : (x : ℕ) (xs : List ℕ) → x ≡ 0 → firstOf (x ∷ xs) ≡ firstOf xs
+unfolding firstOf
+passed x xs h = rw (eq-eqb x 0 h)
+
+pub last : (x : ℕ) → firstOf (x ∷ []) ≡ x
+unfolding firstOf
+last zero = refl
+last (suc x) = rw (ne-eqb (suc x) 0 (λ e. omega arith))
+
+-- a call's refusals after those of the image check
+pub then : (xs ys : List ℕ) → firstOf (xs ++ ys) ≡ cond (eqb (firstOf xs) 0) (firstOf ys) (firstOf xs)
+unfolding firstOf
+then [] ys = refl
+then (x ∷ xs) ys = go (eqb x 0) refl (then xs ys)
+  where
+    go : (t : Bool) → eqb x 0 ≡ t → firstOf (xs ++ ys) ≡ cond (eqb (firstOf xs) 0) (firstOf ys) (firstOf xs) → cond t (firstOf (xs ++ ys)) x ≡ cond (eqb (cond t (firstOf xs) x) 0) (firstOf ys) (cond t (firstOf xs) x)
+    go true e r = r
+    go false e r = rw e
+
+module _ (image table more : List ℕ) where
+  pub refused : (firstOf (imageFaults image table []) ≡ 0 → ⊥) → firstOf (imageFaults image table more) ≡ firstOf (imageFaults image table [])
+  refused h = then (imageFaults image table []) more ∙ rw (ne-eqb (firstOf (imageFaults image table [])) 0 h)
+
+  pub admitted : Checked image table → firstOf (imageFaults image table more) ≡ firstOf more
+  admitted h = then (imageFaults image table []) more ∙ rw (eq-eqb (firstOf (imageFaults image table [])) 0 h)
+
+-- ---- a refusal that does not apply
+
+pub refusal-none : (ok : Bool) (number place : ℕ) → 0 < number → refusal ok number place ≡ 0 → ok ≡ true
+refusal-none true number place h e = refl
+refusal-none false number place h e = absurd (omega arith)
+
+pub table-length : (table : List ℕ) → tableLengthFault table ≡ 0 → length table ≡ 32
+unfolding tableLengthFault
+table-length table e = eqb-true (length table) 32 (refusal-none (eqb (length table) 32) 2 0 (omega arith) e)

@@ -1,0 +1,6 @@
+-- The laws of the image's records and of refusals, and the order in which the check goes through a record.
+pub mod Records
+pub mod Runs
+pub mod Operands
+pub mod Forms
+pub mod Faults

@@ -1,0 +1,54 @@
+-- The laws of the image's records: how many there are, and the bytes of each.
+use mathlib.Core.Path.{_≡_, refl}
+use mathlib.Core.Bool.{Bool, true, false, cond, _&&_}
+use mathlib.Core.List.{List, [], _∷_}
+use Prim.Native.Nat.{ℕ, zero, suc, _+_, _*_, _/_, _≤_, _<_}
+use native.Mathlib.Omega.{arith}
+use lib.Dec.{leb, eqb}
+use lib.ListN.{length, getD, take, drop, length-drop}
+use lib.Seq.{length-take-le, getD-take, getD-drop}
+use borrow.Author.Tests.{leb-true, lt-ltb, le-ltb}
+use Rattle.rules.specs.Image.{labels, recordAt}
+
+-- a byte within a list is the same with any default
+pub getD-any : (xs : List ℕ) (i d e : ℕ) → i < length xs → getD xs i d ≡ getD xs i e
+getD-any [] i d e h = absurd (omega arith)
+getD-any (x ∷ xs) zero d e h = refl
+getD-any (x ∷ xs) (suc i) d e h = getD-any xs i d e (omega arith)
+
+-- a number, or 0, is at most what the number is at most
+cond-le : (t : Bool) (q m : ℕ) → q ≤ m → cond t q 0 ≤ m
+cond-le true q m h = h
+cond-le false q m h = omega arith
+
+pub labels-fit : (s : List ℕ) → 84 * labels s ≤ length s
+unfolding labels
+labels-fit s = omega (arith, cond-le (eqb (length s) (84 * (length s / 84)) && leb (length s / 84) 512) (length s / 84) (length s / 84) (omega arith))
+
+small : (a b : Bool) (q : ℕ) → (b ≡ true → q ≤ 512) → cond (a && b) q 0 ≤ 512
+small true true q h = h refl
+small true false q h = omega arith
+small false b q h = omega arith
+
+pub labels-small : (s : List ℕ) → labels s ≤ 512
+unfolding labels
+labels-small s = small (eqb (length s) (84 * (length s / 84))) (leb (length s / 84) 512) (length s / 84) (leb-true (length s / 84) 512)
+
+pub no-record : (s : List ℕ) (l : ℕ) → labels s ≤ l → recordAt s l ≡ []
+unfolding recordAt
+no-record s l h = rw (le-ltb l (labels s) h)
+
+-- the record at a label that the image has
+module _ (s : List ℕ) (l : ℕ) (h : l < labels s) where
+  pub record-fits : 84 * l + 84 ≤ length s
+  record-fits = omega (arith, labels-fit s)
+
+  pub record-part : recordAt s l ≡ take 84 (drop (84 * l) s)
+  unfolding recordAt
+  record-part = rw (lt-ltb l (labels s) h)
+
+  pub length-record : length (recordAt s l) ≡ 84
+  length-record = rw record-part (length-take-le 84 (drop (84 * l) s) (simp length-drop (omega (arith, record-fits))))
+
+  pub record-byte : (j d : ℕ) → j < 84 → getD (recordAt s l) j d ≡ getD s (84 * l + j) 0
+  record-byte j d k = rw (record-part, getD-take, getD-drop) (getD-any s (84 * l + j) d 0 (omega (arith, record-fits)))

@@ -1,0 +1,61 @@
+-- The laws of tests over runs of numbers.
+use mathlib.Core.Path.{_≡_, refl}
+use mathlib.Core.Logic.{⊎-elim}
+use mathlib.Core.Bool.{Bool, true, false, _&&_, and-assoc}
+use Prim.Native.Nat.{ℕ, zero, suc, _+_, _*_, _≤_, _<_}
+use native.Mathlib.Nat.{add-zero, zero-add, suc-add, eq-or-lt-of-le}
+use native.Mathlib.Omega.{arith}
+use Rattle.rules.specs.Bytes.{allFrom}
+
+left : (a b : Bool) → (a && b) ≡ true → a ≡ true
+left true b e = refl
+left false b e = e
+
+right : (a b : Bool) → (a && b) ≡ true → b ≡ true
+right true b e = e
+right false b e = absurd (let z : _≡_ {A = ℕ} 0 1 = cc in omega arith)
+
+exchange : (a b c d : Bool) → (a && b && (c && d)) ≡ (a && c && (b && d))
+exchange true true c d = refl
+exchange true false true d = refl
+exchange true false false d = refl
+exchange false b c d = refl
+
+-- a test that holds of a run holds of each number of it, and the other way round
+pub all-at : (f : ℕ → Bool) (i n k : ℕ) → allFrom f i n ≡ true → i ≤ k → k < i + n → f k ≡ true
+unfolding allFrom
+all-at f i zero k e h l = absurd (omega arith)
+all-at f i (suc n) k e h l =
+    ⊎-elim (λ p. rw (← p) (left (f i) _ e)) (λ q. all-at f (i + 1) n k (right (f i) _ e) (omega arith) (omega arith)) (eq-or-lt-of-le h)
+
+pub all-holds : (f : ℕ → Bool) (i n : ℕ) → ((k : ℕ) → i ≤ k → k < i + n → f k ≡ true) → allFrom f i n ≡ true
+unfolding allFrom
+all-holds f i zero h = refl
+all-holds f i (suc n) h = rw (h i (omega arith) (omega arith), all-holds f (i + 1) n (λ k p q. h k (omega arith) (omega arith)))
+
+-- two tests that agree on each number of a run agree on the run
+pub all-same : (f g : ℕ → Bool) (i n : ℕ) → ((k : ℕ) → i ≤ k → k < i + n → f k ≡ g k) → allFrom f i n ≡ allFrom g i n
+unfolding allFrom
+all-same f g i zero h = refl
+all-same f g i (suc n) h = rw (h i (omega arith) (omega arith), all-same f g (i + 1) n (λ k p q. h k (omega arith) (omega arith)))
+
+pub all-both : (f g : ℕ → Bool) (i n : ℕ) → allFrom (λ k. f k && g k) i n ≡ (allFrom f i n && allFrom g i n)
+unfolding allFrom
+all-both f g i zero = refl
+all-both f g i (suc n) = rw (all-both f g (i + 1) n) (exchange (f i) (g i) (allFrom f (i + 1) n) (allFrom g (i + 1) n))
+
+pub all-split : (f : ℕ → Bool) (i a b : ℕ) → allFrom f i (a + b) ≡ (allFrom f i a && allFrom f (i + a) b)
+unfolding allFrom
+all-split f i zero b = rw (zero-add, add-zero)
+all-split f i (suc a) b =
+    let e : i + 1 + a ≡ i + suc a = omega arith in
+    rw (suc-add, all-split f (i + 1) a b, and-assoc, e)
+
+pub all-threes : (f : ℕ → Bool) (i n : ℕ) → allFrom f (3 * i) (3 * n) ≡ allFrom (λ k. f (3 * k) && f (3 * k + 1) && f (3 * k + 2)) i n
+unfolding allFrom
+all-threes f i zero = refl
+all-threes f i (suc n) =
+    let e : 3 * suc n ≡ suc (suc (suc (3 * n))) = omega arith in
+    let two : 3 * i + 1 + 1 ≡ 3 * i + 2 = omega arith in
+    let three : 3 * i + 2 + 1 ≡ 3 * (i + 1) = omega arith in
+    rw (e, two, three, all-threes f (i + 1) n, and-assoc, and-assoc)

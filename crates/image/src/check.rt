@@ -1,0 +1,96 @@
+// The image check: the refusals 1 to 4, lowest number first.
+use crate::operands::LIMITS;
+use crate::operands::MARKS;
+use crate::records::count_labels;
+use crate::records::record_of;
+use crate::rule::rule_ok;
+use crate::table::first_bad_row;
+use rules::limits::Table;
+use rules::sorts::Block;
+ghost use mathlib.Core.Path.{_≡_};
+ghost use mathlib.Core.List.{[]};
+ghost use Prim.Native.Nat.{_<_};
+ghost use lib.ListN.{length};
+ghost use Rattle.rules.specs.Sizes.{tableSize};
+ghost use Rattle.rules.specs.Bytes.{firstBad};
+ghost use Rattle.rules.specs.Image.{labels};
+ghost use Rattle.rules.specs.Check.{recordOk, refusal, imageLengthFault, tableLengthFault, tableFault, recordFault, firstOf, imageFaults};
+ghost use Rattle.image.specs.Operands.{Marks, limitsOf};
+
+pub fn refuse(ok: bool, number: u32, place: usize) -> u32
+    requires { ⌜ (number < 256) × (place < 65536) ⌝ }
+    ensures { λ r. ⌜ r ≡ refusal ok number place ⌝ }
+{
+    if ok {
+        0
+    } else {
+        65536 * number + (place as u32)
+    }
+}
+
+// The first label whose record breaks a rule, or n.
+pub fn first_bad_label(image: &[u8], n: usize, marks: &[u8; 150], limits: &[u32; 4]) -> usize
+    requires { ⌜ (n ≡ labels (now image)) × Marks (now marks) × (now limits ≡ limitsOf) ⌝ }
+    ensures { λ r. ⌜ r ≡ firstBad (recordOk (now (image .entry))) 0 (labels (now (image .entry))) ⌝ }
+{
+    let mut l = 0;
+    while l < n {
+        let r = record_of(image, l);
+        if !rule_ok(image, n, r, marks, limits) {
+            return l;
+        }
+        l += 1;
+    }
+    l
+}
+
+pub fn image_length_fault(image: &[u8], n: usize) -> u32
+    requires { ⌜ n ≡ labels (now image) ⌝ }
+    ensures { λ r. ⌜ r ≡ imageLengthFault (now (image .entry)) ⌝ }
+{
+    refuse(0 < n, 1, 0)
+}
+
+pub fn table_length_fault(table: &[u8]) -> u32
+    ensures { λ r. ⌜ r ≡ tableLengthFault (now (table .entry)) ⌝ }
+{
+    refuse(table.len() == Table::BYTES, 2, 0)
+}
+
+pub fn table_fault(table: &[u8]) -> u32
+    requires { ⌜ length (now table) ≡ tableSize ⌝ }
+    ensures { λ r. ⌜ r ≡ tableFault (now (table .entry)) ⌝ }
+{
+    let b = first_bad_row(table);
+    refuse(b == Block::COUNT, 3, b)
+}
+
+pub fn record_fault(image: &[u8], n: usize) -> u32
+    requires { ⌜ n ≡ labels (now image) ⌝ }
+    ensures { λ r. ⌜ r ≡ recordFault (now (image .entry)) ⌝ }
+{
+    let marks = MARKS;
+    let limits = LIMITS;
+    let l = first_bad_label(image, n, &marks, &limits);
+    refuse(l == n, 4, l)
+}
+
+// The first of the refusals 1 to 4, or 0.
+pub fn image_fault(image: &[u8], table: &[u8]) -> u32
+    ensures { λ r. ⌜ r ≡ firstOf (imageFaults (now (image .entry)) (now (table .entry)) []) ⌝ }
+{
+    let n = count_labels(image);
+    let a = image_length_fault(image, n);
+    if a != 0 {
+        return a;
+    }
+    let b = table_length_fault(table);
+    if b != 0 {
+        return b;
+    }
+    let c = table_fault(table);
+    if c != 0 {
+        return c;
+    }
+    record_fault(image, n)
+}

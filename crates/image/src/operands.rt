@@ -1,0 +1,78 @@
+// The places for operands of a record: an operand in each of the first, as many as the record counts, and zeros in the rest. Bits
+// that must be zero are tested over all bytes at once; after that each value is held to the limit of its kind.
+use fields::read::get16;
+use fields::read::wide;
+ghost use mathlib.Core.Path.{_≡_};
+ghost use mathlib.Core.Bool.{true};
+ghost use Prim.Native.Nat.{_≤_, _-_};
+ghost use lib.Dec.{eqb};
+ghost use lib.ListN.{length};
+ghost use Rattle.rules.specs.Sizes.{recordSize, operandCount};
+ghost use Rattle.rules.specs.Bytes.{allFrom};
+ghost use Rattle.rules.specs.Image.{operands};
+ghost use Rattle.rules.specs.Check.{slotOk};
+ghost use Rattle.image.specs.Operands.{Marks, limitsOf, bitsOk, placeOk, valueOk};
+
+// A value is below the limit of its kind: number, register, shared word.
+pub const LIMITS: [u32; 4] = [0, 65536, 25, 16];
+
+// The bits that are zero in the places' bytes. The last 75 are for places that are not used; before them are three for each place
+// that is: its kind is below 4.
+pub const MARKS: [u8; 150] = *b"\
+\xfc\0\0\xfc\0\0\xfc\0\0\xfc\0\0\xfc\0\0\xfc\0\0\xfc\0\0\xfc\0\0\xfc\0\0\xfc\0\0\xfc\0\0\xfc\0\0\xfc\0\0\
+\xfc\0\0\xfc\0\0\xfc\0\0\xfc\0\0\xfc\0\0\xfc\0\0\xfc\0\0\xfc\0\0\xfc\0\0\xfc\0\0\xfc\0\0\xfc\0\0\
+\xff\xff\xff\xff\xff\xff\xff\xff\xff\xff\xff\xff\xff\xff\xff\xff\xff\xff\xff\xff\xff\xff\xff\xff\xff\
+\xff\xff\xff\xff\xff\xff\xff\xff\xff\xff\xff\xff\xff\xff\xff\xff\xff\xff\xff\xff\xff\xff\xff\xff\xff\
+\xff\xff\xff\xff\xff\xff\xff\xff\xff\xff\xff\xff\xff\xff\xff\xff\xff\xff\xff\xff\xff\xff\xff\xff\xff";
+
+// The bits that should be zero and are not, in the bytes from one up to another of the places of a record with c operands.
+pub fn wrong_bits(r: &[u8], marks: &[u8; 150], c: usize, from: usize, to: usize) -> u8
+    requires { ⌜ (length (now r) ≡ recordSize) × (c ≤ operandCount) × (from ≤ to) × (to ≤ 75) ⌝ }
+    ensures { λ z. ⌜ eqb z 0 ≡ allFrom (bitsOk (now (marks .entry)) (now (r .entry)) c) from (to - from) ⌝ }
+{
+    let first = 75 - 3 * c;
+    let mut wrong: u8 = 0;
+    let mut i = from;
+    while i < to {
+        wrong = wrong | (r[9 + i] & marks[first + i]);
+        i += 1;
+    }
+    wrong
+}
+
+// The kinds are below 4, and what is not used is zero. The two runs overlap, so that each is a whole number of 16 bytes.
+pub fn places_ok(r: &[u8], marks: &[u8; 150], c: usize) -> bool
+    requires { ⌜ (length (now r) ≡ recordSize) × (c ≤ operandCount) × Marks (now marks) ⌝ }
+    ensures { λ z. ⌜ z ≡ allFrom (placeOk (now (r .entry)) c) 0 operandCount ⌝ }
+{
+    let wrong = wrong_bits(r, marks, c, 0, 64) | wrong_bits(r, marks, c, 59, 75);
+    wrong == 0
+}
+
+// Each of c values is below the limit of its kind.
+pub fn values_ok(r: &[u8], limits: &[u32; 4], c: usize) -> bool
+    requires { ⌜ (length (now r) ≡ recordSize) × (c ≤ operandCount) × (now limits ≡ limitsOf) × (allFrom (placeOk (now r) c) 0 operandCount ≡ true) ⌝ }
+    ensures { λ z. ⌜ z ≡ allFrom (valueOk (now (r .entry))) 0 c ⌝ }
+{
+    let mut k = 0;
+    while k < c {
+        let kind = wide(r[9 + 3 * k]);
+        let value = get16(r, 10 + 3 * k);
+        if limits[kind] <= value as u32 {
+            return false;
+        }
+        k += 1;
+    }
+    true
+}
+
+pub fn slots_ok(r: &[u8], marks: &[u8; 150], limits: &[u32; 4], c: usize) -> bool
+    requires { ⌜ (length (now r) ≡ recordSize) × (c ≡ operands (now r)) × (c ≤ operandCount) × Marks (now marks) × (now limits ≡ limitsOf) ⌝ }
+    ensures { λ z. ⌜ z ≡ allFrom (slotOk (now (r .entry))) 0 operandCount ⌝ }
+{
+    if places_ok(r, marks, c) {
+        values_ok(r, limits, c)
+    } else {
+        false
+    }
+}

@@ -1,0 +1,156 @@
+-- Where a statement of a checked image leads: every label of the job that it leaves is below n and in a block that the thread may be
+-- in, and a signal that it sends has entry 2.
+use mathlib.Core.Path.{_≡_, refl, subst}
+use mathlib.Core.Bool.{Bool, true, false, not, _&&_, _||_, true≢false}
+use mathlib.Core.Logic.{_⊎_, inl, inr}
+use mathlib.Core.Option.{Option, none, some}
+use mathlib.Core.List.{List, [], _∷_}
+use Prim.Native.Nat.{ℕ, _<_}
+use native.Mathlib.Omega.{arith}
+use lib.Dec.{eqb, ltb, leb}
+use borrow.Author.Tests.{ltb-true, eqb-true, eqb-false, eq-eqb}
+use Rattle.rules.specs.Sizes.{blockCount}
+use Rattle.rules.specs.Image.{labels, recordAt, opcode, blockField, entry, operator, labelA, labelB, operands, Row, rowAt}
+use Rattle.rules.specs.Statements.{statementOf, roleA, roleB, dataOf}
+use Rattle.rules.specs.Check.{operatorOk, countOk, headOk, labelOk, recordOk, rowOk}
+use Rattle.rules.specs.Machine.{Signal, Job}
+use Rattle.rules.specs.Effects.{Got, trap, got, Next, onA, onB, intoA, callA, back, Going, Outcome, ends, goes, outcome}
+use Rattle.rules.specs.Steps.{Effect, traps, exits, moves, trapIf, newest, older, signalTo, alien, steer, resolve, blockAt, actBy, view}
+use Rattle.rules.specs.WellFormed.{openTo, pendingOk}
+use Rattle.rules.specs.declared.statement.Role.{Role}
+use Rattle.rules.specs.declared.statement.Role.the-variants.{Unused, Inner, Direct, Local, Buffered}
+use Rattle.fields.specs.Each.{Each, each-append}
+use Rattle.one_by_one.specs.Roles.{Leads, Sends, Refers, refers}
+use Rattle.one_by_one.specs.Passed.{Passed, Parts, rule-parts}
+use Rattle.encoding.specs.Tests.{both}
+use Rattle.invariants.specs.Sound.{PlaceIn, PendingIn}
+
+module _ (image table : List ℕ) where
+  -- what the check says of a label v of this role, in a record of block b
+  abbrev pub LabelIn : ℕ → Role → ℕ → Type 0
+  LabelIn b Unused v = Unit {0}
+  LabelIn b Inner v = (v < labels image) × (blockAt image v ≡ b)
+  LabelIn b Direct v = v < labels image
+  LabelIn b Local v = (v < labels image) × (blockAt image v ≡ b)
+  LabelIn b Buffered v = entry (recordAt image v) ≡ 2
+
+  pub label-in : (role : Role) (b v : ℕ) → labelOk image role b v ≡ true → LabelIn b role v
+  unfolding labelOk
+  label-in Unused b v h = tt
+  label-in Inner b v h = let k = both (ltb v (labels image)) _ h in (ltb-true v _ (k .0), eqb-true _ b (k .1))
+  label-in Direct b v h = ltb-true v _ (both (ltb v (labels image)) (eqb (entry (recordAt image v)) 1) h .0)
+  label-in Local b v h =
+      let k = both (ltb v (labels image)) _ (both (ltb v (labels image) && eqb (blockField (recordAt image v)) b) (eqb (entry (recordAt image v)) 1) h .0) in
+      (ltb-true v _ (k .0), eqb-true _ b (k .1))
+  label-in Buffered b v h = eqb-true _ 2 (both (ltb v (labels image)) (eqb (entry (recordAt image v)) 2) h .1)
+
+  module _ (passed : Passed image table) where
+    pub parts : (l : ℕ) → l < labels image → Parts image (recordAt image l)
+    unfolding recordOk
+    parts l h = rule-parts image (recordAt image l) (passed .records l h)
+
+    -- a label below n is in a block of the table
+    pub block-below : (l : ℕ) → l < labels image → blockAt image l < blockCount
+    unfolding headOk
+    block-below l h =
+        let r = recordAt image l in
+        let a : Bool = leb 1 (opcode r) && leb (opcode r) 10 in
+        let b : Bool = ltb (blockField r) blockCount in
+        let c : Bool = ltb (entry r) 4 in
+        let d : Bool = operatorOk (opcode r) (operator r) in
+        let e : Bool = countOk (opcode r) (operator r) (operands r) in
+        let one = both (a && b && c && d && e) _ (parts l h .head) in
+        let two = both (a && b && c && d) e (one .0) in
+        let three = both (a && b && c) d (two .0) in
+        let four = both (a && b) c (three .0) in
+        ltb-true _ blockCount (both a b (four .0) .1)
+
+    -- a block of the table that is no FD block of another thread is CMX or the thread's own
+    open-of : (r : Row) (t : ℕ) → ltb (r .kind) 2 ≡ true → alien r t ≡ false → openTo r t ≡ true
+    unfolding alien
+    open-of r t h e = case (eqb (r .kind) 0) refl (eqb (r .thread) t) refl e
+      where
+        case : (a : Bool) → eqb (r .kind) 0 ≡ a → (b : Bool) → eqb (r .thread) t ≡ b → (a && not b) ≡ false → (eqb (r .kind) 1 || eqb (r .thread) t) ≡ true
+        case true p true q f = rw (q, eqb-true (r .kind) 0 p) refl
+        case true p false q f = absurd (true≢false f)
+        case false p b q f = rw (eq-eqb (r .kind) 1 (omega (arith, ltb-true (r .kind) 2 h, eqb-false (r .kind) 0 p))) refl
+
+    entered : (t a : ℕ) → a < labels image → alien (rowAt table (blockAt image a)) t ≡ false → PlaceIn image table t a
+    unfolding rowOk
+    entered t a h e =
+        let k = passed .rows (blockAt image a) (block-below a h) in
+        record { below = h; allowed = open-of (rowAt table (blockAt image a)) t (both (ltb (rowAt table (blockAt image a) .thread) 8) _ k .1) e }
+
+    -- a label in the block of a label where the thread may be
+    inside : (t l a : ℕ) → PlaceIn image table t l → a < labels image → blockAt image a ≡ blockAt image l → PlaceIn image table t a
+    inside t l a p h e = record { below = h; allowed = rw e (p .allowed) }
+
+    -- ---- what a statement leaves
+
+    abbrev pub SentIn : Option Signal → Type 0
+    SentIn none = Unit {0}
+    SentIn (some g) = PendingIn image table g
+
+    abbrev pub EffectIn : ℕ → Effect → Type 0
+    EffectIn t (traps r) = Unit {0}
+    EffectIn t exits = Unit {0}
+    EffectIn t (moves j words g want) = Each (PlaceIn image table t) (j .label ∷ j .returns) × SentIn g
+
+    trap-in : (t : ℕ) (c : Bool) (r : ℕ) (e : Effect) → (c ≡ false → EffectIn t e) → EffectIn t (trapIf c r e)
+    trap-in t true r e h = tt
+    trap-in t false r e h = h refl
+
+    sent-in : (a b : ℕ) (x : Role) (o : Option (List ℕ)) → LabelIn b x a → Sends x o → SentIn (signalTo a o)
+    unfolding pendingOk
+    sent-in a b x none h k = tt
+    sent-in a b x (some vs) h k = let e : entry (recordAt image a) ≡ 2 = subst (λ (z : Role). LabelIn b z a) k h in rw e refl
+
+    newest-in : (P : ℕ → Type 0) (a : ℕ) (l : List ℕ) → P a → Each P l → P (newest a l)
+    newest-in P a [] h k = h
+    newest-in P a (b ∷ l) h k = newest-in P b l (k .0) (k .1)
+
+    older-in : (P : ℕ → Type 0) (a : ℕ) (l : List ℕ) → P a → Each P l → Each P (older a l)
+    older-in P a [] h k = tt
+    older-in P a (b ∷ l) h k = (h, older-in P b l (k .0) (k .1))
+
+    module _ (t : ℕ) (j : Job) (p : Each (PlaceIn image table t) (j .label ∷ j .returns)) (x y : Role) (a b : ℕ)
+        (ha : LabelIn (blockAt image (j .label)) x a) (hb : LabelIn (blockAt image (j .label)) y b) where
+      a-as : (z : Role) → x ≡ z → LabelIn (blockAt image (j .label)) z a
+      a-as z e = subst (λ (w : Role). LabelIn (blockAt image (j .label)) w a) e ha
+
+      b-as : (z : Role) → y ≡ z → LabelIn (blockAt image (j .label)) z b
+      b-as z e = subst (λ (w : Role). LabelIn (blockAt image (j .label)) w b) e hb
+
+      on-A : (x ≡ Inner) ⊎ (x ≡ Local) → PlaceIn image table t a
+      on-A (inl e) = inside t (j .label) a (p .0) (a-as Inner e .0) (a-as Inner e .1)
+      on-A (inr e) = inside t (j .label) a (p .0) (a-as Local e .0) (a-as Local e .1)
+
+      on-B : y ≡ Inner → PlaceIn image table t b
+      on-B e = inside t (j .label) b (p .0) (b-as Inner e .0) (b-as Inner e .1)
+
+      back-in : (g : Going) (rs : List ℕ) → Each (PlaceIn image table t) rs → SentIn (signalTo a (g .sent)) → EffectIn t (steer (blockAt image) (rowAt table) t a b g back rs)
+      back-in g [] h k = tt
+      back-in g (r ∷ rs) h k = ((newest-in (PlaceIn image table t) r rs (h .0) (h .1), older-in (PlaceIn image table t) r rs (h .0) (h .1)), k)
+
+      steer-in : (g : Going) (n : Next) → Leads x y n → SentIn (signalTo a (g .sent)) → EffectIn t (steer (blockAt image) (rowAt table) t a b g n (j .returns))
+      steer-in g onA n k = ((on-A n, p .1), k)
+      steer-in g onB n k = ((on-B n, p .1), k)
+      steer-in g intoA n k = trap-in t (alien (rowAt table (blockAt image a)) t) 5 _ (λ e. ((entered t a (a-as Direct n) e, p .1), k))
+      steer-in g callA n k =
+          trap-in t (alien (rowAt table (blockAt image a)) t) 5 _
+          (λ e. ((entered t a (a-as Direct (n .0)) e, each-append (PlaceIn image table t) (j .returns) (b ∷ []) (p .1) (on-B (n .1), tt)), k))
+      steer-in g back n k = back-in g (j .returns) (p .1) k
+
+      resolve-in : (o : Got Outcome) → Refers x y o → EffectIn t (resolve (blockAt image) (rowAt table) t (j .returns) a b o)
+      resolve-in (trap r) k = tt
+      resolve-in (got ends) k = tt
+      resolve-in (got (goes g)) k = steer-in g (g .next) (k .0) (sent-in a _ x (g .sent) ha (k .1))
+
+    pub act-in : (t : ℕ) (j : Job) (words : List ℕ) (n : ℕ) → Each (PlaceIn image table t) (j .label ∷ j .returns) → EffectIn t (actBy image table t j words n)
+    unfolding actBy
+    act-in t j words n p =
+        let r = recordAt image (j .label) in
+        let k = parts (j .label) (p .0 .below) in
+        resolve-in t j p (roleA (statementOf r)) (roleB (statementOf r)) (labelA r) (labelB r)
+        (label-in (roleA (statementOf r)) (blockField r) (labelA r) (k .a)) (label-in (roleB (statementOf r)) (blockField r) (labelB r) (k .b))
+        (outcome (view j words n) (statementOf r) (dataOf r)) (refers (view j words n) (statementOf r) (dataOf r))

@@ -1,0 +1,50 @@
+-- Every end is clean: EXIT, a trap with any reason and a cut leave the thread idle, however deep in calls its job was.
+use mathlib.Core.Path.{_≡_, ap}
+use mathlib.Core.Logic.{inl, inr}
+use mathlib.Core.Option.{none, some}
+use mathlib.Core.List.{[]}
+use Prim.Native.Nat.{ℕ}
+use Rattle.rules.specs.Machine.{ThreadState, idle, Machine, threadAt, locksOf, jobOf}
+use Rattle.rules.specs.Encoding.{threadRaw, threadBytes}
+use Rattle.rules.specs.Sizes.{idleLabel}
+use Rattle.rules.specs.Answers.{close, sort}
+use Rattle.rules.specs.Events.{Event, threadOf}
+use Rattle.rules.specs.Steps.{Rules, Reply, react}
+use Rattle.rules.specs.declared.answer.Answer.the-variants.{Exited, Trapped, WasCut}
+use Rattle.one_by_one.specs.Locks.{getD-set-idle}
+use Rattle.one_by_one.specs.Invariant.{never}
+use Rattle.invariants.specs.Happens.{Happens, remains, founds, starts, goes, ends, happens}
+
+-- no lock, no return label, no register value: the thread has no job, and its bytes are the label 65,535 and zeros
+pub record Cleared (w : ThreadState) : Type 0 where
+  pub state : w ≡ idle
+  pub locks : locksOf w ≡ 0
+  pub job : jobOf w ≡ none
+  pub bytes : threadBytes w ≡ threadRaw idleLabel 0 0 [] 0 []
+
+cleared : {w : ThreadState} → w ≡ idle → Cleared w
+unfolding threadBytes
+cleared e = record { state = e; locks = ap locksOf e; job = ap jobOf e; bytes = ap threadBytes e }
+
+module _ (R : Rules) (s : Machine) (t : ℕ) where
+  ended : (e : Event) (r : Reply) → Happens R s e r → threadOf e ≡ some t → sort (r .answer) ≡ close → Cleared (threadAt (r .state) t)
+  ended e r (remains f a (inl q)) h k = never (cc)
+  ended e r (remains f a (inr q)) h k = never (cc)
+  ended e r (founds g room) h k = never (cc)
+  ended e r (starts u g p w f b) h k = never (cc)
+  ended e r (goes u l j j′ words g want w a b) h k = never (cc)
+  ended e r (ends f u l j a n w c) h k = let q : u ≡ t = cc in rw q (cleared (getD-set-idle (s .threads) t))
+
+  -- an answer that ends a job
+  pub every-end-is-clean : (e : Event) → threadOf e ≡ some t → sort (react R s e .answer) ≡ close → Cleared (threadAt (react R s e .state) t)
+  every-end-is-clean e h k = ended e (react R s e) (happens R s e) h k
+
+  -- each of the three sorts of end
+  pub exit-is-clean : (e : Event) → threadOf e ≡ some t → react R s e .answer ≡ Exited → Cleared (threadAt (react R s e .state) t)
+  exit-is-clean e h k = every-end-is-clean e h (ap sort k)
+
+  pub trap-is-clean : (e : Event) (reason : ℕ) → threadOf e ≡ some t → react R s e .answer ≡ Trapped reason → Cleared (threadAt (react R s e .state) t)
+  trap-is-clean e reason h k = every-end-is-clean e h (ap sort k)
+
+  pub cut-is-clean : (e : Event) → threadOf e ≡ some t → react R s e .answer ≡ WasCut → Cleared (threadAt (react R s e .state) t)
+  cut-is-clean e h k = every-end-is-clean e h (ap sort k)

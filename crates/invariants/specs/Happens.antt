@@ -1,0 +1,94 @@
+-- The five things that an event can do, whatever the rules: nothing, found a tree, start a job, move a job on, end a job. Every
+-- theorem about events goes by these cases.
+use mathlib.Core.Path.{_≡_, refl}
+use mathlib.Core.Bool.{Bool, true, false, cond}
+use mathlib.Core.Logic.{_⊎_, inl, inr}
+use mathlib.Core.Option.{Option, none, some}
+use mathlib.Core.List.{List, [], _∷_, _++_}
+use Prim.Native.Nat.{ℕ}
+use lib.ListN.{length}
+use Rattle.rules.specs.Machine.{Signal, Job, ThreadState, idle, running, Machine, threadAt, first, treeThreads, window}
+use Rattle.rules.specs.Answers.{out, close, sort}
+use Rattle.rules.specs.Events.{Event, arrive, step, cut, threadOf}
+use Rattle.rules.specs.Steps.{Rules, Effect, traps, exits, moves, Move, stay, grow, Reply, begin, added, pendingOf, home, founded}
+use Rattle.rules.specs.Steps.{planArrive, planIdle, planRunning, planStep, planCut, plan, blocked, applied, grown, finished, attempt, carry, react}
+use Rattle.rules.specs.declared.answer.Answer.{Answer}
+use Rattle.rules.specs.declared.answer.Answer.the-variants.{Taken, ListFull, Started, Moved}
+
+-- a job starts with a signal, and these stay pending in its tree
+abbrev pub startOf : Rules → Signal → List Signal → Move
+startOf R g p = record { job = begin g; write = none; pending = p; want = some (R .block (g .label)); answer = Started }
+
+-- a job that stood in block b goes on as j, leaving these words there
+abbrev pub goOf : ℕ → List Signal → Job → List ℕ → Option Signal → Option ℕ → Move
+goOf b p j words g want = record { job = j; write = some (b, words); pending = p ++ added g; want = want; answer = Moved }
+
+-- what is left of an event that is refused, waits, or finds nothing to do: only arrivals get the answer ListFull
+abbrev pub Quiet : Event → Answer → Type 0
+Quiet e a = (sort a ≡ out) ⊎ ((threadOf e ≡ none) × (a ≡ ListFull))
+
+module _ (R : Rules) (s : Machine) where
+  pub data Happens : Event → Reply → Type 0 where
+    remains : (e : Event) (a : Answer) → Quiet e a → Happens e (record { state = s; answer = a })
+    founds : (g : Signal) → R .room (treeThreads (s .trees)) (home R g) ≡ true → Happens (arrive g) (record { state = grown (founded R g) s; answer = Taken })
+    starts : (t : ℕ) (g : Signal) (p : List Signal) → threadAt s t ≡ idle → first t (s .trees) ≡ some (g ∷ p)
+        → blocked R t (s .threads) (some (R .block (g .label))) ≡ none
+        → Happens (step t) (record { state = applied R t (startOf R g p) s; answer = Started })
+    goes : (t locks : ℕ) (j k : Job) (words : List ℕ) (g : Option Signal) (want : Option ℕ) → threadAt s t ≡ running locks j
+        → R .act t j (window (R .block (j .label)) (s .words)) (length (pendingOf (first t (s .trees)))) ≡ moves k words g want
+        → blocked R t (s .threads) want ≡ none
+        → Happens (step t) (record { state = applied R t (goOf (R .block (j .label)) (pendingOf (first t (s .trees))) k words g want) s; answer = Moved })
+    ends : (e : Event) (t locks : ℕ) (j : Job) (a : Answer) → threadOf e ≡ some t → threadAt s t ≡ running locks j → sort a ≡ close
+        → Happens e (record { state = finished R t s; answer = a })
+
+  on-arrival : (g : Signal) → Happens (arrive g) (carry R s (planArrive R g (s .trees)))
+  unfolding carry planArrive
+  on-arrival g = case (R .room (treeThreads (s .trees)) (home R g)) refl
+    where
+      case : (b : Bool) → R .room (treeThreads (s .trees)) (home R g) ≡ b → Happens (arrive g) (carry R s (cond b (grow (founded R g)) (stay ListFull)))
+      case true h = founds g h
+      case false h = remains (arrive g) ListFull (inr (refl, refl))
+
+  on-start : (t : ℕ) (g : Signal) (p : List Signal) (o : Option ℕ) → threadAt s t ≡ idle → first t (s .trees) ≡ some (g ∷ p)
+      → blocked R t (s .threads) (some (R .block (g .label))) ≡ o → Happens (step t) (attempt R t (startOf R g p) s o)
+  unfolding attempt
+  on-start t g p none w f b = starts t g p w f b
+  on-start t g p (some l) w f b = remains (step t) _ (inl refl)
+
+  on-idle : (t : ℕ) (f : Option (List Signal)) → threadAt s t ≡ idle → first t (s .trees) ≡ f → Happens (step t) (carry R s (planIdle R t f))
+  unfolding carry planIdle
+  on-idle t none w f = remains (step t) _ (inl refl)
+  on-idle t (some []) w f = remains (step t) _ (inl refl)
+  on-idle t (some (g ∷ p)) w f = on-start t g p _ w f refl
+
+  module _ (t locks : ℕ) (j : Job) (w : threadAt s t ≡ running locks j) where
+    abbrev own : Effect → Type 0
+    own e = R .act t j (window (R .block (j .label)) (s .words)) (length (pendingOf (first t (s .trees)))) ≡ e
+
+    on-move : (k : Job) (words : List ℕ) (g : Option Signal) (want o : Option ℕ) → own (moves k words g want) → blocked R t (s .threads) want ≡ o
+        → Happens (step t) (attempt R t (goOf (R .block (j .label)) (pendingOf (first t (s .trees))) k words g want) s o)
+    unfolding attempt
+    on-move k words g want none a b = goes t locks j k words g want w a b
+    on-move k words g want (some l) a b = remains (step t) _ (inl refl)
+
+    on-running : (e : Effect) → own e → Happens (step t) (carry R s (planRunning t (R .block (j .label)) (pendingOf (first t (s .trees))) e))
+    unfolding carry planRunning
+    on-running (traps r) a = ends (step t) t locks j _ refl w refl
+    on-running exits a = ends (step t) t locks j _ refl w refl
+    on-running (moves k words g want) a = on-move k words g want _ a refl
+
+  on-step : (t : ℕ) (w : ThreadState) → threadAt s t ≡ w → Happens (step t) (carry R s (planStep R t w (first t (s .trees)) (s .words)))
+  unfolding planStep
+  on-step t idle w = on-idle t _ w refl
+  on-step t (running locks j) w = on-running t locks j w _ refl
+
+  on-cut : (t : ℕ) (w : ThreadState) → threadAt s t ≡ w → Happens (cut t) (carry R s (planCut t w))
+  unfolding carry planCut
+  on-cut t idle w = remains (cut t) _ (inl refl)
+  on-cut t (running locks j) w = ends (cut t) t locks j _ refl w refl
+
+  pub happens : (e : Event) → Happens e (react R s e)
+  unfolding react plan
+  happens (arrive g) = on-arrival g
+  happens (step t) = on-step t (threadAt s t) refl
+  happens (cut t) = on-cut t (threadAt s t) refl

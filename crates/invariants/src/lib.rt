@@ -1,0 +1,1 @@
+// What no event can do, proved of the rules: theorems only, in specs/.

@@ -1,0 +1,34 @@
+use native.Mathlib.Omega.{arith}
+use mathlib.Core.Path.{_≡_, refl, _∙_}
+use lib.ListN.{length}
+use Rattle.fields.specs.Put.{put-then}
+use Rattle.trees.specs.Signals.{value-bytes}
+use borrow.Author.Needs.{needs}
+use Rattle.trees.proofs.signals.write_signal.Statement.{statement}
+use Rattle.trees.proofs.signals.write_signal.Tie as tie
+
+long : (c : tie.Start) → length (c .args .g .values) ≡ 25
+long c = search needs
+
+put16s-requires : tie.Need-put16s-requires
+put16s-requires c κs = omega (arith, long (c .before .before .before .before .before .before .before .before .before .before .before .before .before))
+
+returns : tie.Need-returns
+returns c =
+    let g = c .before .before .before .before .before .before .before .before .before .before .before .before .before .before .before .before .args .g in
+    let e = put-then _ _ _ _ _ (put-then _ _ _ _ _ (c .before .before .before .before .before .before .before .before .before .before .before .before .put16 .ensures) (c .before .before .before .before .before .before .before .before .put8 .ensures) refl) (c .before .before .put16s .ensures) refl in
+    e ∙ rw (c .before .before .before .before .before .before .before .before .before .before .before .before .before .label-number .ensures, value-bytes g (long (c .before .before .before .before .before .before .before .before .before .before .before .before .before .before .before .before)) (c .before .before .before .before .before .before .before .before .before .before .before .before .before .before .before .before .pre .1))
+
+pub write-signal-spec : {M : Type 1} → statement M
+write-signal-spec =
+    tie.close
+    (tie.spec
+    (λ c κs. search needs)
+    (λ c κs. search needs)
+    (λ c. search needs)
+    (λ c κs. search needs)
+    (λ c. search needs)
+    (λ c. search needs)
+    put16s-requires
+    (λ c. search needs)
+    returns)

@@ -1,0 +1,126 @@
+-- What becomes of the tree list, in the words of the law, from what the stores leave.
+use mathlib.Core.Path.{_≡_, refl, sym, ap, _∙_}
+use mathlib.Core.Option.{none, some}
+use mathlib.Core.List.{List, [], _∷_, _++_, append-nil}
+use Prim.Native.Nat.{ℕ, zero, suc, _+_, _<_}
+use native.Mathlib.Omega.{arith}
+use lib.ListN.{length, getD, take, drop, set, length-append, length-set, length-drop, drop-of-length-le}
+use lib.Seq.{split-at}
+use Rattle.rules.specs.Sizes.{treeCount, pendingCount}
+use Rattle.rules.specs.Machine.{Signal, Tree, Machine, put}
+use Rattle.rules.specs.Encoding.{noTree}
+use Rattle.fields.specs.Each.{Each, each-at, each-set, each-append, each-tail}
+use Rattle.fields.specs.Filled.{removeAt, length-removeAt}
+use Rattle.encoding.specs.Sized.{SizedSignal, SizedTree, Sized}
+use Rattle.encoding.specs.TreeStores.{withTrees, sized-trees}
+use Rattle.encoding.specs.SignalStores.{pushed, rest, moved}
+use Rattle.encoding.specs.FirstTree.{firstTree, first-thread, put-none, put-some}
+use Rattle.trees.specs.Canon.{treeAt, pendingAt}
+
+-- ---- the machines
+
+-- thread u's first tree is tree i. Its oldest signal is taken
+abbrev pub taken : ℕ → ℕ → Machine → Machine
+taken u i s = withTrees s (put u (some (drop 1 (pendingAt s i))) (s .trees))
+
+-- a signal comes to its end
+abbrev pub sent : ℕ → ℕ → Signal → Machine → Machine
+sent u i g s = withTrees s (put u (some (pendingAt s i ++ g ∷ [])) (s .trees))
+
+-- its job has ended: it leaves the list and, if not empty, goes to the list's end, on thread t
+abbrev pub requeuedOn : ℕ → List Signal → List Tree
+requeuedOn t [] = []
+requeuedOn t (g ∷ p) = record { thread = t; pending = g ∷ p } ∷ []
+
+abbrev pub ended : ℕ → ℕ → ℕ → Machine → Machine
+ended u t i s = withTrees s (put u none (s .trees) ++ requeuedOn t (pendingAt s i))
+
+-- a tree of one signal comes to the list's end
+abbrev pub arrived : ℕ → Signal → Machine → Machine
+arrived t g s = withTrees s (s .trees ++ record { thread = t; pending = g ∷ [] } ∷ [])
+
+-- ---- they stay within limits
+
+module _ (s : Machine) (z : Sized s) where
+  pub sized-append : (x : Tree) → SizedTree x → length (s .trees) < treeCount → Sized (withTrees s (s .trees ++ x ∷ []))
+  sized-append x h l = sized-trees s (s .trees ++ x ∷ []) (simp length-append (omega arith)) (each-append SizedTree (s .trees) (x ∷ []) (z .eachTree) (h, tt)) z
+
+  module _ (i : ℕ) (h : i < length (s .trees)) where
+    pub sized-at : SizedTree (treeAt s i)
+    sized-at = each-at SizedTree (s .trees) i noTree (z .eachTree) h
+
+    pub sized-set : (x : Tree) → SizedTree x → Sized (withTrees s (set (s .trees) i x))
+    sized-set x k = sized-trees s (set (s .trees) i x) (rw length-set (z .trees)) (each-set SizedTree (s .trees) i x (z .eachTree) k) z
+
+    pub sized-remove : Sized (withTrees s (removeAt i (s .trees)))
+    unfolding removeAt
+    sized-remove = sized-trees s (removeAt i (s .trees)) (rw (length-removeAt i (s .trees) h) (omega (arith, z .trees))) (go (s .trees) i (z .eachTree)) z
+      where
+        go : (l : List Tree) (i : ℕ) → Each SizedTree l → Each SizedTree (take i l ++ drop (suc i) l)
+        go [] zero e = tt
+        go [] (suc i) e = tt
+        go (x ∷ l) zero e = e .1
+        go (x ∷ l) (suc i) e = (e .0, go l i (e .1))
+
+pub sized-pushed : (x : Tree) (g : Signal) → SizedTree x → SizedSignal g → length (x .pending) < pendingCount → SizedTree (pushed x g)
+sized-pushed x g h k l = record { count = simp length-append (omega arith); each = each-append SizedSignal (x .pending) (g ∷ []) (h .each) (k, tt) }
+
+pub sized-rest : (x : Tree) → SizedTree x → SizedTree (rest x)
+sized-rest x h = record { count = rw length-drop (omega (arith, h .count)); each = each-tail SizedSignal (x .pending) (h .each) }
+
+pub sized-moved : (x : Tree) (t : ℕ) → SizedTree x → SizedTree (moved x t)
+sized-moved x t h = record { count = h .count; each = h .each }
+
+pub sized-one : (t : ℕ) (g : Signal) → SizedSignal g → SizedTree (record { thread = t; pending = g ∷ [] })
+sized-one t g h = record { count = omega arith; each = (h, tt) }
+
+-- ---- tree i, where it is the first of thread u
+
+module _ (s : Machine) (i u : ℕ) (e : i ≡ firstTree u (s .trees)) (h : i < length (s .trees)) where
+  pub set-first : (p : List Signal) → withTrees s (set (s .trees) i (record { thread = treeAt s i .thread; pending = p })) ≡ withTrees s (put u (some p) (s .trees))
+  set-first p =
+      let k : firstTree u (s .trees) < length (s .trees) = rw e at h in
+      let f : treeAt s i .thread ≡ u = rw e (first-thread u (s .trees) k) in
+      rw (f, e, ← put-some u p (s .trees) k)
+
+  pub remove-first : removeAt i (s .trees) ≡ put u none (s .trees)
+  remove-first =
+      let k : firstTree u (s .trees) < length (s .trees) = rw e at h in
+      rw (e, ← put-none u (s .trees) k)
+
+  -- the tree of an ended job: nothing is pending, or something is
+  none-requeued : (t : ℕ) (p : List Signal) → length p ≡ 0 → requeuedOn t p ≡ []
+  none-requeued t [] l = refl
+  none-requeued t (g ∷ p) l = absurd (omega arith)
+
+  some-requeued : (t : ℕ) (p : List Signal) → 0 < length p → requeuedOn t p ≡ record { thread = t; pending = p } ∷ []
+  some-requeued t [] l = absurd (omega arith)
+  some-requeued t (g ∷ p) l = refl
+
+  pub ended-empty : (t : ℕ) → length (pendingAt s i) ≡ 0 → withTrees s (removeAt i (s .trees)) ≡ ended u t i s
+  ended-empty t l = rw (none-requeued t (pendingAt s i) l, append-nil, remove-first)
+
+  pub ended-pending : (t : ℕ) → 0 < length (pendingAt s i) → withTrees s (removeAt i (s .trees) ++ moved (treeAt s i) t ∷ []) ≡ ended u t i s
+  ended-pending t l = rw (some-requeued t (pendingAt s i) l, remove-first)
+
+-- ---- the last tree
+
+pub last-stays : (l : List Tree) (i : ℕ) → length l ≡ i + 1 → removeAt i l ++ getD l i noTree ∷ [] ≡ l
+unfolding removeAt
+last-stays l i e =
+    let o : drop (suc i) l ≡ [] = drop-of-length-le l {i = suc i} (omega arith) in
+    rw (o, append-nil) (sym (split-at l i noTree (omega arith) ∙ rw o))
+
+pub last-set : (a : List Tree) (x y : Tree) (n : ℕ) → n ≡ length a → set (a ++ x ∷ []) n y ≡ a ++ y ∷ []
+last-set a x y n e = rw e (go a)
+  where
+    go : (a : List Tree) → set (a ++ x ∷ []) (length a) y ≡ a ++ y ∷ []
+    go [] = refl
+    go (z ∷ a) = ap (λ r. z ∷ r) (go a)
+
+pub last-at : (a : List Tree) (x : Tree) (n : ℕ) → n ≡ length a → getD (a ++ x ∷ []) n noTree ≡ x
+last-at a x n e = rw e (go a)
+  where
+    go : (a : List Tree) → getD (a ++ x ∷ []) (length a) noTree ≡ x
+    go [] = refl
+    go (z ∷ a) = go a

@@ -1,0 +1,138 @@
+-- What runs of stores into a machine's bytes leave: the bytes are a machine's again, and which machine.
+use mathlib.Core.Path.{_≡_, refl, sym, ap, _∙_}
+use mathlib.Core.Bool.{true}
+use mathlib.Core.List.{List, [], _∷_, _++_}
+use Prim.Native.Nat.{ℕ, _+_, _*_, _-_, _≤_, _<_}
+use native.Mathlib.Omega.{arith}
+use lib.ListN.{length, getD, drop, replicate, length-append, length-drop}
+use lib.Seq.{take-all}
+use Rattle.rules.specs.Sizes.{treeCount, pendingCount, signalSize, treeSize, treesAt}
+use Rattle.rules.specs.Bytes.{num16, part, firstBad}
+use Rattle.rules.specs.Machine.{Signal, Tree, Machine}
+use Rattle.rules.specs.Encoding.{noSignal, signalBytes, signalFrom, treeBytes, machineFrom}
+use Rattle.rules.specs.WellFormed.{signalTidy}
+use Rattle.fields.specs.Put.{put, put-whole}
+use Rattle.fields.specs.Each.{each-at}
+use Rattle.fields.specs.Filled.{removeAt, length-removeAt}
+use Rattle.encoding.specs.Sized.{SizedSignal, SizedTree}
+use Rattle.encoding.specs.Lengths.{length-tree}
+use Rattle.encoding.specs.Numbers.{AreBytes, bytes-drop}
+use Rattle.encoding.specs.Trees.{signal-forth, signal-sized}
+use Rattle.encoding.specs.TreeStores.{withTrees, tree-remove, tree-append, signal-append}
+use Rattle.encoding.specs.SignalStores.{pushed, rest, moved, signal-push, signal-take, tree-move, pending-is, signal-on, signal-is, tree-bytes-are}
+use Rattle.encoding.specs.FirstTree.{firstTree, elsewhere, first-found}
+use Rattle.trees.specs.Canon.{Canon, treeAt, pendingAt, says, canon}
+use Rattle.trees.specs.Signals.{signalOf, TidySignal, signalRead, value-back, means, tidy-value}
+use Rattle.trees.specs.declared.signals.Signal as Value
+use Rattle.trees.specs.Changes.{taken, sent, arrived, sized-append, sized-at, sized-set, sized-remove, sized-pushed, sized-rest, sized-moved, sized-one, set-first, last-at, last-set}
+
+-- ---- what is read
+
+pub found : {b : List ℕ} (k : Canon b) (t thread n : ℕ) {i : ℕ} → thread ≡ t → n ≡ getD b treesAt 0 → i ≡ firstBad (elsewhere b thread) 0 n → i ≡ firstTree t (machineFrom b .trees)
+found k t thread n et en e = e ∙ rw (et, en ∙ k .count) (first-found _ t (k .same) (k .sized .trees))
+
+module _ {b : List ℕ} (k : Canon b) (i : ℕ) (h : i < length (machineFrom b .trees)) (at : ℕ) (ea : at ≡ treesAt + 1 + treeSize * i) where
+  pub pending-few : length (pendingAt (machineFrom b) i) ≤ pendingCount
+  pending-few = sized-at (machineFrom b) (k .sized) i h .count
+
+  pub pending-byte : getD b (at + 1) 0 ≡ length (pendingAt (machineFrom b) i)
+  pending-byte = pending-is (machineFrom b) i (k .same) (k .sized .trees) h at ea
+
+  module _ (some : 0 < length (pendingAt (machineFrom b) i)) where
+    pub label-read : num16 (drop (at + 2) b) ≡ getD (pendingAt (machineFrom b) i) 0 noSignal .label
+    unfolding signalFrom
+    label-read = ap (λ (g : Signal). g .label) (signal-is (machineFrom b) i (k .same) (k .sized .trees) h at ea (k .sized .eachTree) 0 some)
+
+    pub oldest-read : {r : Value.Signal} → r ≡ signalRead (drop (at + 2) b) → (signalOf r ≡ getD (pendingAt (machineFrom b) i) 0 noSignal) × TidySignal r
+    oldest-read e =
+        let s = machineFrom b in
+        let g = getD (pendingAt s i) 0 noSignal in
+        let z : SizedSignal g = each-at SizedSignal (pendingAt s i) 0 noSignal (sized-at s (k .sized) i h .each) some in
+        let d = signal-on s i (k .same) (k .sized .trees) h at ea (k .sized .eachTree) 0 some in
+        let f : drop (at + 2) b ≡ signalBytes g ++ d .0 = d .1 in
+        rw (e, f, value-back g z (d .0)) (means g z, tidy-value g z)
+
+-- ---- tree i
+
+module _ {b : List ℕ} (k : Canon b) (i : ℕ) (h : i < length (machineFrom b .trees)) where
+  pub oldest-taken : {b₁ b₂ : List ℕ} (n at : ℕ) → n ≡ length (pendingAt (machineFrom b) i) → 0 < length (pendingAt (machineFrom b) i) → at ≡ treesAt + 1 + treeSize * i
+      → b₁ ≡ put b (at + 2) (part b (at + 2 + signalSize) (signalSize * (n - 1)) ++ replicate signalSize 0) → b₂ ≡ put b₁ (at + 1) ((n - 1) ∷ [])
+      → Canon b₂ × ((u : ℕ) → i ≡ firstTree u (machineFrom b .trees) → machineFrom b₂ ≡ taken u i (machineFrom b))
+  oldest-taken n at en some ea e₁ e₂ =
+      let s = machineFrom b in
+      let q = signal-take s i (k .same) (k .sized .trees) h n at en some (pending-few k i h at ea) ea e₁ e₂ in
+      let z = sized-set s (k .sized) i h (rest (treeAt s i)) (sized-rest (treeAt s i) (sized-at s (k .sized) i h)) in
+      (canon _ z q, λ u e. says _ z q ∙ set-first s i u e h (drop 1 (pendingAt s i)))
+
+  pub signal-pushed : {b₁ b₂ : List ℕ} (n at : ℕ) (g : Signal) → SizedSignal g → n ≡ length (pendingAt (machineFrom b) i) → length (pendingAt (machineFrom b) i) < pendingCount
+      → at ≡ treesAt + 1 + treeSize * i → b₁ ≡ put b (at + 2 + signalSize * n) (signalBytes g) → b₂ ≡ put b₁ (at + 1) ((n + 1) ∷ [])
+      → Canon b₂ × ((u : ℕ) → i ≡ firstTree u (machineFrom b .trees) → machineFrom b₂ ≡ sent u i g (machineFrom b))
+  signal-pushed n at g zg en few ea e₁ e₂ =
+      let s = machineFrom b in
+      let q = signal-push s i (k .same) (k .sized .trees) h n at g en few ea e₁ e₂ in
+      let z = sized-set s (k .sized) i h (pushed (treeAt s i) g) (sized-pushed (treeAt s i) g (sized-at s (k .sized) i h) zg few) in
+      (canon _ z q, λ u e. says _ z q ∙ set-first s i u e h (pendingAt s i ++ g ∷ []))
+
+  pub tree-removed : {b₁ b₂ : List ℕ} (n at : ℕ) → n ≡ length (machineFrom b .trees) → at ≡ treesAt + 1 + treeSize * i
+      → b₁ ≡ put b at (part b (at + treeSize) (treeSize * (n - 1 - i)) ++ replicate treeSize 0) → b₂ ≡ put b₁ treesAt ((n - 1) ∷ [])
+      → Canon b₂ × (machineFrom b₂ ≡ withTrees (machineFrom b) (removeAt i (machineFrom b .trees)))
+  tree-removed n at en ea e₁ e₂ =
+      let s = machineFrom b in
+      let q = tree-remove s i n at (k .same) (k .sized .trees) h en ea e₁ e₂ in
+      let z = sized-remove s (k .sized) i h in
+      (canon _ z q, says _ z q)
+
+-- ---- the list's end
+
+module _ {b : List ℕ} (k : Canon b) where
+  pub signal-arrived : {b₁ b₂ : List ℕ} (t n at : ℕ) (from : List ℕ) (start : ℕ) → AreBytes from → start + signalSize ≤ length from → signalTidy (drop start from) ≡ true
+      → length (machineFrom b .trees) < treeCount → n ≡ length (machineFrom b .trees) → at ≡ treesAt + 1 + treeSize * n
+      → b₁ ≡ put b at (t ∷ 1 ∷ part from start signalSize) → b₂ ≡ put b₁ treesAt ((n + 1) ∷ [])
+      → Canon b₂ × (machineFrom b₂ ≡ arrived t (signalFrom (drop start from)) (machineFrom b))
+  unfolding part
+  signal-arrived {b₁} t n at from start bytes fits tidy room en ea e₁ e₂ =
+      let s = machineFrom b in
+      let g = signalFrom (drop start from) in
+      let l : signalSize ≤ length (drop start from) = simp length-drop (omega arith) in
+      let f : signalBytes g ≡ part from start 53 = signal-forth (drop start from) (bytes-drop from start bytes) l tidy in
+      let q = signal-append s t n at g (k .same) room en ea (rw f e₁) e₂ in
+      let z = sized-append s (k .sized) _ (sized-one t g (signal-sized (drop start from) l tidy)) room in
+      (canon _ z q, says _ z q)
+
+  pub tree-appended : {b₁ b₂ : List ℕ} (n at : ℕ) (x : Tree) → SizedTree x → length (machineFrom b .trees) < treeCount → n ≡ length (machineFrom b .trees)
+      → at ≡ treesAt + 1 + treeSize * n → b₁ ≡ put b at (treeBytes x) → b₂ ≡ put b₁ treesAt ((n + 1) ∷ [])
+      → Canon b₂ × (machineFrom b₂ ≡ withTrees (machineFrom b) (machineFrom b .trees ++ x ∷ []))
+  tree-appended n at x zx room en ea e₁ e₂ =
+      let s = machineFrom b in
+      let q = tree-append s n at x (k .same) room en ea e₁ e₂ in
+      let z = sized-append s (k .sized) x zx room in
+      (canon _ z q, says _ z q)
+
+-- tree i, whose bytes stand in another buffer, has left the list and comes to its end
+pub tree-moved : {b b₁ b₂ b₃ : List ℕ} (k : Canon b) (i n : ℕ) (tree : List ℕ) → i < length (machineFrom b .trees) → n ≡ length (machineFrom b .trees)
+    → tree ≡ put (replicate treeSize 0) 0 (part b (treesAt + 1 + treeSize * i) treeSize) → Canon b₁ → machineFrom b₁ ≡ withTrees (machineFrom b) (removeAt i (machineFrom b .trees))
+    → b₂ ≡ put b₁ (treesAt + 1 + treeSize * (n - 1)) (part tree 0 treeSize) → b₃ ≡ put b₂ treesAt (n ∷ [])
+    → Canon b₃ × (machineFrom b₃ ≡ withTrees (machineFrom b) (removeAt i (machineFrom b .trees) ++ treeAt (machineFrom b) i ∷ []))
+unfolding part
+tree-moved {b} {b₁} {b₂} {b₃} k i n tree h en et k₁ m e₂ e₃ =
+    let s = machineFrom b in
+    let x = treeAt s i in
+    let f : part b (1113 + 426 * i) 426 ≡ treeBytes x = tree-bytes-are s i (k .same) (k .sized .trees) h (1113 + 426 * i) refl in
+    let g : tree ≡ treeBytes x = et ∙ rw f (put-whole (replicate 426 0) (treeBytes x) (sym (length-tree x))) in
+    let w : part tree 0 426 ≡ treeBytes x = rw g (take-all 426 (treeBytes x) (omega (arith, length-tree x))) in
+    let l : length (machineFrom b₁ .trees) ≡ length (s .trees) - 1 = rw m (length-removeAt i (s .trees) h) in
+    let o : n ≡ n - 1 + 1 = omega arith in
+    let r = tree-appended k₁ (n - 1) (1113 + 426 * (n - 1)) x (sized-at s (k .sized) i h) (omega (arith, k .sized .trees)) (omega arith) refl (rw w at e₂) (rw o at e₃) in
+    (r .0, r .1 ∙ rw m)
+
+-- the last tree gets another thread
+pub last-moved : {b b′ : List ℕ} (k : Canon b) (s : Machine) (a : List Tree) (x : Tree) (t n : ℕ) → machineFrom b ≡ withTrees s (a ++ x ∷ []) → n ≡ length (machineFrom b .trees)
+    → b′ ≡ put b (treesAt + 1 + treeSize * (n - 1)) (t ∷ []) → Canon b′ × (machineFrom b′ ≡ withTrees s (a ++ moved x t ∷ []))
+last-moved {b} {b′} k s a x t n m en e =
+    let l : length (machineFrom b .trees) ≡ length a + 1 = rw m (length-append a (x ∷ [])) in
+    let p : n - 1 ≡ length a = omega arith in
+    let h : n - 1 < length (machineFrom b .trees) = omega arith in
+    let y = moved (treeAt (machineFrom b) (n - 1)) t in
+    let q = tree-move (machineFrom b) (n - 1) (k .same) (k .sized .trees) h t (1113 + 426 * (n - 1)) refl e in
+    let z = sized-set (machineFrom b) (k .sized) (n - 1) h y (sized-moved _ t (sized-at (machineFrom b) (k .sized) (n - 1) h)) in
+    (canon _ z q, says _ z q ∙ rw m (rw (last-at a x (n - 1) p, last-set a x (moved x t) (n - 1) p)))

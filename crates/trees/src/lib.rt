@@ -1,0 +1,5 @@
+// The job trees in the lent bytes of a state, read and changed in place.
+pub mod copies;
+pub mod list;
+pub mod pending;
+pub mod signals;

@@ -1,0 +1,118 @@
+// The list of trees: its count, a thread's first tree, a tree that comes, and a tree that leaves or goes to the end.
+use crate::copies::copy;
+use crate::pending::OLDEST;
+use crate::pending::PENDING;
+use crate::pending::TREE;
+use crate::pending::TREES;
+use crate::pending::pending;
+use crate::signals::SIGNAL;
+use fields::read::get8;
+use fields::write::put8;
+use fields::write::remove;
+use rules::sorts::Thread;
+use rules::sorts::thread_number;
+ghost use mathlib.Core.Path.{_≡_};
+ghost use mathlib.Core.Bool.{true};
+ghost use mathlib.Core.List.{[], _∷_, _++_};
+ghost use Prim.Native.Nat.{ℕ, _+_, _<_, _≤_};
+ghost use lib.ListN.{length, drop};
+ghost use Rattle.rules.specs.Encoding.{signalFrom, machineFrom};
+ghost use Rattle.rules.specs.WellFormed.{signalTidy};
+ghost use Rattle.fields.specs.Filled.{removeAt};
+ghost use Rattle.encoding.specs.FirstTree.{firstTree};
+ghost use Rattle.encoding.specs.SignalStores.{moved};
+ghost use Rattle.encoding.specs.TreeStores.{withTrees};
+ghost use Rattle.trees.specs.Canon.{Canon, treeAt};
+ghost use Rattle.trees.specs.Changes.{arrived, ended};
+
+// The tree count, before the tree records.
+const COUNT: usize = 1112;
+
+pub fn tree_count(state: &[u8]) -> usize
+    requires { ⌜ Canon (now state) ⌝ }
+    ensures { λ r. ⌜ r ≡ length (machineFrom (now (state .entry)) .trees) ⌝ }
+{
+    get8(state, COUNT)
+}
+
+// The place of the first tree on a thread, or the number of trees where there is none.
+pub fn first_tree(state: &[u8], t: Thread) -> usize
+    requires { ⌜ Canon (now state) ⌝ }
+    ensures { λ r. ⌜ r ≡ firstTree (t .0) (machineFrom (now (state .entry)) .trees) ⌝ }
+{
+    let thread = thread_number(t);
+    let n = get8(state, COUNT);
+    let mut i = 0;
+    while i < n {
+        if state[TREES + TREE * i] == thread {
+            return i;
+        }
+        i += 1;
+    }
+    i
+}
+
+// An arrival: a tree on thread t with the one signal whose bytes stand at a place of another buffer.
+pub fn append(state: &mut [u8], t: Thread, bytes: &[u8], at: usize)
+    requires { ⌜ Canon (now state) × (length (machineFrom (now state) .trees) < 16) × (at + 53 ≤ length (now bytes)) × (signalTidy (drop at (now bytes)) ≡ true) ⌝ }
+    ensures { λ _. ⌜ Canon (now (state .exit)) ⌝ }
+    ensures { λ _. ⌜ machineFrom (now (state .exit)) ≡ arrived (t .0) (signalFrom (drop at (now (bytes .entry)))) (machineFrom (now (state .entry))) ⌝ }
+{
+    let n = get8(state, COUNT);
+    let to = TREES + TREE * n;
+    put8(state, to, thread_number(t));
+    put8(state, to + PENDING, 1);
+    copy(state, to + OLDEST, bytes, at, SIGNAL);
+    put8(state, COUNT, (n + 1) as u8);
+}
+
+// Tree i leaves the list: the later ones move down, and zeros fill the last one's place.
+fn remove_tree(state: &mut [u8], i: usize)
+    requires { ⌜ Canon (now state) × (i < length (machineFrom (now state) .trees)) ⌝ }
+    ensures { λ _. ⌜ Canon (now (state .exit)) ⌝ }
+    ensures { λ _. ⌜ machineFrom (now (state .exit)) ≡ withTrees (machineFrom (now (state .entry))) (removeAt i (machineFrom (now (state .entry)) .trees)) ⌝ }
+{
+    let n = get8(state, COUNT);
+    remove(state, TREES + TREE * i, TREE, TREE * (n - 1 - i));
+    put8(state, COUNT, (n - 1) as u8);
+}
+
+// Tree i goes to the list's end.
+fn move_to_end(state: &mut [u8], i: usize)
+    requires { ⌜ Canon (now state) × (i < length (machineFrom (now state) .trees)) ⌝ }
+    ensures { λ _. ⌜ Canon (now (state .exit)) ⌝ }
+    ensures { λ _. ⌜ machineFrom (now (state .exit)) ≡ withTrees (machineFrom (now (state .entry))) (removeAt i (machineFrom (now (state .entry)) .trees) ++ treeAt (machineFrom (now (state .entry))) i ∷ []) ⌝ }
+{
+    let n = get8(state, COUNT);
+    if i + 1 < n {
+        let mut tree = [0u8; TREE];
+        copy(&mut tree, 0, state, TREES + TREE * i, TREE);
+        remove_tree(state, i);
+        copy(state, TREES + TREE * (n - 1), &tree, 0, TREE);
+        put8(state, COUNT, n as u8);
+    }
+}
+
+// Tree i goes to the list's end, on thread t.
+fn requeue(state: &mut [u8], i: usize, t: Thread)
+    requires { ⌜ Canon (now state) × (i < length (machineFrom (now state) .trees)) ⌝ }
+    ensures { λ _. ⌜ Canon (now (state .exit)) ⌝ }
+    ensures { λ _. ⌜ machineFrom (now (state .exit)) ≡ withTrees (machineFrom (now (state .entry))) (removeAt i (machineFrom (now (state .entry)) .trees) ++ moved (treeAt (machineFrom (now (state .entry))) i) (t .0) ∷ []) ⌝ }
+{
+    move_to_end(state, i);
+    let n = get8(state, COUNT);
+    put8(state, TREES + TREE * (n - 1), thread_number(t));
+}
+
+// The tree of an ended job: one with nothing pending leaves the list, any other goes to the list's end, on thread t.
+pub fn end_tree(state: &mut [u8], i: usize, t: Thread)
+    requires { ⌜ Canon (now state) × (i < length (machineFrom (now state) .trees)) ⌝ }
+    ensures { λ _. ⌜ Canon (now (state .exit)) ⌝ }
+    ensures { λ _. ⌜ ((u : ℕ) → i ≡ firstTree u (machineFrom (now (state .entry)) .trees) → machineFrom (now (state .exit)) ≡ ended u (t .0) i (machineFrom (now (state .entry)))) ⌝ }
+{
+    if pending(state, i) == 0 {
+        remove_tree(state, i);
+    } else {
+        requeue(state, i, t);
+    }
+}

@@ -1,0 +1,75 @@
+// The pending signals of tree i, oldest first.
+use crate::signals::SIGNAL;
+use crate::signals::Signal;
+use crate::signals::read_signal;
+use crate::signals::write_signal;
+use fields::read::get8;
+use fields::read::get16;
+use fields::write::put8;
+use fields::write::remove;
+use rules::sorts::Label;
+use rules::sorts::label_of;
+ghost use mathlib.Core.Path.{_≡_};
+ghost use Prim.Native.Nat.{ℕ, _<_};
+ghost use lib.ListN.{length, getD};
+ghost use Rattle.rules.specs.Sorts.{label};
+ghost use Rattle.rules.specs.Encoding.{noSignal, machineFrom};
+ghost use Rattle.encoding.specs.FirstTree.{firstTree};
+ghost use Rattle.trees.specs.Canon.{Canon, pendingAt};
+ghost use Rattle.trees.specs.Signals.{signalOf, TidySignal};
+ghost use Rattle.trees.specs.Changes.{taken, sent};
+
+// The tree records: the first, and the bytes of each. A tree's pending count and its oldest signal stand after its thread.
+pub const TREES: usize = 1113;
+
+pub const TREE: usize = 426;
+
+pub const PENDING: usize = 1;
+
+pub const OLDEST: usize = 2;
+
+// How many there are.
+pub fn pending(state: &[u8], i: usize) -> usize
+    requires { ⌜ Canon (now state) × (i < length (machineFrom (now state) .trees)) ⌝ }
+    ensures { λ r. ⌜ r ≡ length (pendingAt (machineFrom (now (state .entry))) i) ⌝ }
+{
+    get8(state, TREES + TREE * i + PENDING)
+}
+
+pub fn oldest_label(state: &[u8], i: usize) -> Label
+    requires { ⌜ Canon (now state) × (i < length (machineFrom (now state) .trees)) × (0 < length (pendingAt (machineFrom (now state)) i)) ⌝ }
+    ensures { λ r. ⌜ r ≡ label (getD (pendingAt (machineFrom (now (state .entry))) i) 0 noSignal .label) ⌝ }
+{
+    label_of(get16(state, TREES + TREE * i + OLDEST))
+}
+
+pub fn oldest(state: &[u8], i: usize) -> Signal
+    requires { ⌜ Canon (now state) × (i < length (machineFrom (now state) .trees)) × (0 < length (pendingAt (machineFrom (now state)) i)) ⌝ }
+    ensures { λ r. ⌜ (signalOf r ≡ getD (pendingAt (machineFrom (now (state .entry))) i) 0 noSignal) × TidySignal r ⌝ }
+{
+    read_signal(state, TREES + TREE * i + OLDEST)
+}
+
+// The oldest leaves the tree: the others move down, and zeros fill the last one's place.
+pub fn take_oldest(state: &mut [u8], i: usize)
+    requires { ⌜ Canon (now state) × (i < length (machineFrom (now state) .trees)) × (0 < length (pendingAt (machineFrom (now state)) i)) ⌝ }
+    ensures { λ _. ⌜ Canon (now (state .exit)) ⌝ }
+    ensures { λ _. ⌜ ((u : ℕ) → i ≡ firstTree u (machineFrom (now (state .entry)) .trees) → machineFrom (now (state .exit)) ≡ taken u i (machineFrom (now (state .entry)))) ⌝ }
+{
+    let at = TREES + TREE * i;
+    let k = get8(state, at + PENDING);
+    remove(state, at + OLDEST, SIGNAL, SIGNAL * (k - 1));
+    put8(state, at + PENDING, (k - 1) as u8);
+}
+
+// A signal comes to the tree's end.
+pub fn push(state: &mut [u8], i: usize, g: Signal)
+    requires { ⌜ Canon (now state) × (i < length (machineFrom (now state) .trees)) × (length (pendingAt (machineFrom (now state)) i) < 8) × TidySignal g ⌝ }
+    ensures { λ _. ⌜ Canon (now (state .exit)) ⌝ }
+    ensures { λ _. ⌜ ((u : ℕ) → i ≡ firstTree u (machineFrom (now (state .entry)) .trees) → machineFrom (now (state .exit)) ≡ sent u i (signalOf g) (machineFrom (now (state .entry)))) ⌝ }
+{
+    let at = TREES + TREE * i;
+    let k = get8(state, at + PENDING);
+    write_signal(state, at + OLDEST + SIGNAL * k, g);
+    put8(state, at + PENDING, (k + 1) as u8);
+}

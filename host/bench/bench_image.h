@@ -1,0 +1,16 @@
+/* Images for the benchmark, the same in every run. */
+#ifndef BENCH_IMAGE_H
+#define BENCH_IMAGE_H
+
+#include <stddef.h>
+#include <stdint.h>
+
+/* Each writes a valid image of so many records. */
+
+/* Records 1, or a multiple of 16 up to 512. All ten opcodes (for 1 record,
+ * ASSIGN), with 0 to 25 data operands where an opcode carries data. */
+void bench_mixed_image(uint8_t *image, size_t records);
+
+void bench_exit_image(uint8_t *image, size_t records);
+
+#endif

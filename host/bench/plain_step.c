@@ -1,0 +1,173 @@
+/* One step of a running thread, and the end of its job. */
+#include "plain_job.h"
+
+/* The bytes of a tree up to its newest signal; those after are zero. */
+static size_t used_bytes(const uint8_t *tree)
+{
+    return PLEX_TREE_SIGNALS + PLEX_SIGNAL_SIZE * (size_t)tree[PLEX_TREE_PENDING];
+}
+
+/* The job's tree, if empty, leaves the list; otherwise it goes to the list's end,
+ * on the thread of its oldest signal's block. */
+static void retire_tree(const struct job *job)
+{
+    uint32_t index = first_tree(job->state, job->thread);
+    uint32_t count = job->state[PLEX_STATE_TREE_COUNT];
+    uint8_t *tree = job->state + PLEX_STATE_TREES + PLEX_TREE_SIZE * index;
+    uint8_t *last = job->state + PLEX_STATE_TREES + PLEX_TREE_SIZE * (count - 1);
+    uint8_t retired[PLEX_TREE_SIZE];
+    size_t retired_bytes = used_bytes(tree);
+    memcpy(retired, tree, retired_bytes);
+    memmove(tree, tree + PLEX_TREE_SIZE, (size_t)(last - tree));
+    memset(last, 0, used_bytes(last));
+    if (retired[PLEX_TREE_PENDING] == 0) {
+        job->state[PLEX_STATE_TREE_COUNT] = (uint8_t)(count - 1);
+        return;
+    }
+    memcpy(last, retired, retired_bytes);
+    last[PLEX_TREE_THREAD] = (uint8_t)thread_of_oldest(job->program, last);
+}
+
+uint32_t plain_end_job(const struct job *job, uint32_t result)
+{
+    memset(job->bytes, 0, PLEX_THREAD_SIZE);
+    put16(job->bytes + PLEX_THREAD_LABEL, PLEX_IDLE);
+    retire_tree(job);
+    return result;
+}
+
+static uint32_t trap(const struct job *job, uint32_t reason)
+{
+    return plain_end_job(job, answer(PLEX_TRAPPED, (uint32_t)reason));
+}
+
+static uint32_t move_on(const struct job *job, uint32_t label)
+{
+    put16(job->bytes + PLEX_THREAD_LABEL, label);
+    return answer(PLEX_MOVED_ON, 0);
+}
+
+static uint32_t assign(const struct job *job, const uint8_t *record)
+{
+    const uint8_t *destination = record + PLEX_RECORD_OPERANDS;
+    uint32_t operator = record[PLEX_RECORD_OPERATOR], block = record[PLEX_RECORD_BLOCK];
+    uint32_t presence = get32(job->bytes + PLEX_THREAD_PRESENCE), read = 0, q = 0;
+    uint32_t p = operand_value(job->state, job->bytes, block,
+                               destination + PLEX_OPERAND_SIZE, &read);
+    if (operator != PLEX_COPY)
+        q = operand_value(job->state, job->bytes, block,
+                          destination + 2 * PLEX_OPERAND_SIZE, &read);
+    if ((read & ~presence) != 0)
+        return trap(job, PLEX_ABSENT_REGISTER);
+    uint32_t value = operator == PLEX_SUBTRACT ? p - q
+                   : operator == PLEX_MULTIPLY ? p * q : p + q;
+    uint32_t number = get16(destination + 1);
+    if (destination[0] == PLEX_REGISTER_OPERAND) {
+        put16(job->bytes + PLEX_THREAD_VALUES + 2 * number, value);
+        put32(job->bytes + PLEX_THREAD_PRESENCE, presence | 1u << number);
+    } else {
+        put16(job->state + 2 * (PLEX_BLOCK_WORDS * block + number), value);
+    }
+    return move_on(job, get16(record + PLEX_RECORD_A));
+}
+
+static uint32_t branch(const struct job *job, const uint8_t *record)
+{
+    const uint8_t *operand = record + PLEX_RECORD_OPERANDS;
+    uint32_t block = record[PLEX_RECORD_BLOCK], read = 0;
+    uint32_t p = operand_value(job->state, job->bytes, block, operand, &read);
+    uint32_t q = operand_value(job->state, job->bytes, block,
+                               operand + PLEX_OPERAND_SIZE, &read);
+    if ((read & ~get32(job->bytes + PLEX_THREAD_PRESENCE)) != 0)
+        return trap(job, PLEX_ABSENT_REGISTER);
+    bool holds = record[PLEX_RECORD_OPERATOR] == PLEX_EQUAL ? p == q : p < q;
+    return move_on(job, get16(record + (holds ? PLEX_RECORD_A : PLEX_RECORD_B)));
+}
+
+/* Direct SEND and CALL: the only statements that take a lock. */
+static uint32_t send_direct_or_call(const struct job *job, const uint8_t *record)
+{
+    uint8_t data[VALUES_SIZE] = {0};
+    uint32_t label = get16(record + PLEX_RECORD_A);
+    uint32_t block = block_of(job->program, label);
+    if (!read_data(job->state, job->bytes, record, data))
+        return trap(job, PLEX_ABSENT_REGISTER);
+    uint32_t reason = trap_of_direct_or_call(job->program, job->bytes, job->thread,
+                                               record, block);
+    if (reason != NO_TRAP)
+        return trap(job, reason);
+    if (other_holder(job->state, block, job->thread) != NO_THREAD)
+        return answer(PLEX_WAITING, block);
+    if (record[PLEX_RECORD_OPCODE] == PLEX_CALL) {
+        uint32_t returns = job->bytes[PLEX_THREAD_RETURN_COUNT]++;
+        put16(job->bytes + PLEX_THREAD_RETURNS + 2 * returns, get16(record + PLEX_RECORD_B));
+    }
+    put16(job->bytes + PLEX_THREAD_LOCKS, get16(job->bytes + PLEX_THREAD_LOCKS) | 1u << block);
+    set_registers(job, data, record[PLEX_RECORD_COUNT]);
+    return move_on(job, label);
+}
+
+static uint32_t send_buffered(const struct job *job, const uint8_t *record)
+{
+    uint8_t data[VALUES_SIZE] = {0};
+    if (!read_data(job->state, job->bytes, record, data))
+        return trap(job, PLEX_ABSENT_REGISTER);
+    uint32_t index = first_tree(job->state, job->thread);
+    uint8_t *tree = job->state + PLEX_STATE_TREES + PLEX_TREE_SIZE * index;
+    uint32_t pending = tree[PLEX_TREE_PENDING];
+    if (pending == PLEX_PENDING_MAX)
+        return trap(job, PLEX_PENDING_FULL);
+    uint8_t *signal = tree + PLEX_TREE_SIGNALS + PLEX_SIGNAL_SIZE * pending;
+    put16(signal + PLEX_SIGNAL_LABEL, get16(record + PLEX_RECORD_A));
+    signal[PLEX_SIGNAL_COUNT] = record[PLEX_RECORD_COUNT];
+    memcpy(signal + PLEX_SIGNAL_VALUES, data, VALUES_SIZE);
+    tree[PLEX_TREE_PENDING] = (uint8_t)(pending + 1);
+    return move_on(job, get16(record + PLEX_RECORD_B));
+}
+
+/* RETURN takes the newest return label and keeps the locks. */
+static uint32_t go_back(const struct job *job, const uint8_t *record)
+{
+    uint8_t data[VALUES_SIZE] = {0};
+    if (!read_data(job->state, job->bytes, record, data))
+        return trap(job, PLEX_ABSENT_REGISTER);
+    if (job->bytes[PLEX_THREAD_RETURN_COUNT] == 0)
+        return trap(job, PLEX_NO_RETURN_LABEL);
+    uint32_t newest = --job->bytes[PLEX_THREAD_RETURN_COUNT];
+    uint8_t *slot = job->bytes + PLEX_THREAD_RETURNS + 2 * newest;
+    uint32_t label = get16(slot);
+    put16(slot, 0);
+    set_registers(job, data, record[PLEX_RECORD_COUNT]);
+    return move_on(job, label);
+}
+
+/* TRANSFER writes its values and keeps the other registers. */
+static uint32_t transfer(const struct job *job, const uint8_t *record)
+{
+    uint8_t data[VALUES_SIZE];
+    memcpy(data, job->bytes + PLEX_THREAD_VALUES, VALUES_SIZE);
+    if (!read_data(job->state, job->bytes, record, data))
+        return trap(job, PLEX_ABSENT_REGISTER);
+    uint32_t presence = get32(job->bytes + PLEX_THREAD_PRESENCE);
+    put32(job->bytes + PLEX_THREAD_PRESENCE,
+          presence | first_registers(record[PLEX_RECORD_COUNT]));
+    memcpy(job->bytes + PLEX_THREAD_VALUES, data, VALUES_SIZE);
+    return move_on(job, get16(record + PLEX_RECORD_A));
+}
+
+uint32_t plain_step(const struct job *job)
+{
+    uint32_t label = get16(job->bytes + PLEX_THREAD_LABEL);
+    const uint8_t *record = record_at(job->program->image, label);
+    switch (record[PLEX_RECORD_OPCODE]) {
+    case PLEX_ASSIGN:        return assign(job, record);
+    case PLEX_IF:            return branch(job, record);
+    case PLEX_SEND_DIRECT:
+    case PLEX_CALL:          return send_direct_or_call(job, record);
+    case PLEX_SEND_BUFFERED: return send_buffered(job, record);
+    case PLEX_RETURN:        return go_back(job, record);
+    case PLEX_TRANSFER:      return transfer(job, record);
+    case PLEX_EXIT:          return plain_end_job(job, answer(PLEX_EXITED, 0));
+    default:            return move_on(job, get16(record + PLEX_RECORD_A));
+    }
+}

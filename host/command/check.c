@@ -1,0 +1,38 @@
+/* plex check: the image check on files. */
+#include "command.h"
+
+static uint32_t count_blocks(const uint8_t *image, uint32_t records)
+{
+    uint32_t named = 0, count = 0;
+    for (uint32_t label = 0; label < records; label++)
+        named |= 1u << record_at(image, label)[PLEX_RECORD_BLOCK];
+    for (; named != 0; named &= named - 1)
+        count++;
+    return count;
+}
+
+static void print_accepted(const struct lent *lent)
+{
+    uint32_t records = (uint32_t)(lent->image.size / PLEX_RECORD_SIZE);
+    uint32_t blocks = count_blocks(lent->image.bytes, records);
+    printf("%saccepted%s: %s, %u %s in %u %s, with %s\n", colour_on(stdout, GREEN),
+           colour_off(stdout), lent->image.path, records, records == 1 ? "record" : "records",
+           blocks, blocks == 1 ? "block" : "blocks", lent->table.path);
+}
+
+int check_command(int argc, char **argv)
+{
+    static const struct option no_options[] = {{NULL, NULL, NULL}};
+    const char *paths[2];
+    struct lent lent = {0};
+    if (!are_enough(take_arguments(argc, argv, no_options, paths, 2), 2))
+        return MISUSED;
+    bool accepted = lend(&lent.image, paths[0], PLEX_RECORD_SIZE * PLEX_RECORDS_MAX)
+        && lend(&lent.table, paths[1], PLEX_TABLE_SIZE)
+        && was_accepted(&lent, plex_check(lent.image.bytes, lent.image.size, lent.table.bytes,
+                                          lent.table.size));
+    if (accepted)
+        print_accepted(&lent);
+    free_lent(&lent);
+    return accepted ? DONE : TURNED_BACK;
+}

@@ -1,0 +1,71 @@
+/* What the parts of the command plex share. */
+#ifndef COMMAND_H
+#define COMMAND_H
+
+#include "files.h"
+#include "words.h"
+
+#include <stdbool.h>
+
+/* The status of the command: DONE, a file or what it holds turned back, or wrong use. */
+enum { DONE = 0, TURNED_BACK = 1, MISUSED = 2 };
+
+/* ---- The parts, each given the arguments after its name. */
+int check_command(int argc, char **argv);
+int show_command(int argc, char **argv);
+int run_command(int argc, char **argv);
+int state_command(int argc, char **argv);
+int waits_command(int argc, char **argv);
+
+/* ---- Arguments. */
+
+/* An option: with a value where it is to be put, or a flag. */
+struct option {
+    const char *name;
+    const char **value;
+    bool *flag;
+};
+
+/* Takes the options (a list that ends with a nameless one) and up to limit other arguments; the
+ * count of those, or -1 after a sentence about what is wrong. */
+int take_arguments(int argc, char **argv, const struct option *options, const char **others,
+                   int limit);
+
+/* Whether the count of other arguments is the one wanted; a sentence if not. */
+bool are_enough(int count, int wanted);
+
+/* ---- Sentences on standard error. */
+void complain(const char *format, ...) __attribute__((format(printf, 1, 2)));
+
+/* Whether the file could be read; a sentence if not. */
+bool lend(struct file *file, const char *path, size_t limit);
+
+/* The files lent to a call; those that it was not lent are empty. */
+struct lent {
+    struct file image, table, words, state, events;
+    uint64_t events_before; /* events of the file that earlier calls carried out */
+};
+
+void free_lent(struct lent *lent);
+
+/* Whether the file is as long as a state; a sentence if not. */
+bool is_state_long(const struct file *state);
+
+/* Whether the call was accepted; sentences about the cause, the file and the place if not. */
+bool was_accepted(const struct lent *lent, uint32_t result);
+
+/* Whether everything printed has reached standard output; a sentence if not. */
+bool is_printed(void);
+
+/* ---- Colour, which is only for a terminal. */
+enum colour { PLAIN, GREEN, YELLOW, RED, BOLD };
+
+/* The bytes that switch the colour on, or an empty string. */
+const char *colour_on(FILE *stream, enum colour colour);
+const char *colour_off(FILE *stream);
+
+/* A bar on standard error if that is a terminal; a total below what is done is not known. */
+void show_progress(uint64_t done, uint64_t total);
+void clear_progress(void);
+
+#endif

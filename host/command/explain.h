@@ -1,0 +1,25 @@
+/* Which rule a part of refused bytes seems to break. The library alone decides what is refused:
+ * these only look for words, and leave the line empty where they find none. */
+#ifndef EXPLAIN_H
+#define EXPLAIN_H
+
+#include "words.h"
+
+#include <stdbool.h>
+
+void explain_row(struct line *why, const uint8_t *table, uint32_t block);
+
+void explain_record(struct line *why, const uint8_t *image, uint32_t records, uint32_t label);
+
+void explain_event(struct line *why, const uint8_t *image, uint32_t records,
+                   const uint8_t *event);
+
+void explain_state(struct line *why, const uint8_t *image, uint32_t records,
+                   const uint8_t *table, const uint8_t *state);
+
+/* The count and the values of a signal or an arrival. */
+void explain_values(struct line *why, const uint8_t *signal);
+
+bool is_zero(const uint8_t *part, size_t size);
+
+#endif

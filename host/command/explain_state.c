@@ -1,0 +1,169 @@
+/* The rules of a well-formed state in words. */
+#include "explain.h"
+#include "names.h"
+
+/* A state and the image and table that it was lent with. */
+struct seen {
+    const uint8_t *image, *table, *state;
+    uint32_t records;
+};
+
+static bool is_running(const struct seen *seen, uint32_t thread)
+{
+    return get16(thread_at(seen->state, thread) + PLEX_THREAD_LABEL) != PLEX_IDLE;
+}
+
+/* The label of a running thread or one of its return labels. */
+static void explain_label(struct line *why, const struct seen *seen, uint32_t thread,
+                          uint32_t label)
+{
+    if (label >= seen->records) {
+        add(why, "thread %u has label %u, and the image's labels are below %u", thread, label,
+            seen->records);
+        return;
+    }
+    uint32_t block = record_at(seen->image, label)[PLEX_RECORD_BLOCK];
+    const uint8_t *row = row_at(seen->table, block);
+    if (!(get16(thread_at(seen->state, thread) + PLEX_THREAD_LOCKS) >> block & 1))
+        add(why, "thread %u has label %u without the lock of its block %u", thread, label, block);
+    else if (row[PLEX_ROW_KIND] != PLEX_CMX && row[PLEX_ROW_THREAD] != thread)
+        add(why, "thread %u has label %u, in FD block %u of thread %u", thread, label, block,
+            row[PLEX_ROW_THREAD]);
+}
+
+static void explain_registers(struct line *why, const uint8_t *bytes, uint32_t thread)
+{
+    uint32_t presence = get32(bytes + PLEX_THREAD_PRESENCE);
+    if (presence >> PLEX_REGISTERS != 0)
+        add(why, "thread %u has a presence bit above %d", thread, PLEX_REGISTERS - 1);
+    for (uint32_t r = 0; r < PLEX_REGISTERS && why->length == 0; r++)
+        if (!(presence >> r & 1) && get16(bytes + PLEX_THREAD_VALUES + 2 * r) != 0)
+            add(why, "absent register %u of thread %u is not 0", r, thread);
+}
+
+static void explain_running(struct line *why, const struct seen *seen, uint32_t thread)
+{
+    const uint8_t *bytes = thread_at(seen->state, thread);
+    uint32_t returns = bytes[PLEX_THREAD_RETURN_COUNT];
+    if (returns > PLEX_RETURNS_MAX) {
+        add(why, "thread %u has %u return labels, and a thread has at most %d", thread, returns,
+            PLEX_RETURNS_MAX);
+        return;
+    }
+    explain_label(why, seen, thread, get16(bytes + PLEX_THREAD_LABEL));
+    for (uint32_t i = 0; i < PLEX_RETURNS_MAX && why->length == 0; i++) {
+        uint32_t label = get16(bytes + PLEX_THREAD_RETURNS + 2 * i);
+        if (i < returns)
+            explain_label(why, seen, thread, label);
+        else if (label != 0)
+            add(why, "unused return label %u of thread %u is not 0", i, thread);
+    }
+    if (why->length == 0)
+        explain_registers(why, bytes, thread);
+}
+
+static void explain_thread(struct line *why, const struct seen *seen, uint32_t thread)
+{
+    const uint8_t *bytes = thread_at(seen->state, thread);
+    uint32_t locks = get16(bytes + PLEX_THREAD_LOCKS);
+    if (is_running(seen, thread))
+        explain_running(why, seen, thread);
+    else if (!is_zero(bytes + PLEX_THREAD_LOCKS, PLEX_THREAD_SIZE - PLEX_THREAD_LOCKS))
+        add(why, "thread %u is idle, and its other fields are not all 0", thread);
+    for (uint32_t other = 0; other < thread && why->length == 0; other++)
+        if (locks & get16(thread_at(seen->state, other) + PLEX_THREAD_LOCKS))
+            add(why, "threads %u and %u hold the same lock", other, thread);
+}
+
+static void explain_signal(struct line *why, const struct seen *seen, const uint8_t *signal)
+{
+    uint32_t label = get16(signal + PLEX_SIGNAL_LABEL);
+    if (label >= seen->records) {
+        add(why, "its label is %u, and the image's labels are below %u", label, seen->records);
+        return;
+    }
+    uint32_t entry = record_at(seen->image, label)[PLEX_RECORD_ENTRY];
+    if (entry != PLEX_BUFFERED && entry != PLEX_EXTERNAL)
+        add(why, "its label is %u, whose entry is %s, and not buffered or external", label,
+            entry_name(entry));
+    else
+        explain_values(why, signal);
+}
+
+/* A tree by itself. */
+static void explain_tree(struct line *why, const struct seen *seen, uint32_t tree)
+{
+    const uint8_t *bytes = tree_at(seen->state, tree);
+    uint32_t pending = bytes[PLEX_TREE_PENDING];
+    if (bytes[PLEX_TREE_THREAD] >= PLEX_THREADS) {
+        add(why, "tree %u has thread %u, and threads are 0 to %d", tree, bytes[PLEX_TREE_THREAD],
+            PLEX_THREADS - 1);
+    } else if (pending > PLEX_PENDING_MAX) {
+        add(why, "tree %u has %u pending signals, and a tree has at most %d", tree, pending,
+            PLEX_PENDING_MAX);
+    } else {
+        struct line fault = {0};
+        for (uint32_t i = 0; i < pending && why->length == 0; i++) {
+            explain_signal(&fault, seen, signal_at(bytes, i));
+            if (fault.length != 0)
+                add(why, "signal %u of tree %u: %s", i, tree, fault.text);
+        }
+        size_t unused = PLEX_SIGNAL_SIZE * (PLEX_PENDING_MAX - pending);
+        if (why->length == 0 && !is_zero(signal_at(bytes, pending), unused))
+            add(why, "a byte after the last signal of tree %u is not 0", tree);
+    }
+}
+
+/* A tree's place in the queue of its thread, given that the tree by itself is well formed. */
+static void explain_queued(struct line *why, const struct seen *seen, uint32_t tree,
+                           bool is_first)
+{
+    const uint8_t *bytes = tree_at(seen->state, tree);
+    uint32_t thread = bytes[PLEX_TREE_THREAD];
+    if (is_first && is_running(seen, thread))
+        return;
+    if (bytes[PLEX_TREE_PENDING] == 0) {
+        add(why, "tree %u has no pending signal and is not a running thread's first", tree);
+        return;
+    }
+    uint32_t label = get16(signal_at(bytes, 0) + PLEX_SIGNAL_LABEL);
+    uint32_t block = record_at(seen->image, label)[PLEX_RECORD_BLOCK];
+    uint32_t owner = row_at(seen->table, block)[PLEX_ROW_THREAD];
+    if (owner != thread)
+        add(why, "tree %u is on thread %u, and its first signal goes to block %u of thread %u",
+            tree, thread, block, owner);
+}
+
+/* The trees in list order, and that every running thread has one. */
+static void explain_trees(struct line *why, const struct seen *seen)
+{
+    uint32_t count = seen->state[PLEX_STATE_TREE_COUNT], with_tree = 0;
+    if (count > PLEX_TREES_MAX) {
+        add(why, "the tree count is %u, and a machine has at most %d", count, PLEX_TREES_MAX);
+        return;
+    }
+    for (uint32_t tree = 0; tree < count && why->length == 0; tree++) {
+        explain_tree(why, seen, tree);
+        if (why->length != 0)
+            return;
+        uint32_t thread = tree_at(seen->state, tree)[PLEX_TREE_THREAD];
+        explain_queued(why, seen, tree, !(with_tree >> thread & 1));
+        with_tree |= 1u << thread;
+    }
+    for (uint32_t thread = 0; thread < PLEX_THREADS && why->length == 0; thread++)
+        if (is_running(seen, thread) && !(with_tree >> thread & 1))
+            add(why, "thread %u is running and has no tree", thread);
+    size_t unused = PLEX_TREE_SIZE * (PLEX_TREES_MAX - count);
+    if (why->length == 0 && !is_zero(tree_at(seen->state, count), unused))
+        add(why, "a byte after the last of the %u trees is not 0", count);
+}
+
+void explain_state(struct line *why, const uint8_t *image, uint32_t records,
+                   const uint8_t *table, const uint8_t *state)
+{
+    struct seen seen = {image, table, state, records};
+    for (uint32_t thread = 0; thread < PLEX_THREADS && why->length == 0; thread++)
+        explain_thread(why, &seen, thread);
+    if (why->length == 0)
+        explain_trees(why, &seen);
+}

@@ -1,0 +1,141 @@
+/* Sentences about what went wrong: which file, which part of it, and why. */
+#include "command.h"
+#include "explain.h"
+#include "names.h"
+
+#include <errno.h>
+#include <inttypes.h>
+#include <stdarg.h>
+#include <stdlib.h>
+#include <string.h>
+
+void complain(const char *format, ...)
+{
+    va_list arguments;
+    fflush(stdout);
+    va_start(arguments, format);
+    fprintf(stderr, "%splex:%s ", colour_on(stderr, RED), colour_off(stderr));
+    vfprintf(stderr, format, arguments);
+    fprintf(stderr, "\n");
+    va_end(arguments);
+}
+
+bool lend(struct file *file, const char *path, size_t limit)
+{
+    int failed = read_file(file, path, limit);
+    if (failed)
+        complain("%s: cannot be read: %s", path, strerror(failed));
+    return !failed;
+}
+
+void free_lent(struct lent *lent)
+{
+    free(lent->image.bytes);
+    free(lent->table.bytes);
+    free(lent->words.bytes);
+    free(lent->state.bytes);
+    free(lent->events.bytes);
+}
+
+/* A file of the wrong length, of which limit + 1 bytes were read if it is longer. */
+static void report_length(const struct file *file, size_t limit, const char *expected)
+{
+    if (file->size > limit)
+        complain("%s: more than %zu bytes; %s", file->path, limit, expected);
+    else
+        complain("%s: %zu bytes; %s", file->path, file->size, expected);
+}
+
+bool is_state_long(const struct file *state)
+{
+    if (state->size != PLEX_STATE_SIZE)
+        report_length(state, PLEX_STATE_SIZE, "a state is 7,929 bytes");
+    return state->size == PLEX_STATE_SIZE;
+}
+
+static void add_cause(struct line *line, const struct line *why)
+{
+    if (why->length != 0)
+        add(line, "\n      %s", why->text);
+}
+
+static void report_row(const struct lent *lent, uint32_t block)
+{
+    const uint8_t *row = row_at(lent->table.bytes, block);
+    struct line line = {0}, why = {0};
+    explain_row(&why, lent->table.bytes, block);
+    add_cause(&line, &why);
+    complain("%s: block %u (thread %u, kind %u) has a field out of range%s", lent->table.path,
+             block, row[PLEX_ROW_THREAD], row[PLEX_ROW_KIND], line.text);
+}
+
+static uint32_t records_of(const struct lent *lent)
+{
+    return (uint32_t)(lent->image.size / PLEX_RECORD_SIZE);
+}
+
+static void report_record(const struct lent *lent, uint32_t label)
+{
+    struct line line = {0}, why = {0};
+    add_statement(&line, record_at(lent->image.bytes, label));
+    explain_record(&why, lent->image.bytes, records_of(lent), label);
+    add_cause(&line, &why);
+    complain("%s: the record at label %u (block %u) breaks a rule: %s", lent->image.path, label,
+             record_at(lent->image.bytes, label)[PLEX_RECORD_BLOCK], line.text);
+}
+
+static void report_state(const struct lent *lent)
+{
+    struct line line = {0}, why = {0};
+    explain_state(&why, lent->image.bytes, records_of(lent), lent->table.bytes,
+                  lent->state.bytes);
+    add_cause(&line, &why);
+    complain("%s: not well formed with %s and %s%s", lent->state.path, lent->image.path,
+             lent->table.path, line.text);
+}
+
+static void report_event(const struct lent *lent, uint32_t index)
+{
+    const uint8_t *event = lent->events.bytes + PLEX_EVENT_SIZE * index;
+    struct line line = {0}, why = {0};
+    add_event(&line, event);
+    explain_event(&why, lent->image.bytes, records_of(lent), event);
+    add_cause(&line, &why);
+    complain("%s: event %" PRIu64 " breaks a rule: %s", lent->events.path,
+             lent->events_before + index, line.text);
+}
+
+bool was_accepted(const struct lent *lent, uint32_t result)
+{
+    uint32_t number = PLEX_NUMBER(result), place = PLEX_PLACE(result);
+    switch (number) {
+    case 0: return true;
+    case PLEX_BAD_IMAGE_LENGTH:
+        report_length(&lent->image, PLEX_RECORD_SIZE * PLEX_RECORDS_MAX,
+                      "an image is 84 bytes a record, 1 to 512 records");
+        break;
+    case PLEX_BAD_TABLE_LENGTH:
+        report_length(&lent->table, PLEX_TABLE_SIZE, "a block table is 32 bytes");
+        break;
+    case PLEX_BAD_TABLE_FIELD: report_row(lent, place); break;
+    case PLEX_BAD_RECORD: report_record(lent, place); break;
+    case PLEX_BAD_STATE_LENGTH: is_state_long(&lent->state); break;
+    case PLEX_BAD_STATE: report_state(lent); break;
+    case PLEX_BAD_EVENT: report_event(lent, place); break;
+    case PLEX_BAD_WORDS_LENGTH:
+        report_length(&lent->words, PLEX_WORDS_SIZE, "initial words are 512 bytes");
+        break;
+    default: complain("%s", refusal_name(number));
+    }
+    fprintf(stderr, "      refused with number %u, place %u\n", number, place);
+    return false;
+}
+
+bool is_printed(void)
+{
+    errno = 0;
+    bool printed = fflush(stdout) == 0 && !ferror(stdout);
+    if (!printed)
+        complain("standard output cannot be written: %s", strerror(errno != 0 ? errno : EIO));
+    return printed;
+}

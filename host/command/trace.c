@@ -1,0 +1,80 @@
+#include "trace.h"
+#include "command.h"
+#include "names.h"
+
+#include <inttypes.h>
+
+void count_answer(struct tally *tally, const uint8_t *answer)
+{
+    tally->events++;
+    tally->codes[answer[PLEX_ANSWER_CODE]]++;
+    if (answer[PLEX_ANSWER_CODE] == PLEX_TRAPPED)
+        tally->traps[answer[PLEX_ANSWER_DETAIL]]++;
+}
+
+static enum colour colour_of(uint32_t code)
+{
+    switch (code) {
+    case PLEX_ARRIVED:
+    case PLEX_STARTED:
+    case PLEX_EXITED: return GREEN;
+    case PLEX_TRAPPED:
+    case PLEX_WAS_CUT: return RED;
+    case PLEX_MOVED_ON: return PLAIN;
+    default: return YELLOW;
+    }
+}
+
+/* The statement at the label that the thread was at, if it was running. */
+static void add_carried_out(struct line *line, const uint8_t *image, const uint8_t *thread)
+{
+    uint32_t label = get16(thread + PLEX_THREAD_LABEL);
+    if (label == PLEX_IDLE)
+        return;
+    add(line, ", label %u: ", label);
+    add_statement(line, record_at(image, label));
+}
+
+void print_traced(uint64_t index, const uint8_t *image, const uint8_t *event,
+                  const uint8_t *answer, const uint8_t *before, const uint8_t *after)
+{
+    uint32_t code = answer[PLEX_ANSWER_CODE], thread = event[PLEX_EVENT_THREAD];
+    struct line what = {0}, said = {0}, where = {0};
+    add_event(&what, event);
+    add_answer(&said, answer);
+    if (event[PLEX_EVENT_KIND] != PLEX_ARRIVAL) {
+        add_carried_out(&what, image, thread_at(before, thread));
+        add_thread(&where, thread_at(after, thread));
+    }
+    printf("%8" PRIu64 "  %-64s  %s%s%s", index, what.text, colour_on(stdout, colour_of(code)),
+           said.text, colour_off(stdout));
+    printf(where.length == 0 ? "\n" : "; %s\n", where.text);
+}
+
+static void print_running(const uint8_t *state)
+{
+    bool any = false;
+    for (uint32_t thread = 0; thread < PLEX_THREADS; thread++)
+        if (get16(thread_at(state, thread) + PLEX_THREAD_LABEL) != PLEX_IDLE) {
+            printf("%s %u", any ? "" : "threads running:", thread);
+            any = true;
+        }
+    printf(any ? "\n" : "all threads idle\n");
+}
+
+void print_summary(const struct tally *tally, const uint8_t *state)
+{
+    printf("%" PRIu64 " %s in %" PRIu64 " %s\n", tally->events,
+           tally->events == 1 ? "event" : "events", tally->calls,
+           tally->calls == 1 ? "call" : "calls");
+    for (uint32_t code = 0; code < 256; code++)
+        if (tally->codes[code] != 0)
+            printf("  %10" PRIu64 "  %s\n", tally->codes[code], code_name(code));
+    for (uint32_t reason = 0; reason < 256; reason++)
+        if (tally->traps[reason] != 0)
+            printf("  %10" PRIu64 "  of the traps: %u, %s\n", tally->traps[reason], reason,
+                   trap_name(reason));
+    uint32_t trees = state[PLEX_STATE_TREE_COUNT];
+    printf("%u %s live; ", trees, trees == 1 ? "tree" : "trees");
+    print_running(state);
+}

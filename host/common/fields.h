@@ -1,0 +1,64 @@
+/* Where the parts of lent bytes lie, and how a field is read and written. */
+#ifndef FIELDS_H
+#define FIELDS_H
+
+#include "plex.h"
+
+static inline uint32_t get16(const uint8_t *at)
+{
+    return at[0] | (uint32_t)at[1] << 8;
+}
+
+static inline uint32_t get32(const uint8_t *at)
+{
+    return get16(at) | get16(at + 2) << 16;
+}
+
+static inline void put16(uint8_t *at, uint32_t value)
+{
+    at[0] = (uint8_t)value;
+    at[1] = (uint8_t)(value >> 8);
+}
+
+static inline void put32(uint8_t *at, uint32_t value)
+{
+    put16(at, value);
+    put16(at + 2, value >> 16);
+}
+
+static inline const uint8_t *record_at(const uint8_t *image, uint32_t label)
+{
+    return image + PLEX_RECORD_SIZE * label;
+}
+
+static inline const uint8_t *operand_at(const uint8_t *record, uint32_t index)
+{
+    return record + PLEX_RECORD_OPERANDS + PLEX_OPERAND_SIZE * index;
+}
+
+static inline const uint8_t *row_at(const uint8_t *table, uint32_t block)
+{
+    return table + PLEX_ROW_SIZE * block;
+}
+
+static inline const uint8_t *word_at(const uint8_t *state, uint32_t block, uint32_t word)
+{
+    return state + PLEX_STATE_WORDS + 2 * (PLEX_BLOCK_WORDS * block + word);
+}
+
+static inline const uint8_t *thread_at(const uint8_t *state, uint32_t thread)
+{
+    return state + PLEX_STATE_THREADS + PLEX_THREAD_SIZE * thread;
+}
+
+static inline const uint8_t *tree_at(const uint8_t *state, uint32_t tree)
+{
+    return state + PLEX_STATE_TREES + PLEX_TREE_SIZE * tree;
+}
+
+static inline const uint8_t *signal_at(const uint8_t *tree, uint32_t index)
+{
+    return tree + PLEX_TREE_SIGNALS + PLEX_SIGNAL_SIZE * index;
+}
+
+#endif

@@ -1,0 +1,194 @@
+#include "words.h"
+#include "names.h"
+
+#include <stdarg.h>
+#include <stdio.h>
+
+void add(struct line *line, const char *format, ...)
+{
+    size_t room = sizeof line->text - line->length;
+    va_list arguments;
+    va_start(arguments, format);
+    int wanted = vsnprintf(line->text + line->length, room, format, arguments);
+    va_end(arguments);
+    if (wanted > 0)
+        line->length += (size_t)wanted < room ? (size_t)wanted : room - 1;
+}
+
+/* A count byte, but no more than there is room for in the bytes that follow it. */
+static uint32_t at_most(uint8_t count, uint32_t limit)
+{
+    return count < limit ? count : limit;
+}
+
+static void add_operand(struct line *line, const uint8_t *operand)
+{
+    uint32_t value = get16(operand + PLEX_OPERAND_VALUE);
+    switch (operand[PLEX_OPERAND_KIND]) {
+    case PLEX_NUMBER_OPERAND: add(line, "%u", value); break;
+    case PLEX_REGISTER_OPERAND: add(line, "r%u", value); break;
+    case PLEX_WORD_OPERAND: add(line, "w%u", value); break;
+    default: add(line, "(kind %u: %u)", operand[PLEX_OPERAND_KIND], value);
+    }
+}
+
+/* The data of opcodes 5 to 9. */
+static void add_data(struct line *line, const uint8_t *record)
+{
+    uint32_t count = at_most(record[PLEX_RECORD_COUNT], PLEX_REGISTERS);
+    for (uint32_t i = 0; i < count; i++) {
+        add(line, i == 0 ? " WITH " : ", ");
+        add_operand(line, operand_at(record, i));
+    }
+}
+
+/* Two operands with the operator between them. */
+static void add_pair(struct line *line, const uint8_t *p, const char *operator)
+{
+    add_operand(line, p);
+    add(line, " %s ", operator);
+    add_operand(line, p + PLEX_OPERAND_SIZE);
+}
+
+static void add_assign(struct line *line, const uint8_t *record)
+{
+    uint32_t operator = record[PLEX_RECORD_OPERATOR];
+    add(line, "ASSIGN ");
+    add_operand(line, operand_at(record, 0));
+    add(line, " := ");
+    if (operator == PLEX_COPY)
+        add_operand(line, operand_at(record, 1));
+    else
+        add_pair(line, operand_at(record, 1), assign_operator_name(operator));
+    add(line, ", on to %u", get16(record + PLEX_RECORD_A));
+}
+
+static void add_if(struct line *line, const uint8_t *record)
+{
+    add(line, "IF ");
+    add_pair(line, operand_at(record, 0), if_operator_name(record[PLEX_RECORD_OPERATOR]));
+    add(line, " THEN %u ELSE %u", get16(record + PLEX_RECORD_A), get16(record + PLEX_RECORD_B));
+}
+
+static void add_signalling(struct line *line, const uint8_t *record)
+{
+    uint32_t opcode = record[PLEX_RECORD_OPCODE];
+    add(line, "%s", opcode_name(opcode));
+    if (opcode != PLEX_RETURN)
+        add(line, " to %u", get16(record + PLEX_RECORD_A));
+    add_data(line, record);
+    if (opcode == PLEX_SEND_BUFFERED)
+        add(line, ", on to %u", get16(record + PLEX_RECORD_B));
+    if (opcode == PLEX_CALL)
+        add(line, ", return to %u", get16(record + PLEX_RECORD_B));
+}
+
+void add_statement(struct line *line, const uint8_t *record)
+{
+    uint32_t opcode = record[PLEX_RECORD_OPCODE];
+    switch (opcode) {
+    case PLEX_SKIP: add(line, "SKIP, on to %u", get16(record + PLEX_RECORD_A)); break;
+    case PLEX_GOTO: add(line, "GOTO %u", get16(record + PLEX_RECORD_A)); break;
+    case PLEX_ASSIGN: add_assign(line, record); break;
+    case PLEX_IF: add_if(line, record); break;
+    case PLEX_SEND_DIRECT:
+    case PLEX_SEND_BUFFERED:
+    case PLEX_CALL:
+    case PLEX_RETURN:
+    case PLEX_TRANSFER: add_signalling(line, record); break;
+    case PLEX_EXIT: add(line, "EXIT"); break;
+    default: add(line, "unknown opcode %u", opcode);
+    }
+}
+
+void add_record(struct line *line, const uint8_t *image, uint32_t label)
+{
+    const uint8_t *record = record_at(image, label);
+    uint32_t entry = record[PLEX_RECORD_ENTRY];
+    add(line, "%3u  %-8s  ", label, entry == PLEX_NO_ENTRY ? "" : entry_name(entry));
+    add_statement(line, record);
+}
+
+/* The values of a signal or an arrival, which is laid out alike. */
+static void add_values(struct line *line, const uint8_t *signal)
+{
+    uint32_t count = at_most(signal[PLEX_SIGNAL_COUNT], PLEX_REGISTERS);
+    for (uint32_t i = 0; i < count; i++)
+        add(line, "%s%u", i == 0 ? " WITH " : ", ", get16(signal + PLEX_SIGNAL_VALUES + 2 * i));
+}
+
+void add_event(struct line *line, const uint8_t *event)
+{
+    uint32_t kind = event[PLEX_EVENT_KIND];
+    const uint8_t *signal = event + PLEX_EVENT_SIGNAL;
+    if (kind == PLEX_ARRIVAL) {
+        add(line, "arrival at %u", get16(signal + PLEX_SIGNAL_LABEL));
+        add_values(line, signal);
+    } else if (kind == PLEX_STEP || kind == PLEX_CUT) {
+        add(line, "%s of thread %u", event_kind_name(kind), event[PLEX_EVENT_THREAD]);
+    } else {
+        add(line, "unknown kind %u", kind);
+    }
+}
+
+void add_answer(struct line *line, const uint8_t *answer)
+{
+    uint32_t code = answer[PLEX_ANSWER_CODE], detail = answer[PLEX_ANSWER_DETAIL];
+    add(line, "%s", code_name(code));
+    if (code == PLEX_WAITING)
+        add(line, " for the lock of block %u", detail);
+    if (code == PLEX_TRAPPED)
+        add(line, " %u, %s", detail, trap_name(detail));
+}
+
+static void add_locks(struct line *line, uint32_t locks)
+{
+    add(line, locks == 0 ? " none" : "");
+    for (uint32_t lock = 0; lock < PLEX_BLOCKS; lock++)
+        if (locks >> lock & 1)
+            add(line, " %u", lock);
+}
+
+void add_thread(struct line *line, const uint8_t *thread)
+{
+    uint32_t label = get16(thread + PLEX_THREAD_LABEL);
+    uint32_t returns = at_most(thread[PLEX_THREAD_RETURN_COUNT], PLEX_RETURNS_MAX);
+    if (label == PLEX_IDLE)
+        add(line, "idle");
+    else
+        add(line, "at label %u", label);
+    add(line, ", locks");
+    add_locks(line, get16(thread + PLEX_THREAD_LOCKS));
+    add(line, ", return labels%s", returns == 0 ? " none" : "");
+    for (uint32_t i = 0; i < returns; i++)
+        add(line, " %u", get16(thread + PLEX_THREAD_RETURNS + 2 * i));
+}
+
+void add_registers(struct line *line, const uint8_t *thread)
+{
+    uint32_t presence = get32(thread + PLEX_THREAD_PRESENCE);
+    const char *gap = "";
+    for (uint32_t r = 0; r < PLEX_REGISTERS; r++)
+        if (presence >> r & 1) {
+            add(line, "%sr%u=%u", gap, r, get16(thread + PLEX_THREAD_VALUES + 2 * r));
+            gap = " ";
+        }
+    add(line, presence == 0 ? "none" : "");
+}
+
+void add_signal(struct line *line, const uint8_t *signal)
+{
+    add(line, "label %u", get16(signal + PLEX_SIGNAL_LABEL));
+    add_values(line, signal);
+}
+
+void add_walk(struct line *line, const uint8_t *met, uint32_t result)
+{
+    add(line, "thread %u", met[0]);
+    for (uint32_t i = 1; i < PLEX_MET_SIZE && met[i] != PLEX_UNMET; i++)
+        add(line, "%s waits for thread %u", i == 1 ? "" : ", which", met[i]);
+    if (result & PLEX_RING)
+        add(line, ", and a ring closes");
+    else
+        add(line, met[1] == PLEX_UNMET ? " does not wait" : ", which does not wait");
+}

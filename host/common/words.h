@@ -1,0 +1,40 @@
+/* Records, events, answers and parts of the state as words for a person. They take any bytes of
+ * the right length, also such as the library refuses. */
+#ifndef WORDS_H
+#define WORDS_H
+
+#include "fields.h"
+
+/* A line in the making; what does not fit is left off. */
+struct line {
+    char text[1024];
+    size_t length;
+};
+
+void add(struct line *line, const char *format, ...) __attribute__((format(printf, 2, 3)));
+
+/* As "CALL to 3 WITH r0, return to 1": r is a register, w a shared word of the record's block. */
+void add_statement(struct line *line, const uint8_t *record);
+
+/* As "  3  direct    CALL to 6 WITH r0, return to 4": label, entry and statement. */
+void add_record(struct line *line, const uint8_t *image, uint32_t label);
+
+/* As "arrival at 0 WITH 25" or "step of thread 3". */
+void add_event(struct line *line, const uint8_t *event);
+
+/* As "waiting for the lock of block 3". */
+void add_answer(struct line *line, const uint8_t *answer);
+
+/* As "at label 3, locks 0 1, return labels 1"; an idle thread is "idle" in place of "at". */
+void add_thread(struct line *line, const uint8_t *thread);
+
+/* As "r0=25 r2=7", or "none". */
+void add_registers(struct line *line, const uint8_t *thread);
+
+/* As "label 4 WITH 7, 9". */
+void add_signal(struct line *line, const uint8_t *signal);
+
+/* As "thread 1 waits for thread 0, which does not wait": what an accepted walk wrote. */
+void add_walk(struct line *line, const uint8_t *met, uint32_t result);
+
+#endif

@@ -1,0 +1,85 @@
+#include "case.h"
+#include "build.h"
+
+#include <string.h>
+
+/* North's guest calls North's charging, which calls the tariffs. Those want the price of a pulse
+ * in register 1, and nobody has sent it. South's guest does RETURN, and nobody has called it. The
+ * audit calls North's charging to read the charge. */
+static const struct statement program[CASE_RECORDS] = {
+    {NORTH_GUEST, PLEX_EXTERNAL, PLEX_CALL, 0, 3, 1, 1, {REGISTER(0)}},
+    {NORTH_GUEST, PLEX_NO_ENTRY, PLEX_ASSIGN, PLEX_ADD, 2, 0, 3, {WORD(0), WORD(0), NUMBER(1)}},
+    {NORTH_GUEST, PLEX_NO_ENTRY, PLEX_EXIT, 0, 0, 0, 0, {NUMBER(0)}},
+    {NORTH_CHARGING, PLEX_DIRECT, PLEX_CALL, 0, 6, 4, 1, {REGISTER(0)}},
+    {NORTH_CHARGING, PLEX_NO_ENTRY, PLEX_ASSIGN, PLEX_ADD, 5, 0, 3,
+     {WORD(0), WORD(0), REGISTER(0)}},
+    {NORTH_CHARGING, PLEX_NO_ENTRY, PLEX_RETURN, 0, 0, 0, 0, {NUMBER(0)}},
+    {TARIFFS, PLEX_DIRECT, PLEX_ASSIGN, PLEX_MULTIPLY, 7, 0, 3,
+     {REGISTER(0), REGISTER(0), REGISTER(1)}},
+    {TARIFFS, PLEX_NO_ENTRY, PLEX_RETURN, 0, 0, 0, 1, {REGISTER(0)}},
+    {SOUTH_GUEST, PLEX_EXTERNAL, PLEX_RETURN, 0, 0, 0, 1, {REGISTER(0)}},
+    {AUDIT, PLEX_EXTERNAL, PLEX_CALL, 0, 12, 10, 0, {NUMBER(0)}},
+    {AUDIT, PLEX_NO_ENTRY, PLEX_ASSIGN, PLEX_COPY, 11, 0, 2, {WORD(0), REGISTER(0)}},
+    {AUDIT, PLEX_NO_ENTRY, PLEX_EXIT, 0, 0, 0, 0, {NUMBER(0)}},
+    {NORTH_CHARGING, PLEX_DIRECT, PLEX_RETURN, 0, 0, 0, 1, {WORD(0)}},
+};
+
+static const struct {
+    const char *name;
+    uint8_t thread;
+    uint16_t first_word;
+} blocks[CASE_BLOCKS] = {
+    [NORTH_GUEST] = {"North's guest", 0, 0},
+    [NORTH_CHARGING] = {"North's charging", 0, 120},
+    [TARIFFS] = {"the tariffs", 0, 0},
+    [SOUTH_GUEST] = {"South's guest", 0, 75},
+    [AUDIT] = {"the audit", 1, 0},
+};
+
+/* The thread of each step after the three arrivals. */
+static const uint8_t stepped[] = {0, 0, 1, 1, 0, 0, 1, 0, 0, 1, 1, 1};
+
+static const char *const notes[CASE_EVENTS] = {
+    [0] = "North's guest, to be charged for 25 pulses",
+    [1] = "South's guest",
+    [2] = "the audit",
+    [6] = "the audit calls North's charging, where North's job is",
+    [8] = "North's job inside its second nested call, with no price of a pulse",
+    [9] = "the audit once more",
+    [10] = "South's guest on the thread that North's job had",
+    [11] = "South's RETURN, which no CALL of South's went before",
+};
+
+const char *case_event_note(uint32_t index)
+{
+    return index < CASE_EVENTS ? notes[index] : NULL;
+}
+
+const char *case_block_name(uint32_t block)
+{
+    return block < CASE_BLOCKS ? blocks[block].name : "no block of the case";
+}
+
+static void make_events(uint8_t *event)
+{
+    static const uint16_t north_pulses[] = {25}, south_value[] = {999};
+    put_arrival(event, 0, north_pulses, 1);
+    put_arrival(event += PLEX_EVENT_SIZE, 8, south_value, 1);
+    put_arrival(event += PLEX_EVENT_SIZE, 9, NULL, 0);
+    for (size_t i = 0; i < sizeof stepped; i++)
+        put_step(event += PLEX_EVENT_SIZE, stepped[i]);
+}
+
+void make_case(struct field_case *made)
+{
+    memset(made, 0, sizeof *made);
+    for (uint32_t label = 0; label < CASE_RECORDS; label++)
+        put_statement(made->image + PLEX_RECORD_SIZE * label, &program[label]);
+    for (uint32_t block = 0; block < CASE_BLOCKS; block++) {
+        uint8_t *row = made->table + PLEX_ROW_SIZE * block;
+        row[PLEX_ROW_THREAD] = blocks[block].thread;
+        row[PLEX_ROW_KIND] = PLEX_CMX;
+        put16(made->words + 2 * PLEX_BLOCK_WORDS * block, blocks[block].first_word);
+    }
+    make_events(made->events);
+}

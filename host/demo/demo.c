@@ -1,0 +1,169 @@
+/* The case from the field, replayed: a guest's job traps inside its second nested call, and the
+ * next guest on the same thread does RETURN. An engine that kept the return labels of the ended
+ * job would let South's RETURN go on at label 4 and charge North for it; one that kept its locks
+ * would let the audit wait for ever.
+ *
+ * Use: demo          prints the trace; the status is 1 if a charging word changed
+ *      demo FOLDER   writes the case there as the files of the command plex */
+#include "case.h"
+#include "fields.h"
+#include "files.h"
+#include "names.h"
+#include "words.h"
+
+#include <stdio.h>
+#include <string.h>
+
+static struct field_case field;
+static uint8_t state[PLEX_STATE_SIZE];
+
+/* Whether a call was accepted; says so if not. */
+static int accepted(const char *call, uint32_t result)
+{
+    if (PLEX_NUMBER(result) == 0)
+        return 1;
+    fprintf(stderr, "demo: %s refused: %s, place %u\n", call,
+            refusal_name(PLEX_NUMBER(result)), PLEX_PLACE(result));
+    return 0;
+}
+
+static void print_program(void)
+{
+    for (uint32_t block = 0; block < CASE_BLOCKS; block++) {
+        const uint8_t *row = row_at(field.table, block);
+        printf("block %u, %s: %s, thread %u\n", block, case_block_name(block),
+               block_kind_name(row[PLEX_ROW_KIND]), row[PLEX_ROW_THREAD]);
+        for (uint32_t label = 0; label < CASE_RECORDS; label++)
+            if (record_at(field.image, label)[PLEX_RECORD_BLOCK] == block) {
+                struct line line = {0};
+                add_record(&line, field.image, label);
+                printf("  %s\n", line.text);
+            }
+    }
+}
+
+static uint32_t north_charge(void)
+{
+    return get16(word_at(state, NORTH_CHARGING, 0));
+}
+
+static uint32_t south_charge(void)
+{
+    return get16(word_at(state, SOUTH_GUEST, 0));
+}
+
+static void print_event(uint32_t index, const uint8_t *event)
+{
+    const char *note = case_event_note(index);
+    struct line line = {0};
+    add_event(&line, event);
+    if (note != NULL)
+        add(&line, " (%s)", note);
+    printf("\nevent %u: %s\n", index, line.text);
+}
+
+static void print_thread(const char *when, uint32_t thread)
+{
+    struct line line = {0};
+    add_thread(&line, thread_at(state, thread));
+    printf("    %-9s thread %u %s\n", when, thread, line.text);
+}
+
+/* The statement that a step of a running thread is about to carry out. */
+static void print_statement(uint32_t thread)
+{
+    uint32_t label = get16(thread_at(state, thread) + PLEX_THREAD_LABEL);
+    struct line line = {0};
+    if (label == PLEX_IDLE)
+        return;
+    add_statement(&line, record_at(field.image, label));
+    printf("    statement label %u: %s\n", label, line.text);
+}
+
+static void print_answer(const uint8_t *answer)
+{
+    struct line line = {0};
+    add_answer(&line, answer);
+    printf("    answer    code %u, detail %u: %s\n", answer[PLEX_ANSWER_CODE],
+           answer[PLEX_ANSWER_DETAIL], line.text);
+}
+
+/* Who is in the way of a thread that was told to wait. */
+static int print_walk(uint32_t thread)
+{
+    uint8_t met[PLEX_MET_SIZE];
+    uint32_t result = plex_walk(field.image, sizeof field.image, field.table, sizeof field.table,
+                                state, sizeof state, thread, met, sizeof met);
+    if (!accepted("plex_walk", result))
+        return 0;
+    struct line line = {0};
+    add_walk(&line, met, result);
+    printf("    the walk  %s\n", line.text);
+    return 1;
+}
+
+static int replay(uint32_t index)
+{
+    const uint8_t *event = field.events + PLEX_EVENT_SIZE * index;
+    uint32_t thread = event[PLEX_EVENT_THREAD];
+    int is_arrival = event[PLEX_EVENT_KIND] == PLEX_ARRIVAL;
+    uint8_t answer[PLEX_ANSWER_SIZE];
+    print_event(index, event);
+    if (!is_arrival) {
+        print_thread("before", thread);
+        print_statement(thread);
+    }
+    if (!accepted("plex_run", plex_run(field.image, sizeof field.image, field.table,
+                                       sizeof field.table, state, sizeof state, event,
+                                       PLEX_EVENT_SIZE, answer, sizeof answer)))
+        return 0;
+    print_answer(answer);
+    if (!is_arrival)
+        print_thread("after", thread);
+    printf("    charges   North %u, South %u\n", north_charge(), south_charge());
+    return answer[PLEX_ANSWER_CODE] != PLEX_WAITING || print_walk(thread);
+}
+
+static int trace(void)
+{
+    print_program();
+    if (!accepted("plex_check", plex_check(field.image, sizeof field.image, field.table,
+                                           sizeof field.table))
+        || !accepted("plex_fresh", plex_fresh(field.image, sizeof field.image, field.table,
+                                              sizeof field.table, field.words,
+                                              sizeof field.words, state, sizeof state)))
+        return 1;
+    uint32_t north = north_charge(), south = south_charge();
+    printf("\nThe image and the table are accepted, and a fresh machine is made.\n"
+           "charges: North %u (block %d, word 0), South %u (block %d, word 0)\n",
+           north, NORTH_CHARGING, south, SOUTH_GUEST);
+    for (uint32_t index = 0; index < CASE_EVENTS; index++)
+        if (!replay(index))
+            return 1;
+    int kept = north_charge() == north && south_charge() == south;
+    printf("\nThe charging words %s: North %u, South %u. The audit read %u.\n",
+           kept ? "are as they were" : "CHANGED", north_charge(), south_charge(),
+           get16(word_at(state, AUDIT, 0)));
+    return kept ? 0 : 1;
+}
+
+static int write_part(const char *folder, const char *name, const uint8_t *bytes, size_t size)
+{
+    char path[4096];
+    snprintf(path, sizeof path, "%s/%s", folder, name);
+    int failed = write_file(path, bytes, size);
+    if (failed)
+        fprintf(stderr, "demo: %s: cannot be written: %s\n", path, strerror(failed));
+    return failed;
+}
+
+int main(int argc, char **argv)
+{
+    make_case(&field);
+    if (argc < 2)
+        return trace();
+    return write_part(argv[1], "case.image", field.image, sizeof field.image)
+        || write_part(argv[1], "case.table", field.table, sizeof field.table)
+        || write_part(argv[1], "case.words", field.words, sizeof field.words)
+        || write_part(argv[1], "case.events", field.events, sizeof field.events);
+}

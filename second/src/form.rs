@@ -1,0 +1,50 @@
+//! The rules of a well formed state that hold between its parts. Those within
+//! one part (counts, unused bytes, labels, presence) are tested as it is read.
+
+use crate::image::{Entry, Program};
+use crate::job::Job;
+use crate::sorts::Thread;
+use crate::state::State;
+
+pub fn well_formed(program: &Program, state: &State) -> bool {
+    locks_apart(state)
+        && Thread::all().all(|thread| match state.job(thread) {
+            Some(job) => state.first_tree(thread).is_some() && in_its_blocks(program, thread, job),
+            None => true,
+        })
+        && pending_entries(program, state)
+        && trees_at_home(program, state)
+}
+
+/// No lock is in two sets.
+fn locks_apart(state: &State) -> bool {
+    let jobs: Vec<&Job> = state.jobs.iter().flatten().collect();
+    jobs.iter()
+        .enumerate()
+        .all(|(place, job)| jobs[..place].iter().all(|other| !job.locks.meets(other.locks)))
+}
+
+/// The blocks of the label and the return labels are locked, and CMX or the thread's own.
+fn in_its_blocks(program: &Program, thread: Thread, job: &Job) -> bool {
+    job.returns.iter().chain([&job.label]).all(|&label| {
+        let block = program.block(label);
+        job.locks.holds(block.lock()) && program.table.open_to(block, thread)
+    })
+}
+
+fn pending_entries(program: &Program, state: &State) -> bool {
+    state.trees.iter().flat_map(|tree| &tree.pending).all(|signal| {
+        matches!(program.record(signal.label).entry, Entry::Buffered | Entry::External)
+    })
+}
+
+/// A tree that is not a running thread's first has a signal pending and
+/// belongs to the thread of the block of the oldest.
+fn trees_at_home(program: &Program, state: &State) -> bool {
+    state.trees.iter().enumerate().all(|(place, tree)| {
+        let of_its_job =
+            state.job(tree.thread).is_some() && state.first_tree(tree.thread) == Some(place);
+        let oldest = tree.pending.first();
+        of_its_job || oldest.is_some_and(|signal| program.thread(signal.label) == tree.thread)
+    })
+}

@@ -1,0 +1,168 @@
+//! Valid images and block tables at random.
+
+use super::encode::image_bytes;
+use super::layout::{layout, Position, Slot};
+use super::operands::Operands;
+use super::random::Random;
+use crate::image::{Entry, Program, Record};
+use crate::sorts::{Block, Label, Thread};
+use crate::statement::Statement;
+
+/// A block table: the blocks spread over the threads or drawn to a few of
+/// them, with all, some or no blocks FD.
+pub fn table(random: &mut Random) -> Vec<u8> {
+    let spread = random.once_in(2);
+    let threads = random.between(1, Thread::COUNT);
+    let fd_odds = random.one_of([1, 3, 8, 16, 64, 64, 64, 64]);
+    let row = |block| {
+        let thread = if spread { block % Thread::COUNT } else { random.below(threads) };
+        [thread as u8, u8::from(!random.once_in(fd_odds))]
+    };
+    (0..Block::COUNT).flat_map(row).collect()
+}
+
+/// An image that keeps every rule.
+pub fn image(random: &mut Random) -> Vec<u8> {
+    let draft = Draft::draw(random);
+    let records: Vec<Record> = draft.labels.iter().map(|&at| draft.record(random, at)).collect();
+    image_bytes(&records)
+}
+
+/// What is settled of an image before its statements.
+struct Draft {
+    labels: Vec<Label>,
+    /// One for each label.
+    slots: Vec<Slot>,
+    /// The weights of the opcodes, 1 first, at each position.
+    weights: [[usize; 10]; 3],
+    /// One operand in so many is a register.
+    register_odds: usize,
+}
+
+/// The usual weights of the opcodes, 1 first, at each position.
+const WEIGHTS: [[usize; 10]; 3] = [
+    [1, 4, 1, 3, 1, 4, 12, 0, 1, 0],
+    [0, 0, 0, 0, 3, 0, 0, 8, 2, 1],
+    [0, 0, 0, 0, 4, 0, 0, 1, 2, 5],
+];
+/// By what an image multiplies a usual weight.
+const MOODS: [usize; 10] = [0, 1, 1, 1, 1, 2, 2, 2, 4, 4];
+
+impl Draft {
+    fn draw(random: &mut Random) -> Draft {
+        let count = match random.weighted(&[1, 5, 9, 2, 1]) {
+            0 => random.between(1, 4),
+            1 => random.between(5, 24),
+            2 => random.between(25, 80),
+            3 => random.between(81, Program::LIMIT),
+            _ => Program::LIMIT,
+        };
+        let labels = (0..).map_while(|number| Label::below(number, count)).collect();
+        let weights = weights(random);
+        let register_odds = random.one_of([4, 30, 100, 400, 1_000]);
+        Draft { labels, slots: layout(random, count), weights, register_odds }
+    }
+
+    fn slot(&self, at: Label) -> &Slot {
+        &self.slots[at.index()]
+    }
+
+    fn record(&self, random: &mut Random, at: Label) -> Record {
+        let Slot { block, entry, position } = *self.slot(at);
+        let next = self.next_inside(random, at);
+        let opcode = 1 + random.weighted(&self.weights[position as usize]);
+        let drawn = match opcode {
+            5..=9 => self.signalling(random, opcode, block, next),
+            _ => Some(self.computing(random, opcode, at, next)),
+        };
+        let statement = drawn.unwrap_or(match position {
+            Position::Within => Statement::Skip { on: next },
+            Position::EndOfCalled | Position::EndOfStarting => Statement::Exit,
+        });
+        Record { block, entry, statement }
+    }
+
+    fn operands(&self, block: Block) -> Operands {
+        Operands { block, register_odds: self.register_odds }
+    }
+
+    /// A statement without data, opcodes 1 to 4 and 10.
+    fn computing(&self, random: &mut Random, opcode: usize, at: Label, next: Label) -> Statement {
+        let operands = self.operands(self.slot(at).block);
+        match opcode {
+            1 => Statement::Skip { on: next },
+            2 => {
+                let (to, formula) = (operands.place(random), operands.formula(random));
+                Statement::Assign { to, formula, on: next }
+            }
+            3 => Statement::Goto { on: next },
+            4 => {
+                let (test, fails) = (operands.test(random), self.next_inside(random, at));
+                Statement::If { test, holds: next, fails }
+            }
+            _ => Statement::Exit,
+        }
+    }
+
+    /// A statement with data, opcodes 5 to 9; none if it has no signal to go to.
+    fn signalling(
+        &self,
+        random: &mut Random,
+        opcode: usize,
+        block: Block,
+        next: Label,
+    ) -> Option<Statement> {
+        let data = self.operands(block).data(random);
+        Some(match opcode {
+            5 => Statement::SendDirect { signal: self.direct(random, block)?, data },
+            6 => {
+                let signal = self.one_where(random, |slot| slot.entry == Entry::Buffered)?;
+                Statement::SendBuffered { signal, data, on: next }
+            }
+            7 => Statement::Call { signal: self.direct(random, block)?, data, back: next },
+            8 => Statement::Return { data },
+            _ => {
+                let local = |slot: &Slot| slot.block == block && slot.entry == Entry::Direct;
+                Statement::Transfer { signal: self.one_where(random, local)?, data }
+            }
+        })
+    }
+
+    /// A direct entry; half the time one of another block, if there is one.
+    fn direct(&self, random: &mut Random, block: Block) -> Option<Label> {
+        let direct = |slot: &Slot| slot.entry == Entry::Direct;
+        let away = random.once_in(2);
+        self.one_where(random, |slot| direct(slot) && !(away && slot.block == block))
+            .or_else(|| self.one_where(random, direct))
+    }
+
+    fn one_where(&self, random: &mut Random, fits: impl Fn(&Slot) -> bool) -> Option<Label> {
+        let labels = self.labels.iter().copied();
+        let fitting: Vec<Label> = labels.filter(|&label| fits(self.slot(label))).collect();
+        random.pick(&fitting)
+    }
+
+    /// A label of the same block: mostly that of the next record.
+    fn next_inside(&self, random: &mut Random, at: Label) -> Label {
+        let block = self.slot(at).block;
+        let following = self.labels.get(at.index() + 1).copied();
+        following
+            .filter(|&label| self.slot(label).block == block && !random.once_in(8))
+            .or_else(|| self.one_where(random, |slot| slot.block == block))
+            .unwrap_or(at)
+    }
+}
+
+/// The usual weights in this image's mood. EXIT is always possible, and one
+/// image in three is fond of ASSIGN, IF, buffered SEND, CALL or TRANSFER.
+fn weights(random: &mut Random) -> [[usize; 10]; 3] {
+    let mut weights = WEIGHTS.map(|row| row.map(|weight| weight * random.one_of(MOODS)));
+    for row in &mut weights {
+        row[10 - 1] += 1;
+    }
+    if random.once_in(3) {
+        let fond_of = random.one_of([2, 4, 6, 6, 7, 7, 9]);
+        weights[Position::Within as usize][fond_of - 1] += 40;
+    }
+    weights
+}

@@ -1,0 +1,65 @@
+//! Machines, event lists and damaged calls at random, the same for the same
+//! seed, to compare engines byte for byte.
+
+mod damage;
+pub(crate) mod encode;
+mod events;
+mod image;
+mod layout;
+mod operands;
+mod random;
+#[cfg(test)]
+mod trials;
+
+pub use damage::damage;
+pub use events::events;
+pub use image::{image, table};
+pub use random::Random;
+
+use crate::calls::{fresh, MET_LENGTH};
+use crate::events::{Answer, Event};
+use crate::sorts::Thread;
+use crate::state::State;
+
+/// Everything that may be lent to a call.
+#[derive(Clone)]
+pub struct Lent {
+    pub image: Vec<u8>,
+    pub table: Vec<u8>,
+    pub words: Vec<u8>,
+    pub state: Vec<u8>,
+    pub events: Vec<u8>,
+    pub answers: Vec<u8>,
+    /// The walk's thread.
+    pub thread: u32,
+    /// The walk's buffer.
+    pub met: Vec<u8>,
+}
+
+/// A machine and an event list that check, Fresh and then Run accept. What
+/// they and the walk write to is of the right length and holds any bytes: Run
+/// and the walk accept the state once Fresh has written it.
+pub fn lent(seed: u64) -> Lent {
+    let random = &mut Random::new(seed);
+    let (image, table, words) = (image(random), table(random), words(random));
+    let state = noise(random, State::LENGTH);
+    let mut begun = state.clone();
+    fresh(&image, &table, &words, &mut begun);
+    let events = events(random, &image, &table, &begun);
+    let answers = noise(random, events.len() / Event::WIDTH * Answer::WIDTH);
+    let thread = random.below(Thread::COUNT) as u32;
+    let met = noise(random, MET_LENGTH);
+    Lent { image, table, words, state, events, answers, thread, met }
+}
+
+/// 512 initial bytes: words any, or mostly small.
+pub fn words(random: &mut Random) -> Vec<u8> {
+    if random.once_in(2) {
+        return noise(random, State::WORDS_LENGTH);
+    }
+    (0..State::WORDS_LENGTH / 2).flat_map(|_| random.value().to_le_bytes()).collect()
+}
+
+fn noise(random: &mut Random, length: usize) -> Vec<u8> {
+    (0..length).map(|_| random.byte()).collect()
+}

@@ -1,0 +1,28 @@
+//! A second implementation of the Core PLEX plug-in machine, written for
+//! clarity: every call decodes the lent bytes into plain values, acts on those
+//! and encodes the result again. Long event lists of the engine are compared
+//! with the answers and states this one gives.
+#![forbid(unsafe_code)]
+
+mod bytes;
+mod calls;
+mod events;
+mod form;
+pub mod generate;
+mod image;
+mod job;
+mod one_by_one;
+mod refusal;
+mod registers;
+mod sorts;
+mod state;
+mod statement;
+mod step;
+mod table;
+mod tree;
+#[cfg(test)]
+mod trials;
+mod waits;
+
+pub use calls::{check, fresh, run, walk};
+pub use one_by_one::second_order;

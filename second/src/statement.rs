@@ -1,0 +1,160 @@
+//! Statements and operands, decoded from the fields of a record.
+
+use crate::bytes::Reader;
+use crate::image::{Entry, Heading};
+use crate::registers::Registers;
+use crate::sorts::{Block, Label};
+
+/// Where a value is kept: register 0..24, or shared word 16 x block + word.
+#[derive(Clone, Copy, Debug)]
+pub enum Place {
+    Register(u8),
+    Word(u8),
+}
+
+#[derive(Clone, Copy, Debug)]
+pub enum Operand {
+    Number(u16),
+    Kept(Place),
+}
+
+/// The right side of ASSIGN.
+#[derive(Clone, Copy, Debug)]
+pub enum Formula {
+    Copy(Operand),
+    Add(Operand, Operand),
+    Subtract(Operand, Operand),
+    Multiply(Operand, Operand),
+}
+
+#[derive(Clone, Copy, Debug)]
+pub enum Test {
+    Equal(Operand, Operand),
+    Less(Operand, Operand),
+}
+
+#[derive(Clone, Debug)]
+pub enum Statement {
+    Skip { on: Label },
+    Assign { to: Place, formula: Formula, on: Label },
+    Goto { on: Label },
+    If { test: Test, holds: Label, fails: Label },
+    SendDirect { signal: Label, data: Vec<Operand> },
+    SendBuffered { signal: Label, data: Vec<Operand>, on: Label },
+    Call { signal: Label, data: Vec<Operand>, back: Label },
+    Return { data: Vec<Operand> },
+    Transfer { signal: Label, data: Vec<Operand> },
+    Exit,
+}
+
+/// Data operands of one signal: as many as there are registers.
+pub const OPERANDS: usize = Registers::COUNT;
+pub const OPERAND_WIDTH: usize = 3;
+
+/// The fields of a record that say what it does.
+pub struct Fields {
+    pub opcode: u8,
+    pub operator: u8,
+    pub a: u16,
+    pub b: u16,
+    pub operands: Vec<Operand>,
+}
+
+impl Operand {
+    pub fn read(mut reader: Reader, block: Block) -> Option<Operand> {
+        let (kind, value) = (reader.byte(), reader.pair());
+        let number = usize::from(value);
+        match kind {
+            1 => Some(Operand::Number(value)),
+            2 if number < Registers::COUNT => Some(Operand::Kept(Place::Register(value as u8))),
+            3 if number < Block::WORDS => {
+                let word = Block::WORDS * block.index() + number;
+                Some(Operand::Kept(Place::Word(word as u8)))
+            }
+            _ => None,
+        }
+    }
+}
+
+/// The labels a record may name: those of its image, as they stand to its block.
+pub struct Links<'a> {
+    pub headings: &'a [Heading],
+    pub block: Block,
+}
+
+impl Links<'_> {
+    /// A label that is no signal: in the record's own block.
+    fn inside(&self, number: u16) -> Option<Label> {
+        let label = Label::below(number, self.headings.len())?;
+        (self.headings[label.index()].block == Some(self.block)).then_some(label)
+    }
+
+    fn signal(&self, number: u16, entry: Entry) -> Option<Label> {
+        let label = Label::below(number, self.headings.len())?;
+        (self.headings[label.index()].entry == Some(entry)).then_some(label)
+    }
+}
+
+impl Fields {
+    /// The statement, if the fields keep every rule; what it does not use is zero.
+    pub fn statement(self, links: &Links) -> Option<Statement> {
+        let uses_a = !matches!(self.opcode, 8 | 10);
+        let uses_b = matches!(self.opcode, 4 | 6 | 7);
+        if (!uses_a && self.a != 0) || (!uses_b && self.b != 0) {
+            return None;
+        }
+        match self.opcode {
+            2 | 4 => self.computing(links),
+            _ if self.operator != 0 => None,
+            5..=9 => self.signalling(links),
+            _ if !self.operands.is_empty() => None,
+            1 => Some(Statement::Skip { on: links.inside(self.a)? }),
+            3 => Some(Statement::Goto { on: links.inside(self.a)? }),
+            10 => Some(Statement::Exit),
+            _ => None,
+        }
+    }
+
+    /// ASSIGN and IF, which have an operator.
+    fn computing(self, links: &Links) -> Option<Statement> {
+        let assign = |to: Operand, formula| match to {
+            Operand::Kept(to) => Some(Statement::Assign { to, formula, on: links.inside(self.a)? }),
+            Operand::Number(_) => None,
+        };
+        let choose = |test| {
+            let (holds, fails) = (links.inside(self.a)?, links.inside(self.b)?);
+            Some(Statement::If { test, holds, fails })
+        };
+        match (self.opcode, self.operator, self.operands.as_slice()) {
+            (2, 1, &[to, p]) => assign(to, Formula::Copy(p)),
+            (2, 2, &[to, p, q]) => assign(to, Formula::Add(p, q)),
+            (2, 3, &[to, p, q]) => assign(to, Formula::Subtract(p, q)),
+            (2, 4, &[to, p, q]) => assign(to, Formula::Multiply(p, q)),
+            (4, 1, &[p, q]) => choose(Test::Equal(p, q)),
+            (4, 2, &[p, q]) => choose(Test::Less(p, q)),
+            _ => None,
+        }
+    }
+
+    /// The opcodes that carry data, 5 to 9.
+    fn signalling(self, links: &Links) -> Option<Statement> {
+        let (a, b, data) = (self.a, self.b, self.operands);
+        Some(match self.opcode {
+            5 => Statement::SendDirect { signal: links.signal(a, Entry::Direct)?, data },
+            6 => {
+                let signal = links.signal(a, Entry::Buffered)?;
+                Statement::SendBuffered { signal, data, on: links.inside(b)? }
+            }
+            7 => {
+                let signal = links.signal(a, Entry::Direct)?;
+                Statement::Call { signal, data, back: links.inside(b)? }
+            }
+            8 => Statement::Return { data },
+            9 => {
+                links.inside(a)?;
+                Statement::Transfer { signal: links.signal(a, Entry::Direct)?, data }
+            }
+            _ => return None,
+        })
+    }
+}

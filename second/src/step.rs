@@ -1,0 +1,214 @@
+//! What arrivals, steps and cuts do to the state.
+
+use crate::events::{Answer, Event, Trap};
+use crate::image::Program;
+use crate::job::Job;
+use crate::registers::Registers;
+use crate::sorts::{Label, Lock, Thread};
+use crate::state::State;
+use crate::statement::{Formula, Operand, Place, Statement, Test};
+use crate::tree::{Signal, Tree};
+
+pub fn carry_out(program: &Program, state: &mut State, event: &Event) -> Answer {
+    match event {
+        Event::Arrival(signal) => arrive(program, state, signal),
+        Event::Step(thread) => step(program, state, *thread),
+        Event::Cut(thread) => cut(program, state, *thread),
+    }
+}
+
+fn arrive(program: &Program, state: &mut State, signal: &Signal) -> Answer {
+    if state.trees.len() == Tree::LIMIT {
+        return Answer::ListFull;
+    }
+    let thread = program.thread(signal.label);
+    state.trees.push(Tree { thread, pending: vec![signal.clone()] });
+    Answer::Arrived
+}
+
+fn cut(program: &Program, state: &mut State, thread: Thread) -> Answer {
+    if state.job(thread).is_none() {
+        return Answer::NothingToCut;
+    }
+    end(program, state, thread);
+    Answer::Cut
+}
+
+pub fn step(program: &Program, state: &mut State, thread: Thread) -> Answer {
+    let Some(job) = state.job(thread).cloned() else {
+        return start(program, state, thread);
+    };
+    match advance(program, state, thread, job) {
+        Ok(job) => {
+            state.jobs[thread.index()] = Some(job);
+            Answer::MovedOn
+        }
+        Err(waiting @ Answer::Waiting(_)) => waiting,
+        Err(ended) => {
+            end(program, state, thread);
+            ended
+        }
+    }
+}
+
+/// A step of an idle thread. Its trees all have signals pending.
+fn start(program: &Program, state: &mut State, thread: Thread) -> Answer {
+    let Some(place) = state.first_tree(thread) else {
+        return Answer::NoWork;
+    };
+    let block = program.block(state.trees[place].pending[0].label);
+    if held_by_another(state, block.lock(), thread) {
+        return Answer::Waiting(block);
+    }
+    let signal = state.trees[place].pending.remove(0);
+    let job = Job::begun(signal.label, block.lock(), &signal.values);
+    state.jobs[thread.index()] = Some(job);
+    Answer::Started
+}
+
+/// A job ended: the thread is idle, and its tree leaves the list if it is
+/// empty, else goes to the list's end on the thread of its oldest signal's block.
+fn end(program: &Program, state: &mut State, thread: Thread) {
+    state.jobs[thread.index()] = None;
+    if let Some(place) = state.first_tree(thread) {
+        let tree = state.trees.remove(place);
+        if let Some(oldest) = tree.pending.first() {
+            state.trees.push(Tree { thread: program.thread(oldest.label), ..tree });
+        }
+    }
+}
+
+/// The job after one statement, or the answer if it does not move on. The
+/// shared words and the job's tree change only if it moves on.
+fn advance(program: &Program, state: &mut State, thread: Thread, job: Job) -> Result<Job, Answer> {
+    let sight = Sight { words: &state.words, registers: &job.registers };
+    match &program.record(job.label).statement {
+        Statement::Skip { on } | Statement::Goto { on } => Ok(job.at(*on)),
+        Statement::Assign { to, formula, on } => {
+            let value = sight.compute(formula)?;
+            Ok(store(state, job, *to, value).at(*on))
+        }
+        Statement::If { test, holds, fails } => {
+            let next = if sight.holds(test)? { holds } else { fails };
+            Ok(job.at(*next))
+        }
+        Statement::SendDirect { signal, data } => {
+            let values = sight.all(data)?;
+            enter(program, state, thread, job, *signal, &values)
+        }
+        Statement::SendBuffered { signal, data, on } => {
+            let values = sight.all(data)?;
+            add_pending(state, thread, Signal { label: *signal, values })?;
+            Ok(job.at(*on))
+        }
+        Statement::Call { signal, data, back } => {
+            let values = sight.all(data)?;
+            if job.returns.len() == Job::RETURNS {
+                return Err(Answer::Trapped(Trap::ReturnLabelsFull));
+            }
+            enter(program, state, thread, job.calling(*back), *signal, &values)
+        }
+        Statement::Return { data } => {
+            let values = sight.all(data)?;
+            go_back(job, &values)
+        }
+        Statement::Transfer { signal, data } => {
+            let registers = job.registers.clone().overwritten(&sight.all(data)?);
+            Ok(job.at(*signal).with(registers))
+        }
+        Statement::Exit => Err(Answer::Exited),
+    }
+}
+
+/// The end of a direct SEND or a CALL: on to the signal with its block's lock,
+/// the values in the registers.
+fn enter(
+    program: &Program,
+    state: &State,
+    thread: Thread,
+    job: Job,
+    signal: Label,
+    values: &[u16],
+) -> Result<Job, Answer> {
+    let block = program.block(signal);
+    if !program.table.open_to(block, thread) {
+        return Err(Answer::Trapped(Trap::ForeignBlock));
+    }
+    if held_by_another(state, block.lock(), thread) {
+        return Err(Answer::Waiting(block));
+    }
+    Ok(job.at(signal).taking(block.lock()).with(Registers::filled(values)))
+}
+
+/// RETURN takes the newest return label and keeps every lock.
+fn go_back(mut job: Job, values: &[u16]) -> Result<Job, Answer> {
+    let newest = job.returns.pop().ok_or(Answer::Trapped(Trap::NoReturnLabel))?;
+    Ok(job.at(newest).with(Registers::filled(values)))
+}
+
+/// Adds the signal to the end of the running job's own tree.
+fn add_pending(state: &mut State, thread: Thread, signal: Signal) -> Result<(), Answer> {
+    let own = state.first_tree(thread).map(|place| &mut state.trees[place]);
+    match own.filter(|tree| tree.pending.len() < Tree::PENDING) {
+        Some(tree) => {
+            tree.pending.push(signal);
+            Ok(())
+        }
+        None => Err(Answer::Trapped(Trap::TreeFull)),
+    }
+}
+
+fn store(state: &mut State, job: Job, to: Place, value: u16) -> Job {
+    match to {
+        Place::Register(register) => {
+            let registers = job.registers.clone().stored(register, value);
+            job.with(registers)
+        }
+        Place::Word(word) => {
+            state.words[usize::from(word)] = value;
+            job
+        }
+    }
+}
+
+fn held_by_another(state: &State, lock: Lock, thread: Thread) -> bool {
+    state.holder(lock).is_some_and(|holder| holder != thread)
+}
+
+/// What a statement can read. Reading an absent register is a trap.
+struct Sight<'a> {
+    words: &'a [u16],
+    registers: &'a Registers,
+}
+
+impl Sight<'_> {
+    fn read(&self, operand: &Operand) -> Result<u16, Answer> {
+        match *operand {
+            Operand::Number(number) => Ok(number),
+            Operand::Kept(Place::Register(register)) => {
+                self.registers.get(register).ok_or(Answer::Trapped(Trap::AbsentRegister))
+            }
+            Operand::Kept(Place::Word(word)) => Ok(self.words[usize::from(word)]),
+        }
+    }
+
+    fn all(&self, data: &[Operand]) -> Result<Vec<u16>, Answer> {
+        data.iter().map(|operand| self.read(operand)).collect()
+    }
+
+    fn compute(&self, formula: &Formula) -> Result<u16, Answer> {
+        Ok(match formula {
+            Formula::Copy(p) => self.read(p)?,
+            Formula::Add(p, q) => self.read(p)?.wrapping_add(self.read(q)?),
+            Formula::Subtract(p, q) => self.read(p)?.wrapping_sub(self.read(q)?),
+            Formula::Multiply(p, q) => self.read(p)?.wrapping_mul(self.read(q)?),
+        })
+    }
+
+    fn holds(&self, test: &Test) -> Result<bool, Answer> {
+        Ok(match test {
+            Test::Equal(p, q) => self.read(p)? == self.read(q)?,
+            Test::Less(p, q) => self.read(p)? < self.read(q)?,
+        })
+    }
+}

@@ -1,0 +1,59 @@
+//! The block table: the thread and the kind of each block.
+
+use crate::bytes::Reader;
+use crate::refusal::Refusal;
+use crate::sorts::{Block, Thread};
+
+#[derive(Clone, Copy, Debug, PartialEq, Eq)]
+pub enum Kind {
+    Fd,
+    Cmx,
+}
+
+struct Row {
+    thread: Thread,
+    kind: Kind,
+}
+
+pub struct Table {
+    rows: Vec<Row>,
+}
+
+impl Table {
+    pub const LENGTH: usize = 2 * Block::COUNT;
+
+    pub fn decode(bytes: &[u8]) -> Result<Table, Refusal> {
+        if bytes.len() != Table::LENGTH {
+            return Err(Refusal::TableLength);
+        }
+        let mut reader = Reader::new(bytes);
+        let rows = (0..)
+            .map_while(Block::new)
+            .map(|block| Row::read(&mut reader).ok_or(Refusal::TableField(block)))
+            .collect::<Result<_, _>>()?;
+        Ok(Table { rows })
+    }
+
+    /// The thread the block belongs to.
+    pub fn thread(&self, block: Block) -> Thread {
+        self.rows[block.index()].thread
+    }
+
+    /// Whether jobs of this thread may be in the block: it is CMX or its own.
+    pub fn open_to(&self, block: Block, thread: Thread) -> bool {
+        let row = &self.rows[block.index()];
+        row.kind == Kind::Cmx || row.thread == thread
+    }
+}
+
+impl Row {
+    fn read(reader: &mut Reader) -> Option<Row> {
+        let (thread, kind) = (reader.byte(), reader.byte());
+        let kind = match kind {
+            0 => Kind::Fd,
+            1 => Kind::Cmx,
+            _ => return None,
+        };
+        Some(Row { thread: Thread::new(thread)?, kind })
+    }
+}

@@ -1,0 +1,94 @@
+/* The header by itself, in the part of the language that C and C++ share: its numbers fit
+ * together, and the four calls carry out the whole-list trial. */
+#include "plex.h"
+
+#include <stdio.h>
+#include <string.h>
+
+#ifdef __cplusplus
+#define HOLDS(fact) static_assert(fact, #fact)
+#else
+#define HOLDS(fact) _Static_assert(fact, #fact)
+#endif
+
+HOLDS(PLEX_RECORD_OPERANDS + PLEX_OPERAND_SIZE * PLEX_REGISTERS == PLEX_RECORD_SIZE);
+HOLDS(PLEX_ROW_SIZE * PLEX_BLOCKS == PLEX_TABLE_SIZE);
+HOLDS(2 * PLEX_BLOCKS * PLEX_BLOCK_WORDS == PLEX_WORDS_SIZE);
+HOLDS(PLEX_STATE_WORDS + PLEX_WORDS_SIZE == PLEX_STATE_THREADS);
+HOLDS(PLEX_STATE_THREADS + PLEX_THREADS * PLEX_THREAD_SIZE == PLEX_STATE_TREE_COUNT);
+HOLDS(PLEX_STATE_TREE_COUNT + 1 == PLEX_STATE_TREES);
+HOLDS(PLEX_STATE_TREES + PLEX_TREES_MAX * PLEX_TREE_SIZE == PLEX_STATE_SIZE);
+HOLDS(PLEX_THREAD_RETURNS + 2 * PLEX_RETURNS_MAX == PLEX_THREAD_PRESENCE);
+HOLDS(PLEX_THREAD_VALUES + 2 * PLEX_REGISTERS == PLEX_THREAD_SIZE);
+HOLDS(PLEX_TREE_SIGNALS + PLEX_PENDING_MAX * PLEX_SIGNAL_SIZE == PLEX_TREE_SIZE);
+HOLDS(PLEX_SIGNAL_VALUES + 2 * PLEX_REGISTERS == PLEX_SIGNAL_SIZE);
+HOLDS(PLEX_EVENT_SIGNAL + PLEX_SIGNAL_SIZE == PLEX_EVENT_SIZE);
+
+enum { RECORDS = 2, EVENTS = 5 };
+
+static uint8_t image[RECORDS * PLEX_RECORD_SIZE], table[PLEX_TABLE_SIZE], words[PLEX_WORDS_SIZE];
+static uint8_t state[PLEX_STATE_SIZE], events[EVENTS * PLEX_EVENT_SIZE];
+static uint8_t answers[EVENTS * PLEX_ANSWER_SIZE], met[PLEX_MET_SIZE];
+static int failed;
+
+static void expect(const char *what, int holds)
+{
+    if (!holds) {
+        printf("header: %s: not so\n", what);
+        failed = 1;
+    }
+}
+
+/* Label 0: block 0, entry external, ASSIGN copy shared word 0 from 7, on to 1. Label 1: EXIT. One
+ * arrival at 0, four steps of thread 0. */
+static void fill(void)
+{
+    uint8_t *operand = image + PLEX_RECORD_OPERANDS;
+    image[PLEX_RECORD_OPCODE] = PLEX_ASSIGN;
+    image[PLEX_RECORD_ENTRY] = PLEX_EXTERNAL;
+    image[PLEX_RECORD_OPERATOR] = PLEX_COPY;
+    image[PLEX_RECORD_A] = 1;
+    image[PLEX_RECORD_COUNT] = 2;
+    operand[PLEX_OPERAND_KIND] = PLEX_WORD_OPERAND;
+    operand[PLEX_OPERAND_SIZE + PLEX_OPERAND_KIND] = PLEX_NUMBER_OPERAND;
+    operand[PLEX_OPERAND_SIZE + PLEX_OPERAND_VALUE] = 7;
+    image[PLEX_RECORD_SIZE + PLEX_RECORD_OPCODE] = PLEX_EXIT;
+    events[PLEX_EVENT_KIND] = PLEX_ARRIVAL;
+    for (int i = 1; i < EVENTS; i++)
+        events[i * PLEX_EVENT_SIZE + PLEX_EVENT_KIND] = PLEX_STEP;
+    memset(state, 1, sizeof state);
+}
+
+static void carry_out(void)
+{
+    static const uint8_t expected[] = {1, 0, 5, 0, 6, 0, 7, 0, 3, 0};
+    expect("check", plex_check(image, sizeof image, table, sizeof table) == 0);
+    expect("fresh", plex_fresh(image, sizeof image, table, sizeof table, words, sizeof words,
+                               state, sizeof state) == 0);
+    expect("run", plex_run(image, sizeof image, table, sizeof table, state, sizeof state, events,
+                           sizeof events, answers, sizeof answers) == 0);
+    expect("answers", memcmp(answers, expected, sizeof expected) == 0);
+    expect("word 0", state[PLEX_STATE_WORDS] == 7 && state[PLEX_STATE_WORDS + 1] == 0);
+    expect("walk", plex_walk(image, sizeof image, table, sizeof table, state, sizeof state, 3,
+                             met, sizeof met) == 1);
+    expect("met", met[0] == 3 && met[1] == PLEX_UNMET && met[PLEX_MET_SIZE - 1] == PLEX_UNMET);
+}
+
+static void refuse(void)
+{
+    uint32_t result;
+    table[PLEX_ROW_SIZE * 5 + PLEX_ROW_THREAD] = PLEX_THREADS;
+    result = plex_check(image, sizeof image, table, sizeof table);
+    expect("number", PLEX_NUMBER(result) == PLEX_BAD_TABLE_FIELD);
+    expect("place", PLEX_PLACE(result) == 5);
+    result = plex_check(NULL, 0, table, sizeof table);
+    expect("empty image", PLEX_NUMBER(result) == PLEX_BAD_IMAGE_LENGTH);
+}
+
+int main(void)
+{
+    fill();
+    carry_out();
+    refuse();
+    return failed;
+}
