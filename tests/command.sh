@@ -76,6 +76,7 @@ tried 'show without its file' 1 'a: cannot be read: No such file' show a
 tried 'run without its files' 1 'a: cannot be read: No such file' run a b c d
 tried 'state without its file' 1 'a: cannot be read: No such file' state a
 tried 'waits without its files' 1 'a: cannot be read: No such file' waits a b c
+tried 'run with words and a state' 2 'there are 4 files, and 3 are wanted' run a b c d --state e
 tried 'run without a file for --out' 2 'wants the name of a file' run a b c d --out
 
 # ---- check: files
@@ -153,6 +154,13 @@ same 'state in place' in-place left-2
 tried 'no events' 0 '^0 events in 1 call$' run "$image" "$table" "$words" empty --out left-2
 tried 'a fresh state' 0 'all are empty' state left-2
 
+"$plex" run "$image" "$table" "$words" "$events" --summary --answers /dev/stderr 2>piped >said
+holds 'answers to a stream' [ "$(wc -c <piped)" = 30 ]
+ln -s left-2 link
+tried 'a link' 0 'all threads idle' run "$image" "$table" "$words" "$events" --out link
+holds 'a link stays one' [ -h link ]
+same 'the file of a link' left left-2
+
 # ---- run: any length, in parts
 repeated "$events" 300 many
 tried '4,500 events' 0 '^4500 events in 5 calls$' \
@@ -183,7 +191,8 @@ refused 'short words' 'short: 511 bytes; initial words are 512' "$image" "$table
 head -c 513 "$image" >long
 refused 'long words' 'long: more than 512 bytes; initial words' "$image" "$table" long "$events"
 head -c 7928 left >short
-refused 'short state' 'short: 7928 bytes; a state is 7,929' "$image" "$table" "$events" --state short
+refused 'short state' 'short: 7928 bytes; a state is 7,929' \
+    "$image" "$table" "$events" --state short
 cat left empty one >long
 refused 'long state' 'long: more than 7929 bytes' "$image" "$table" "$events" --state long
 byte left 512 0 bad
@@ -211,6 +220,11 @@ tried 'no folder for --out' 1 'nowhere/s: cannot be written: No such file' \
 head -c 824 "$events" | "$plex" run "$image" "$table" "$words" /dev/stdin --out kept >said 2>&1
 holds 'short pipe' grep -q 'stdin: 824 bytes; events are 55 bytes each' said
 same 'short pipe: the file of --out' kept old
+"$plex" run "$image" "$table" "$words" many --out kept --answers new 2>said | head -n 1 >first
+same 'a reader that goes away: the file of --out' kept old
+holds 'a reader that goes away: a file is left' [ "$(find . -name 'kept.*' -o -name 'new*')" = '' ]
+tried 'one file for both' 2 '--out and --answers name the same file' \
+    run "$image" "$table" "$words" "$events" --out kept --answers kept
 if [ -w /dev/full ]; then
     "$plex" show "$image" >/dev/full 2>said
     holds 'full standard output: status' [ $? = 1 ]
@@ -230,7 +244,7 @@ tried 'a short state' 1 'short: 7928 bytes; a state is 7,929 bytes' state short
 tried 'a long state' 1 'long: more than 7929 bytes' state long
 
 # ---- waits
-tried 'a wait' 0 'block 1: thread 1 waits for thread 0, which does not wait' \
+tried 'a wait' 0 'thread 1 --lock 1--> thread 0, which does not wait' \
     waits "$image" "$table" waiting
 tried 'no wait' 0 'no thread waits' waits "$image" "$table" left
 tried 'a graph' 0 '  t1 -> t0 \[label="lock 1"\];' waits "$image" "$table" waiting --dot
@@ -239,7 +253,8 @@ tried 'waits in a bad state' 1 'bad: 1092 bytes; a state is' waits "$image" "$ta
 byte "$image" 256 12 ring-1
 byte ring-1 842 1 ring
 tried 'into a ring' 0 '2  waiting' run ring "$table" "$words" eight --summary --out closed
-tried 'a ring' 0 'thread 0 waits for thread 1, and a ring closes' waits ring "$table" closed
+tried 'a ring' 0 '^thread 1 --lock 1--> thread 0 --lock 4--> thread 1 again: a ring' \
+    waits ring "$table" closed
 tried 'a ring in the graph' 0 't0 -> t1 \[label="lock 4", color=red\]' \
     waits ring "$table" closed --dot
 # a program dot that only copies, one that fails, and none

@@ -14,7 +14,7 @@ pub enum Call {
 impl Call {
     pub const ALL: [Call; 4] = [Call::Check, Call::Fresh, Call::Run, Call::Walk];
 
-    fn of_library(self, lent: &mut Lent) -> u32 {
+    fn of_library(self, lent: &mut Lent) -> Result<u32, String> {
         match self {
             Call::Check => library::check(lent),
             Call::Fresh => library::fresh(lent),
@@ -92,7 +92,7 @@ impl Seen {
 /// two differ. The bytes are then as the call left them.
 pub fn both(seen: &mut Seen, call: Call, lent: &mut Lent) -> Result<u32, String> {
     let mut expected = lent.clone();
-    let returned = call.of_library(lent);
+    let returned = call.of_library(lent)?;
     let wanted = call.of_second(&mut expected);
     if returned != wanted {
         return Err(format!("{call:?} returned {returned}, expected {wanted}"));

@@ -60,96 +60,97 @@ impl Guarded {
         self.bytes[MARGIN..].as_mut_ptr()
     }
 
-    /// Copies the bytes back as the call left them.
-    fn give_back(self, lent: &mut [u8]) {
+    /// Copies the bytes back as the call left them; whether the margins are as
+    /// they were.
+    fn give_back(self, lent: &mut [u8]) -> bool {
         let (before, rest) = self.bytes.split_at(MARGIN);
         let (left, after) = rest.split_at(self.length);
-        let untouched = before.iter().chain(after).all(|&byte| byte == UNTOUCHED);
-        assert!(untouched, "the library wrote beside a lent buffer");
         lent.copy_from_slice(left);
+        before.iter().chain(after).all(|&byte| byte == UNTOUCHED)
     }
 }
 
-pub fn check(lent: &mut Lent) -> u32 {
-    let (mut image, mut table) = (Guarded::new(&lent.image), Guarded::new(&lent.table));
-    // SAFETY: each pointer is to memory of that length, and no two overlap.
-    let result =
-        unsafe { plex_check(image.pointer(), image.length, table.pointer(), table.length) };
-    image.give_back(&mut lent.image);
-    table.give_back(&mut lent.table);
-    result
+/// What a call returned, or that it wrote beside a buffer.
+type Returned = Result<u32, String>;
+
+/// Makes a call on guarded copies of these buffers. The copies are memory of
+/// their own, so no two that a call is handed overlap.
+fn guarded<const N: usize>(
+    buffers: [&mut Vec<u8>; N],
+    call: impl FnOnce(&mut [Guarded; N]) -> u32,
+) -> Returned {
+    let mut copies = buffers.each_ref().map(|buffer| Guarded::new(buffer));
+    let result = call(&mut copies);
+    let mut all_kept = true;
+    for (copy, buffer) in copies.into_iter().zip(buffers) {
+        all_kept &= copy.give_back(buffer);
+    }
+    all_kept.then_some(result).ok_or("the library wrote beside a lent buffer".into())
 }
 
-pub fn fresh(lent: &mut Lent) -> u32 {
-    let (mut image, mut table) = (Guarded::new(&lent.image), Guarded::new(&lent.table));
-    let (mut words, mut state) = (Guarded::new(&lent.words), Guarded::new(&lent.state));
-    // SAFETY: each pointer is to memory of that length, and no two overlap.
-    let result = unsafe {
-        plex_fresh(
-            image.pointer(),
-            image.length,
-            table.pointer(),
-            table.length,
-            words.pointer(),
-            words.length,
-            state.pointer(),
-            state.length,
-        )
-    };
-    image.give_back(&mut lent.image);
-    table.give_back(&mut lent.table);
-    words.give_back(&mut lent.words);
-    state.give_back(&mut lent.state);
-    result
+pub fn check(lent: &mut Lent) -> Returned {
+    guarded([&mut lent.image, &mut lent.table], |[image, table]| {
+        // SAFETY: each pointer is to memory of its length, and no two overlap.
+        unsafe { plex_check(image.pointer(), image.length, table.pointer(), table.length) }
+    })
 }
 
-pub fn run(lent: &mut Lent) -> u32 {
-    let (mut image, mut table) = (Guarded::new(&lent.image), Guarded::new(&lent.table));
-    let (mut state, mut events) = (Guarded::new(&lent.state), Guarded::new(&lent.events));
-    let mut answers = Guarded::new(&lent.answers);
-    // SAFETY: each pointer is to memory of that length, and no two overlap.
-    let result = unsafe {
-        plex_run(
-            image.pointer(),
-            image.length,
-            table.pointer(),
-            table.length,
-            state.pointer(),
-            state.length,
-            events.pointer(),
-            events.length,
-            answers.pointer(),
-            answers.length,
-        )
-    };
-    image.give_back(&mut lent.image);
-    table.give_back(&mut lent.table);
-    state.give_back(&mut lent.state);
-    events.give_back(&mut lent.events);
-    answers.give_back(&mut lent.answers);
-    result
+pub fn fresh(lent: &mut Lent) -> Returned {
+    let buffers = [&mut lent.image, &mut lent.table, &mut lent.words, &mut lent.state];
+    guarded(buffers, |[image, table, words, state]| {
+        // SAFETY: as for check.
+        unsafe {
+            plex_fresh(
+                image.pointer(),
+                image.length,
+                table.pointer(),
+                table.length,
+                words.pointer(),
+                words.length,
+                state.pointer(),
+                state.length,
+            )
+        }
+    })
 }
 
-pub fn walk(lent: &mut Lent) -> u32 {
-    let (mut image, mut table) = (Guarded::new(&lent.image), Guarded::new(&lent.table));
-    let (mut state, mut met) = (Guarded::new(&lent.state), Guarded::new(&lent.met));
-    // SAFETY: each pointer is to memory of that length, and no two overlap.
-    let result = unsafe {
-        plex_walk(
-            image.pointer(),
-            image.length,
-            table.pointer(),
-            table.length,
-            state.pointer(),
-            state.length,
-            lent.thread,
-            met.pointer(),
-            met.length,
-        )
-    };
-    image.give_back(&mut lent.image);
-    table.give_back(&mut lent.table);
-    state.give_back(&mut lent.state);
-    met.give_back(&mut lent.met);
-    result
+pub fn run(lent: &mut Lent) -> Returned {
+    let Lent { image, table, state, events, answers, .. } = lent;
+    guarded([image, table, state, events, answers], |[image, table, state, events, answers]| {
+        // SAFETY: as for check.
+        unsafe {
+            plex_run(
+                image.pointer(),
+                image.length,
+                table.pointer(),
+                table.length,
+                state.pointer(),
+                state.length,
+                events.pointer(),
+                events.length,
+                answers.pointer(),
+                answers.length,
+            )
+        }
+    })
+}
+
+pub fn walk(lent: &mut Lent) -> Returned {
+    let Lent { image, table, state, thread, met, .. } = lent;
+    guarded([image, table, state, met], |[image, table, state, met]| {
+        // SAFETY: as for check.
+        unsafe {
+            plex_walk(
+                image.pointer(),
+                image.length,
+                table.pointer(),
+                table.length,
+                state.pointer(),
+                state.length,
+                *thread,
+                met.pointer(),
+                met.length,
+            )
+        }
+    })
 }

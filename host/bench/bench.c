@@ -1,72 +1,31 @@
-/* Times the proved engine against the plain one: the same work, in one run, in
- * turns, best of many rounds.
+/* Times the proved engine against the plain one: the same work, in one run, taken turn about, the
+ * best of many rounds. Run is timed by the event, the other calls by the call. The buffers are in
+ * the processor's caches, and nothing is cleared between calls.
  *
- * Build:  gcc -std=c11 -O3 bench*.c plain_*.c <the proved library> -lm -o bench
- * Use:    bench [plot.svg] */
+ * Use: bench [FOLDER]    a folder for the plots */
 #define _POSIX_C_SOURCE 199309L
 
-#include "bench_image.h"
 #include "bench_plot.h"
-#include "plain.h"
-#include "plain_program.h"
+#include "bench_rows.h"
 
 #include <inttypes.h>
 #include <stdio.h>
 #include <stdlib.h>
 #include <time.h>
 
-extern uint32_t plex_check(const uint8_t *image, size_t image_len,
-                           const uint8_t *table, size_t table_len);
+/* A row has so many rounds, or as many as its time allows. */
+enum { ROUNDS = 2000, FEWEST_ROUNDS = 50, ROUND_NS = 20000, ROW_NS = 1000000000, MOST_POINTS = 8 };
 
-enum { ROUNDS = 2000, ROUND_NS = 20000 };
-
-/* The work that the row in hand lends to both engines. */
-static struct {
-    uint8_t image[PLEX_RECORD_SIZE * PLEX_RECORDS_MAX];
-    size_t image_len;
-    uint8_t table[PLEX_TABLE_SIZE];
-} work;
-
-/* To add a row, give it a prepare that fills the work, and the two calls. */
-struct row {
-    const char *name;
-    size_t records;
-    void (*prepare)(size_t records);
-    uint32_t (*plex_call)(void);
-    uint32_t (*plain_call)(void);
-    int in_plot;
+static const struct {
+    const char *file, *title;
+    enum bench_axis axis;
+} plots[PLOTS] = {
+    [CHECK_PLOT] = {"check.svg", "Check of an image", RECORDS_AXIS},
+    [FRESH_PLOT] = {"fresh.svg", "Fresh", RECORDS_AXIS},
+    [WALK_PLOT] = {"walk.svg", "Walk along a ring of 8 threads", RECORDS_AXIS},
+    [SMALL_RUN_PLOT] = {"run-small.svg", "Run with an image of 16 records", EVENTS_AXIS},
+    [FULL_RUN_PLOT] = {"run-full.svg", "Run with an image of 512 records", EVENTS_AXIS},
 };
-
-static void prepare_mixed(size_t records)
-{
-    bench_mixed_image(work.image, records);
-    work.image_len = PLEX_RECORD_SIZE * records;
-}
-
-static void prepare_exit(size_t records)
-{
-    bench_exit_image(work.image, records);
-    work.image_len = PLEX_RECORD_SIZE * records;
-}
-
-static uint32_t call_plex_check(void)
-{
-    return plex_check(work.image, work.image_len, work.table, sizeof work.table);
-}
-
-static uint32_t call_plain_check(void)
-{
-    return plain_check(work.image, work.image_len, work.table, sizeof work.table);
-}
-
-static const struct row rows[] = {
-    {"check, 1 record", 1, prepare_mixed, call_plex_check, call_plain_check, 1},
-    {"check, 16 mixed", 16, prepare_mixed, call_plex_check, call_plain_check, 1},
-    {"check, 128 mixed", 128, prepare_mixed, call_plex_check, call_plain_check, 1},
-    {"check, 512 mixed", 512, prepare_mixed, call_plex_check, call_plain_check, 1},
-    {"check, 512 EXIT", 512, prepare_exit, call_plex_check, call_plain_check, 0},
-};
-enum { ROWS = sizeof rows / sizeof rows[0] };
 
 static double now_ns(void)
 {
@@ -84,55 +43,87 @@ static double time_calls(uint32_t (*call)(void), size_t calls, uint32_t expected
         differing |= call() ^ expected;
     double taken = now_ns() - start;
     if (differing != 0) {
-        fprintf(stderr, "a call did not return %" PRIu32 "\n", expected);
+        fprintf(stderr, "bench: a call did not return %" PRIu32 "\n", expected);
         exit(1);
     }
     return taken / (double)calls;
 }
 
 /* So many plain calls as fill a round. */
-static size_t calls_a_round(const struct row *row, uint32_t expected)
+static size_t calls_a_round(const struct bench_row *row, uint32_t expected)
 {
     double ns = time_calls(row->plain_call, 20, expected);
     return 1 + (size_t)(ROUND_NS / ns);
 }
 
-static struct bench_point time_row(const struct row *row)
+/* What both engines return; they must leave the same bytes too. */
+static uint32_t expected_return(const struct bench_row *row)
 {
-    row->prepare(row->records);
+    row->prepare(row);
     uint32_t expected = row->plain_call();
-    if (expected >= 65536) {
-        fprintf(stderr, "%s: refused, %" PRIu32 "\n", row->name, expected);
+    if (expected >= 65536 || row->plex_call() != expected || !bench_same_bytes()) {
+        fprintf(stderr, "bench: %s: the engines differ, or refuse\n", row->name);
         exit(1);
     }
+    return expected;
+}
+
+static struct bench_point time_row(const struct bench_row *row)
+{
+    uint32_t expected = expected_return(row);
     size_t calls = calls_a_round(row, expected);
-    struct bench_point best = {row->records, 1e300, 1e300};
+    double plex_best = 1e300, plain_best = 1e300, begun = now_ns();
     for (int round = 0; round < ROUNDS; round++) {
         double plex_ns = time_calls(row->plex_call, calls, expected);
         double plain_ns = time_calls(row->plain_call, calls, expected);
-        if (plex_ns < best.plex_ns)
-            best.plex_ns = plex_ns;
-        if (plain_ns < best.plain_ns)
-            best.plain_ns = plain_ns;
+        plex_best = plex_ns < plex_best ? plex_ns : plex_best;
+        plain_best = plain_ns < plain_best ? plain_ns : plain_best;
+        if (round >= FEWEST_ROUNDS && now_ns() - begun > ROW_NS)
+            break;
     }
-    return best;
+    double units = row->events == 0 ? 1 : (double)row->events;
+    return (struct bench_point){row->events == 0 ? row->records : row->events,
+                                plex_best / units, plain_best / units};
+}
+
+static void print_row(const struct bench_row *row, const struct bench_point *best)
+{
+    printf("%-24s", row->name);
+    if (row->events == 0)
+        printf(" %8s", "");
+    else
+        printf(" %8zu", row->events);
+    printf(" %12.1f %12.1f %12.2f\n", best->plex_ns, best->plain_ns,
+           best->plex_ns / best->plain_ns);
+    fflush(stdout);
+}
+
+static int draw(const char *folder, enum bench_plots plot, const struct bench_point *points,
+                size_t count)
+{
+    char path[4096];
+    snprintf(path, sizeof path, "%s/%s", folder, plots[plot].file);
+    if (bench_plot(path, plots[plot].title, plots[plot].axis, points, count) == 0)
+        return 0;
+    fprintf(stderr, "bench: %s: cannot be written\n", path);
+    return 1;
 }
 
 int main(int argc, char **argv)
 {
-    struct bench_point points[ROWS];
-    size_t count = 0;
-    printf("%-20s %12s %12s %12s\n", "row", "plex ns", "plain ns", "plex/plain");
-    for (size_t i = 0; i < ROWS; i++) {
-        struct bench_point best = time_row(&rows[i]);
-        printf("%-20s %12.1f %12.1f %12.2f\n", rows[i].name, best.plex_ns,
-               best.plain_ns, best.plex_ns / best.plain_ns);
-        if (rows[i].in_plot)
-            points[count++] = best;
+    struct bench_point points[PLOTS + 1][MOST_POINTS];
+    size_t counts[PLOTS + 1] = {0};
+    printf("%-24s %8s %12s %12s %12s\n", "row", "events", "plex ns", "plain ns", "plex/plain");
+    for (size_t i = 0; i < bench_row_count; i++) {
+        const struct bench_row *row = &bench_rows[i];
+        struct bench_point best = time_row(row);
+        print_row(row, &best);
+        points[row->plot][counts[row->plot]++] = best;
     }
-    if (argc > 1 && bench_plot(argv[1], "Check of a mixed image", points, count) != 0) {
-        fprintf(stderr, "cannot write %s\n", argv[1]);
-        return 1;
-    }
-    return 0;
+    printf("Run is timed by the event, with all that a call does at its door; the others by the "
+           "call.\n");
+    int failed = 0;
+    for (enum bench_plots plot = 0; argc > 1 && plot < PLOTS; plot++)
+        failed |= draw(argv[1], plot, points[plot], counts[plot]);
+    return failed;
 }

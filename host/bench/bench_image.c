@@ -1,7 +1,9 @@
 /* The record at label i is in block i mod blocks, and has entry i / blocks mod 4.
  * So with 4 records a block or more, each block has a record of each entry. */
 #include "bench_image.h"
-#include "plain_program.h"
+#include "fields.h"
+
+#include <string.h>
 
 struct builder {
     uint32_t records, blocks;

@@ -1,4 +1,4 @@
-/* The plot is drawn by hand: a frame, a tick for each point's records, a tick
+/* The plot is drawn by hand: a frame, a tick for each point's number, a tick
  * for each power of ten of nanoseconds, and a line for each engine. */
 #include "bench_plot.h"
 
@@ -12,7 +12,7 @@ static const char plain_colour[] = "#c4571b";
 
 /* The ends of the axes, as logarithms to base ten. */
 struct axes {
-    double records_low, records_high, ns_low, ns_high;
+    double number_low, number_high, ns_low, ns_high;
 };
 
 static struct axes axes_for(const struct bench_point *points, size_t count)
@@ -23,15 +23,15 @@ static struct axes axes_for(const struct bench_point *points, size_t count)
         high = fmax(high, fmax(points[i].plex_ns, points[i].plain_ns));
     }
     return (struct axes){
-        log10((double)points[0].records), log10((double)points[count - 1].records),
+        log10((double)points[0].number), log10((double)points[count - 1].number),
         floor(log10(low / 2)), ceil(log10(high * 2))
     };
 }
 
-static double x_of(const struct axes *axes, size_t records)
+static double x_of(const struct axes *axes, size_t number)
 {
-    double share = (log10((double)records) - axes->records_low)
-                 / (axes->records_high - axes->records_low);
+    double share = (log10((double)number) - axes->number_low)
+                 / (axes->number_high - axes->number_low);
     return LEFT + share * (RIGHT - LEFT);
 }
 
@@ -41,8 +41,9 @@ static double y_of(const struct axes *axes, double ns)
     return BOTTOM - share * (BOTTOM - TOP);
 }
 
-static void draw_frame(FILE *file, const char *title)
+static void draw_frame(FILE *file, const char *title, enum bench_axis axis)
 {
+    int by_call = axis == RECORDS_AXIS;
     fprintf(file, "<svg xmlns=\"http://www.w3.org/2000/svg\" width=\"%d\" height=\"%d\" "
             "viewBox=\"0 0 %d %d\" font-family=\"sans-serif\" font-size=\"13\">\n",
             WIDTH, HEIGHT, WIDTH, HEIGHT);
@@ -51,21 +52,21 @@ static void draw_frame(FILE *file, const char *title)
     fprintf(file, "<rect x=\"%d\" y=\"%d\" width=\"%d\" height=\"%d\" fill=\"none\" "
             "stroke=\"black\"/>\n", LEFT, TOP, RIGHT - LEFT, BOTTOM - TOP);
     fprintf(file, "<text x=\"%d\" y=\"%d\" text-anchor=\"middle\">"
-            "records in the image (logarithmic)</text>\n",
-            (LEFT + RIGHT) / 2, BOTTOM + 45);
+            "%s (logarithmic)</text>\n", (LEFT + RIGHT) / 2, BOTTOM + 45,
+            by_call ? "records in the image" : "events in a call");
     fprintf(file, "<text transform=\"translate(24 %d) rotate(-90)\" "
-            "text-anchor=\"middle\">time a call, ns (logarithmic)</text>\n",
-            (TOP + BOTTOM) / 2);
+            "text-anchor=\"middle\">time %s, ns (logarithmic)</text>\n", (TOP + BOTTOM) / 2,
+            by_call ? "a call" : "an event");
 }
 
 static void draw_ticks(FILE *file, const struct axes *axes,
                        const struct bench_point *points, size_t count)
 {
     for (size_t i = 0; i < count; i++) {
-        double x = x_of(axes, points[i].records);
+        double x = x_of(axes, points[i].number);
         fprintf(file, "<path d=\"M%.1f %d V%d\" stroke=\"#ddd\"/>\n", x, TOP, BOTTOM);
         fprintf(file, "<text x=\"%.1f\" y=\"%d\" text-anchor=\"middle\">%zu</text>\n",
-                x, BOTTOM + 20, points[i].records);
+                x, BOTTOM + 20, points[i].number);
     }
     for (double power = axes->ns_low; power <= axes->ns_high; power++) {
         double y = y_of(axes, pow(10, power));
@@ -83,12 +84,12 @@ static void draw_engine(FILE *file, const struct axes *axes,
     fprintf(file, "<polyline fill=\"none\" stroke=\"%s\" stroke-width=\"2\" points=\"",
             colour);
     for (size_t i = 0; i < count; i++)
-        fprintf(file, "%.1f,%.1f ", x_of(axes, points[i].records),
+        fprintf(file, "%.1f,%.1f ", x_of(axes, points[i].number),
                 y_of(axes, is_plex ? points[i].plex_ns : points[i].plain_ns));
     fprintf(file, "\"/>\n");
     for (size_t i = 0; i < count; i++) {
         double ns = is_plex ? points[i].plex_ns : points[i].plain_ns;
-        double x = x_of(axes, points[i].records), y = y_of(axes, ns);
+        double x = x_of(axes, points[i].number), y = y_of(axes, ns);
         const char *anchor = i == 0 ? "start" : i == count - 1 ? "end" : "middle";
         fprintf(file, "<circle cx=\"%.1f\" cy=\"%.1f\" r=\"4\" fill=\"%s\"/>\n",
                 x, y, colour);
@@ -100,14 +101,14 @@ static void draw_engine(FILE *file, const struct axes *axes,
             is_plex ? "proved engine (plex)" : "plain C engine");
 }
 
-int bench_plot(const char *path, const char *title,
+int bench_plot(const char *path, const char *title, enum bench_axis axis,
                const struct bench_point *points, size_t count)
 {
     FILE *file = fopen(path, "w");
     if (file == NULL)
         return -1;
     struct axes axes = axes_for(points, count);
-    draw_frame(file, title);
+    draw_frame(file, title, axis);
     draw_ticks(file, &axes, points, count);
     draw_engine(file, &axes, points, count, 1);
     draw_engine(file, &axes, points, count, 0);

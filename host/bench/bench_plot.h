@@ -1,17 +1,20 @@
-/* A plot of time a call against the number of records, as SVG. */
+/* A plot of time against the number of records or events, as SVG. */
 #ifndef BENCH_PLOT_H
 #define BENCH_PLOT_H
 
 #include <stddef.h>
 
+/* Time a call against the records of the image, or time an event against the events of a call. */
+enum bench_axis { RECORDS_AXIS, EVENTS_AXIS };
+
 struct bench_point {
-    size_t records;
+    size_t number; /* of records or events */
     double plex_ns, plain_ns;
 };
 
-/* Writes the file and returns 0, or -1 if it could not be written. Points are in
- * order of records, at least two, and both axes are logarithmic. */
-int bench_plot(const char *path, const char *title,
+/* Writes the file and returns 0, or -1 if it could not be written. Points are in order of their
+ * number, at least two, and both axes are logarithmic. */
+int bench_plot(const char *path, const char *title, enum bench_axis axis,
                const struct bench_point *points, size_t count);
 
 #endif

@@ -38,10 +38,11 @@ int take_arguments(int argc, char **argv, const struct option *options, const ch
     return count;
 }
 
-bool are_enough(int count, int wanted)
+bool are_so_many(int count, int wanted)
 {
-    if (count >= 0 && count < wanted)
-        complain("%d %s missing", wanted - count,
-                 wanted - count == 1 ? "argument is" : "arguments are");
+    if (count > wanted)
+        complain("there are %d files, and %d are wanted", count, wanted);
+    else if (count >= 0 && count < wanted)
+        complain("there are %d files, and %d are wanted: some are missing", count, wanted);
     return count == wanted;
 }

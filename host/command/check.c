@@ -25,7 +25,7 @@ int check_command(int argc, char **argv)
     static const struct option no_options[] = {{NULL, NULL, NULL}};
     const char *paths[2];
     struct lent lent = {0};
-    if (!are_enough(take_arguments(argc, argv, no_options, paths, 2), 2))
+    if (!are_so_many(take_arguments(argc, argv, no_options, paths, 2), 2))
         return MISUSED;
     bool accepted = lend(&lent.image, paths[0], PLEX_RECORD_SIZE * PLEX_RECORDS_MAX)
         && lend(&lent.table, paths[1], PLEX_TABLE_SIZE)

@@ -32,13 +32,17 @@ int take_arguments(int argc, char **argv, const struct option *options, const ch
                    int limit);
 
 /* Whether the count of other arguments is the one wanted; a sentence if not. */
-bool are_enough(int count, int wanted);
+bool are_so_many(int count, int wanted);
 
 /* ---- Sentences on standard error. */
 void complain(const char *format, ...) __attribute__((format(printf, 1, 2)));
 
 /* Whether the file could be read; a sentence if not. */
 bool lend(struct file *file, const char *path, size_t limit);
+
+/* Whether a file to be written could be begun, and kept; a sentence if not. */
+bool is_begun(struct output *output, const char *path);
+bool is_kept(struct output *output, const char *path);
 
 /* The files lent to a call; those that it was not lent are empty. */
 struct lent {

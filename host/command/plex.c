@@ -83,6 +83,7 @@ int main(int argc, char **argv)
 {
     const struct part *part = argc < 2 ? NULL : find_part(argv[1]);
     int status = MISUSED;
+    remove_outputs_on_signals();
     if (part != NULL) {
         status = carry_out(part, argc - 2, argv + 2);
     } else if (argc >= 2 && strcmp(argv[1], "--help") == 0) {

@@ -28,6 +28,23 @@ bool lend(struct file *file, const char *path, size_t limit)
     return !failed;
 }
 
+static bool is_written(const char *path, int failed)
+{
+    if (failed)
+        complain("%s: cannot be written: %s", path, strerror(failed));
+    return !failed;
+}
+
+bool is_begun(struct output *output, const char *path)
+{
+    return is_written(path, begin_output(output, path));
+}
+
+bool is_kept(struct output *output, const char *path)
+{
+    return is_written(path, keep_output(output));
+}
+
 void free_lent(struct lent *lent)
 {
     free(lent->image.bytes);

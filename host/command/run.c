@@ -141,29 +141,13 @@ static bool carry_out_file(struct run *run)
     return true;
 }
 
-static bool begin_written(struct output *output, const char *path)
-{
-    int failed = path == NULL ? 0 : begin_output(output, path);
-    if (failed)
-        complain("%s: cannot be written: %s", path, strerror(failed));
-    return !failed;
-}
-
-static bool keep_written(struct output *output, const char *path)
-{
-    int failed = output->stream == NULL ? 0 : keep_output(output);
-    if (failed)
-        complain("%s: cannot be written: %s", path, strerror(failed));
-    return !failed;
-}
-
 /* The state left and the answers, each under its name; both only if the run went through. */
 static bool write_outputs(struct run *run, const char *state_path, const char *answers_path)
 {
     if (run->state_output.stream != NULL)
         fwrite(run->lent.state.bytes, 1, PLEX_STATE_SIZE, run->state_output.stream);
-    return keep_written(&run->answers_output, answers_path)
-        && keep_written(&run->state_output, state_path);
+    return (answers_path == NULL || is_kept(&run->answers_output, answers_path))
+        && (state_path == NULL || is_kept(&run->state_output, state_path));
 }
 
 static void end_run(struct run *run)
@@ -175,6 +159,14 @@ static void end_run(struct run *run)
     free_lent(&run->lent);
 }
 
+static bool are_different(const char *out, const char *answers)
+{
+    bool same = out != NULL && answers != NULL && strcmp(out, answers) == 0;
+    if (same)
+        complain("--out and --answers name the same file");
+    return !same;
+}
+
 int run_command(int argc, char **argv)
 {
     struct run run = {0};
@@ -184,14 +176,14 @@ int run_command(int argc, char **argv)
         {"--summary", NULL, &run.summary_alone}, {NULL, NULL, NULL}
     };
     int count = take_arguments(argc, argv, options, paths, 4);
-    if (!are_enough(count, state_path != NULL ? 3 : 4))
+    if (!are_so_many(count, state_path != NULL ? 3 : 4) || !are_different(out, answers))
         return MISUSED;
     bool done = lend(&run.lent.image, paths[0], PLEX_RECORD_SIZE * PLEX_RECORDS_MAX)
         && lend(&run.lent.table, paths[1], PLEX_TABLE_SIZE)
         && begin_machine(&run, paths[2], state_path)
         && open_events(&run, paths[count - 1])
-        && begin_written(&run.state_output, out)
-        && begin_written(&run.answers_output, answers)
+        && (out == NULL || is_begun(&run.state_output, out))
+        && (answers == NULL || is_begun(&run.answers_output, answers))
         && carry_out_file(&run)
         && write_outputs(&run, out, answers);
     clear_progress();

@@ -33,7 +33,7 @@ int show_command(int argc, char **argv)
     static const uint8_t any_table[PLEX_TABLE_SIZE];
     const char *path;
     struct lent lent = {0};
-    if (!are_enough(take_arguments(argc, argv, no_options, &path, 1), 1))
+    if (!are_so_many(take_arguments(argc, argv, no_options, &path, 1), 1))
         return MISUSED;
     if (!lend(&lent.image, path, PLEX_RECORD_SIZE * PLEX_RECORDS_MAX)) {
         free_lent(&lent);

@@ -113,7 +113,7 @@ int state_command(int argc, char **argv)
     static const struct option no_options[] = {{NULL, NULL, NULL}};
     const char *path;
     struct lent lent = {0};
-    if (!are_enough(take_arguments(argc, argv, no_options, &path, 1), 1))
+    if (!are_so_many(take_arguments(argc, argv, no_options, &path, 1), 1))
         return MISUSED;
     bool readable = lend(&lent.state, path, PLEX_STATE_SIZE) && is_state_long(&lent.state);
     if (readable)

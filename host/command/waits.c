@@ -50,19 +50,29 @@ static bool walk_from_all(const struct lent *lent, struct walk *walks)
     return true;
 }
 
+/* As "thread 1 --lock 3--> thread 0, which does not wait". */
+static void print_walk(const struct walk *walks, const struct walk *walk)
+{
+    bool ring = walk->result & PLEX_RING;
+    uint32_t count = walk->result & ~PLEX_RING, last = walk->met[count - 1];
+    printf("%sthread %u", colour_on(stdout, ring ? RED : YELLOW), walk->met[0]);
+    for (uint32_t i = 1; i < count; i++)
+        printf(" --lock %u--> thread %u", walks[walk->met[i - 1]].block, walk->met[i]);
+    if (ring)
+        printf(" --lock %u--> thread %u again: a ring", walks[last].block, walks[last].met[1]);
+    else
+        printf(", which does not wait");
+    printf("%s\n", colour_off(stdout));
+}
+
 static void print_walks(const struct walk *walks)
 {
     bool any = false;
-    for (uint32_t thread = 0; thread < PLEX_THREADS; thread++) {
-        struct line line = {0};
-        if (!does_wait(&walks[thread]))
-            continue;
-        any = true;
-        add_walk(&line, walks[thread].met, walks[thread].result);
-        printf("thread %u asks for the lock of block %u: %s%s%s\n", thread, walks[thread].block,
-               colour_on(stdout, walks[thread].result & PLEX_RING ? RED : YELLOW), line.text,
-               colour_off(stdout));
-    }
+    for (uint32_t thread = 0; thread < PLEX_THREADS; thread++)
+        if (does_wait(&walks[thread])) {
+            print_walk(walks, &walks[thread]);
+            any = true;
+        }
     if (!any)
         printf("no thread waits\n");
 }
@@ -107,15 +117,13 @@ static void print_graph(FILE *stream, const uint8_t *state, const struct walk *w
     fprintf(stream, "}\n");
 }
 
-/* Has dot draw the graph of one stream into another; 0, or the number of the error. */
-static int draw(FILE *graph, FILE *drawing)
+/* Has dot read one stream and write another; 0, or the number of the error. */
+static int run_dot(FILE *graph, FILE *drawing)
 {
     char *arguments[] = {"dot", "-Tsvg", NULL};
     posix_spawn_file_actions_t actions;
     pid_t child;
     int status = 0;
-    fflush(graph);
-    rewind(graph);
     posix_spawn_file_actions_init(&actions);
     posix_spawn_file_actions_adddup2(&actions, fileno(graph), STDIN_FILENO);
     posix_spawn_file_actions_adddup2(&actions, fileno(drawing), STDOUT_FILENO);
@@ -126,26 +134,31 @@ static int draw(FILE *graph, FILE *drawing)
     return failed;
 }
 
+static int draw_graph(FILE *drawing, const uint8_t *state, const struct walk *walks)
+{
+    FILE *graph = tmpfile();
+    if (graph == NULL)
+        return errno;
+    print_graph(graph, state, walks);
+    rewind(graph);
+    int failed = run_dot(graph, drawing);
+    fclose(graph);
+    return failed;
+}
+
 static bool write_drawing(const char *path, const uint8_t *state, const struct walk *walks)
 {
-    struct output output = {0};
-    FILE *graph = tmpfile();
-    int failed = graph == NULL ? errno : begin_output(&output, path);
+    struct output output;
+    if (!is_begun(&output, path))
+        return false;
+    int failed = draw_graph(output.stream, state, walks);
     if (failed) {
-        complain("%s: cannot be written: %s", path, strerror(failed));
-    } else {
-        print_graph(graph, state, walks);
-        failed = draw(graph, output.stream);
-        if (failed)
-            complain("%s: not drawn: the program dot (Graphviz) did not run: %s", path,
-                     strerror(failed));
-        else if ((failed = keep_output(&output)) != 0)
-            complain("%s: cannot be written: %s", path, strerror(failed));
+        complain("%s: not drawn: the program dot (Graphviz) did not run: %s", path,
+                 strerror(failed));
+        drop_output(&output);
+        return false;
     }
-    drop_output(&output);
-    if (graph != NULL)
-        fclose(graph);
-    return !failed;
+    return is_kept(&output, path);
 }
 
 static bool draw_waits(const struct lent *lent, bool as_graph, const char *drawing)
@@ -168,7 +181,7 @@ int waits_command(int argc, char **argv)
     const struct option options[] = {
         {"--dot", NULL, &as_graph}, {"--svg", &drawing, NULL}, {NULL, NULL, NULL}
     };
-    if (!are_enough(take_arguments(argc, argv, options, paths, 3), 3))
+    if (!are_so_many(take_arguments(argc, argv, options, paths, 3), 3))
         return MISUSED;
     bool done = lend(&lent.image, paths[0], PLEX_RECORD_SIZE * PLEX_RECORDS_MAX)
         && lend(&lent.table, paths[1], PLEX_TABLE_SIZE)

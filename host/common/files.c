@@ -3,10 +3,40 @@
 #include "files.h"
 
 #include <errno.h>
+#include <signal.h>
 #include <stdlib.h>
 #include <string.h>
 #include <sys/stat.h>
 #include <unistd.h>
+
+/* The temporary names in use, for a signal to remove. */
+enum { MOST_TEMPORARIES = 4 };
+static char *volatile temporaries[MOST_TEMPORARIES];
+
+static void replace_temporary(const char *old, char *new)
+{
+    for (int i = 0; i < MOST_TEMPORARIES; i++)
+        if (temporaries[i] == old) {
+            temporaries[i] = new;
+            return;
+        }
+}
+
+static void remove_and_end(int signal_number)
+{
+    for (int i = 0; i < MOST_TEMPORARIES; i++)
+        if (temporaries[i] != NULL)
+            unlink(temporaries[i]);
+    signal(signal_number, SIG_DFL);
+    raise(signal_number);
+}
+
+void remove_outputs_on_signals(void)
+{
+    static const int ending[] = {SIGHUP, SIGINT, SIGPIPE, SIGTERM};
+    for (size_t i = 0; i < sizeof ending / sizeof ending[0]; i++)
+        signal(ending[i], remove_and_end);
+}
 
 /* The error of a failed call, never 0. */
 static int error(void)
@@ -44,6 +74,7 @@ static int begin_beside(struct output *output)
         output->temporary = NULL;
         return failed;
     }
+    replace_temporary(NULL, output->temporary);
     mode_t mask = umask(0);
     umask(mask);
     fchmod(descriptor, 0666 & ~mask);
@@ -54,15 +85,15 @@ static int begin_beside(struct output *output)
 int begin_output(struct output *output, const char *path)
 {
     struct stat found;
-    int exists = stat(path, &found) == 0;
+    int exists = stat(path, &found) == 0, is_regular = exists && S_ISREG(found.st_mode);
     *output = (struct output){0};
     errno = 0;
-    output->target = exists ? realpath(path, NULL) : strdup(path);
+    output->target = is_regular ? realpath(path, NULL) : strdup(path);
     if (output->target == NULL)
         return error();
     int failed = 0;
-    if (exists && !S_ISREG(found.st_mode)) {
-        output->stream = fopen(output->target, "wb");
+    if (exists && !is_regular) {
+        output->stream = fopen(path, "wb");
         failed = output->stream == NULL ? error() : 0;
     } else {
         failed = begin_beside(output);
@@ -70,6 +101,13 @@ int begin_output(struct output *output, const char *path)
     if (failed)
         drop_output(output);
     return failed;
+}
+
+static void forget_temporary(struct output *output)
+{
+    replace_temporary(output->temporary, NULL);
+    free(output->temporary);
+    output->temporary = NULL;
 }
 
 int keep_output(struct output *output)
@@ -81,12 +119,10 @@ int keep_output(struct output *output)
     if (fclose(stream) != 0 && !failed)
         failed = error();
     if (!failed && output->temporary != NULL) {
-        if (rename(output->temporary, output->target) != 0) {
+        if (rename(output->temporary, output->target) != 0)
             failed = error();
-        } else {
-            free(output->temporary);
-            output->temporary = NULL;
-        }
+        else
+            forget_temporary(output);
     }
     drop_output(output);
     return failed;
@@ -96,9 +132,10 @@ void drop_output(struct output *output)
 {
     if (output->stream != NULL)
         fclose(output->stream);
-    if (output->temporary != NULL)
+    if (output->temporary != NULL) {
         unlink(output->temporary);
-    free(output->temporary);
+        forget_temporary(output);
+    }
     free(output->target);
     *output = (struct output){0};
 }

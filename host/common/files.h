@@ -27,6 +27,9 @@ int begin_output(struct output *output, const char *path);
 int keep_output(struct output *output);
 void drop_output(struct output *output);
 
+/* From now on, a signal that ends the program removes its files in the making first. */
+void remove_outputs_on_signals(void);
+
 int write_file(const char *path, const uint8_t *bytes, size_t size);
 
 #endif

@@ -181,14 +181,3 @@ void add_signal(struct line *line, const uint8_t *signal)
     add(line, "label %u", get16(signal + PLEX_SIGNAL_LABEL));
     add_values(line, signal);
 }
-
-void add_walk(struct line *line, const uint8_t *met, uint32_t result)
-{
-    add(line, "thread %u", met[0]);
-    for (uint32_t i = 1; i < PLEX_MET_SIZE && met[i] != PLEX_UNMET; i++)
-        add(line, "%s waits for thread %u", i == 1 ? "" : ", which", met[i]);
-    if (result & PLEX_RING)
-        add(line, ", and a ring closes");
-    else
-        add(line, met[1] == PLEX_UNMET ? " does not wait" : ", which does not wait");
-}

@@ -34,7 +34,4 @@ void add_registers(struct line *line, const uint8_t *thread);
 /* As "label 4 WITH 7, 9". */
 void add_signal(struct line *line, const uint8_t *signal);
 
-/* As "thread 1 waits for thread 0, which does not wait": what an accepted walk wrote. */
-void add_walk(struct line *line, const uint8_t *met, uint32_t result);
-
 #endif

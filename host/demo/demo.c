@@ -96,9 +96,10 @@ static int print_walk(uint32_t thread)
                                 state, sizeof state, thread, met, sizeof met);
     if (!accepted("plex_walk", result))
         return 0;
-    struct line line = {0};
-    add_walk(&line, met, result);
-    printf("    the walk  %s\n", line.text);
+    printf("    the walk  thread %u", met[0]);
+    for (uint32_t i = 1; i < PLEX_MET_SIZE && met[i] != PLEX_UNMET; i++)
+        printf(" waits for thread %u, which", met[i]);
+    printf("%s\n", result & PLEX_RING ? " closes a ring" : " does not wait");
     return 1;
 }
 

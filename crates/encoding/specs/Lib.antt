@@ -15,3 +15,4 @@ pub mod Stores
 pub mod TreeStores
 pub mod SignalStores
 pub mod FirstTree
+pub mod Encoded

@@ -1,12 +1,14 @@
 -- The laws of tests over runs of bytes and of numbers, one turn of a loop at a time.
 use mathlib.Core.Path.{_≡_, refl, sym, ap, _∙_}
-use mathlib.Core.Bool.{Bool, true, false, cond, _&&_, not}
+use mathlib.Core.Bool.{Bool, true, false, cond, _&&_, not, and-assoc, and-true}
 use mathlib.Core.List.{List, [], _∷_}
 use Prim.Native.Nat.{ℕ, zero, suc, _+_, _-_, _≤_, _<_}
 use native.Mathlib.Omega.{arith}
+use native.Mathlib.Nat.{add-zero, sub-zero}
+use lib.Bits.{bitOr, or-add-and, and-le-l, and-le-r}
 use lib.Dec.{eqb}
 use lib.ListN.{length, getD, replicate}
-use borrow.Author.Tests.{eqb-true, not-true, not-false}
+use borrow.Author.Tests.{eqb-true, eqb-false, eq-eqb, ne-eqb, not-true, not-false}
 use Rattle.rules.specs.Bytes.{part, isZeros, allFrom, firstBad}
 use Rattle.fields.specs.Put.{part-cons}
 
@@ -22,6 +24,30 @@ zeros-step s at n k h l =
 pub zeros-done : (s : List ℕ) (at n k : ℕ) → n - k ≡ 0 → isZeros (part s at (n - k)) ≡ true
 unfolding isZeros part
 zeros-done s at n k e = rw e
+
+-- no bit is set in either of two numbers
+pub or-none : (a b : ℕ) → eqb (bitOr a b) 0 ≡ (eqb a 0 && eqb b 0)
+or-none a b = go (eqb a 0) (eqb b 0) refl refl
+  where
+    go : (x y : Bool) → eqb a 0 ≡ x → eqb b 0 ≡ y → eqb (bitOr a b) 0 ≡ (x && y)
+    go true true p q = eq-eqb (bitOr a b) 0 (omega (arith, eqb-true a 0 p, eqb-true b 0 q, or-add-and a b))
+    go true false p q = ne-eqb (bitOr a b) 0 (λ e. eqb-false b 0 q (omega (arith, or-add-and a b, and-le-l a b)))
+    go false y p q = ne-eqb (bitOr a b) 0 (λ e. eqb-false a 0 p (omega (arith, or-add-and a b, and-le-r a b)))
+
+-- A loop that gathers what n bytes from a place on have set.
+abbrev pub Gathered : List ℕ → ℕ → ℕ → ℕ → ℕ → Type 0
+Gathered s at n set k = (k ≤ n) × (isZeros (part s at n) ≡ (eqb set 0 && isZeros (part s (at + k) (n - k))))
+
+module _ (s : List ℕ) (at n : ℕ) where
+  pub gathered-none : Gathered s at n 0 0
+  gathered-none = (omega arith, rw (add-zero, sub-zero))
+
+  module _ (set k : ℕ) (inv : Gathered s at n set k) where
+    pub gathered-next : k < n → at + n ≤ length s → Gathered s at n (bitOr set (getD s (at + k) 0)) (k + 1)
+    gathered-next h l = (omega arith, inv .1 ∙ rw (zeros-step s at n k h l, or-none set (getD s (at + k) 0)) (sym (and-assoc (eqb set 0) _ _)))
+
+    pub gathered-all : n ≤ k → eqb set 0 ≡ isZeros (part s at n)
+    gathered-all h = sym (inv .1 ∙ rw (zeros-done s (at + k) n k (omega arith)) (and-true (eqb set 0)))
 
 pub zeros-are : (l : List ℕ) → isZeros l ≡ true → l ≡ replicate (length l) 0
 unfolding isZeros

@@ -4,17 +4,9 @@ use mathlib.Core.Bool.{Bool, true, false, _&&_}
 use Prim.Native.Nat.{ℕ, _+_, _*_, _/_, _<_}
 use native.Mathlib.Nat.{mod-eq-of-lt}
 use native.Mathlib.Omega.{arith}
-use lib.Bits.{bitAnd, bitOr, or-add-and, and-le-l, and-le-r, and-zero-r, and-mask, and-high}
+use lib.Bits.{bitAnd, and-zero-r, and-mask, and-high}
 use lib.Dec.{eqb, ltb}
 use borrow.Author.Tests.{eqb-true, eqb-false, eq-eqb, ne-eqb, ltb-true, ltb-false}
-
-pub or-zero : (a b : ℕ) → eqb (bitOr a b) 0 ≡ (eqb a 0 && eqb b 0)
-or-zero a b = go (eqb a 0) (eqb b 0) refl refl
-  where
-    go : (p q : Bool) → eqb a 0 ≡ p → eqb b 0 ≡ q → eqb (bitOr a b) 0 ≡ (p && q)
-    go true true e f = rw (eqb-true a 0 e, eqb-true b 0 f)
-    go true false e f = ne-eqb (bitOr a b) 0 (λ z. eqb-false b 0 f (omega (arith, or-add-and a b, and-le-l a b)))
-    go false q e f = ne-eqb (bitOr a b) 0 (λ z. eqb-false a 0 e (omega (arith, or-add-and a b, and-le-r a b)))
 
 -- 252 tests that a byte is below 4, 255 that it is 0
 pub below-four : (x : ℕ) → x < 256 → eqb (bitAnd x 252) 0 ≡ ltb x 4

@@ -1,5 +1,5 @@
--- The laws of lists of refusals, and what holds of an image and a table that pass the check.
-use mathlib.Core.Path.{_≡_, refl, _∙_}
+-- The laws of lists of refusals, and of a refusal that does not apply.
+use mathlib.Core.Path.{_≡_, refl}
 use mathlib.Core.Bool.{Bool, true, false, cond}
 use mathlib.Core.List.{List, [], _∷_, _++_}
 use Prim.Native.Nat.{ℕ, zero, suc, _<_}
@@ -7,7 +7,7 @@ use native.Mathlib.Omega.{arith}
 use lib.Dec.{eqb}
 use lib.ListN.{length}
 use borrow.Author.Tests.{eqb-true, eq-eqb, ne-eqb}
-use Rattle.rules.specs.Check.{refusal, firstOf, tableLengthFault, imageFaults, Checked}
+use Rattle.rules.specs.Check.{refusal, firstOf, tableLengthFault}
 
 -- ---- the first refusal of a list
 
@@ -34,13 +34,6 @@ then (x ∷ xs) ys = go (eqb x 0) refl (then xs ys)
     go : (t : Bool) → eqb x 0 ≡ t → firstOf (xs ++ ys) ≡ cond (eqb (firstOf xs) 0) (firstOf ys) (firstOf xs) → cond t (firstOf (xs ++ ys)) x ≡ cond (eqb (cond t (firstOf xs) x) 0) (firstOf ys) (cond t (firstOf xs) x)
     go true e r = r
     go false e r = rw e
-
-module _ (image table more : List ℕ) where
-  pub refused : (firstOf (imageFaults image table []) ≡ 0 → ⊥) → firstOf (imageFaults image table more) ≡ firstOf (imageFaults image table [])
-  refused h = then (imageFaults image table []) more ∙ rw (ne-eqb (firstOf (imageFaults image table [])) 0 h)
-
-  pub admitted : Checked image table → firstOf (imageFaults image table more) ≡ firstOf more
-  admitted h = then (imageFaults image table []) more ∙ rw (eq-eqb (firstOf (imageFaults image table [])) 0 h)
 
 -- ---- a refusal that does not apply
 

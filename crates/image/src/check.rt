@@ -8,7 +8,7 @@ use crate::table::first_bad_row;
 use rules::limits::Table;
 use rules::sorts::Block;
 ghost use mathlib.Core.Path.{_≡_};
-ghost use mathlib.Core.List.{[]};
+ghost use mathlib.Core.List.{[], _∷_};
 ghost use Prim.Native.Nat.{_<_};
 ghost use lib.ListN.{length};
 ghost use Rattle.rules.specs.Sizes.{tableSize};
@@ -26,6 +26,13 @@ pub fn refuse(ok: bool, number: u32, place: usize) -> u32
     } else {
         65536 * number + (place as u32)
     }
+}
+
+// Of two refusals, the first that is not 0.
+pub fn first_of(first: u32, second: u32) -> u32
+    ensures { λ r. ⌜ r ≡ firstOf (first ∷ second ∷ []) ⌝ }
+{
+    if first != 0 { first } else { second }
 }
 
 // The first label whose record breaks a rule, or n.
@@ -65,13 +72,11 @@ pub fn table_fault(table: &[u8]) -> u32
     refuse(b == Block::COUNT, 3, b)
 }
 
-pub fn record_fault(image: &[u8], n: usize) -> u32
-    requires { ⌜ n ≡ labels (now image) ⌝ }
+pub fn record_fault(image: &[u8], n: usize, marks: &[u8; 150], limits: &[u32; 4]) -> u32
+    requires { ⌜ (n ≡ labels (now image)) × Marks (now marks) × (now limits ≡ limitsOf) ⌝ }
     ensures { λ r. ⌜ r ≡ recordFault (now (image .entry)) ⌝ }
 {
-    let marks = MARKS;
-    let limits = LIMITS;
-    let l = first_bad_label(image, n, &marks, &limits);
+    let l = first_bad_label(image, n, marks, limits);
     refuse(l == n, 4, l)
 }
 
@@ -79,6 +84,8 @@ pub fn record_fault(image: &[u8], n: usize) -> u32
 pub fn image_fault(image: &[u8], table: &[u8]) -> u32
     ensures { λ r. ⌜ r ≡ firstOf (imageFaults (now (image .entry)) (now (table .entry)) []) ⌝ }
 {
+    let marks = MARKS;
+    let limits = LIMITS;
     let n = count_labels(image);
     let a = image_length_fault(image, n);
     if a != 0 {
@@ -89,8 +96,6 @@ pub fn image_fault(image: &[u8], table: &[u8]) -> u32
         return b;
     }
     let c = table_fault(table);
-    if c != 0 {
-        return c;
-    }
-    record_fault(image, n)
+    let d = record_fault(image, n, &marks, &limits);
+    first_of(c, d)
 }

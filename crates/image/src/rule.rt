@@ -27,7 +27,8 @@ pub fn in_block(image: &[u8], n: usize, own: Block, v: u16) -> bool
     ensures { λ z. ⌜ z ≡ (ltb v (labels (now (image .entry))) && eqb (blockField (recordAt (now (image .entry)) v)) (own .0)) ⌝ }
 {
     if (v as usize) < n {
-        same_block(block_at(image, label_of(v)), own)
+        let there = block_at(image, label_of(v));
+        same_block(there, own)
     } else {
         false
     }

@@ -9,9 +9,9 @@ use lib.Dec.{eqb, leb, ltb}
 use lib.ListN.{length, getD, drop, length-append, length-map, length-replicate, length-set, length-drop}
 use borrow.Author.Tests.{leb-true, leb-false, eqb-true}
 use Rattle.rules.specs.Sizes.{registerCount, returnCount, pendingCount, operandCount, recordSize, recordCount}
-use Rattle.rules.specs.Image.{labels, recordAt, opcode, blockField, entry, operator, labelA, labelB, operands, Row, rowAt}
+use Rattle.rules.specs.Image.{labels, recordAt, opcode, operator, labelA, labelB, operands, Row, rowAt}
 use Rattle.rules.specs.Statements.{operandsFrom, reads, statementOf, dataOf}
-use Rattle.rules.specs.Check.{operatorOk, countOk, headOk}
+use Rattle.rules.specs.Check.{countOk}
 use Rattle.rules.specs.Machine.{Signal, Job, fill}
 use Rattle.rules.specs.Effects.{Got, trap, got, then, unless, Cells, readAll, read, compute, holds, store, Next, onA, onB, intoA, callA, back, Going, Outcome, ends, goes, View, perform, outcome}
 use Rattle.rules.specs.Steps.{Effect, traps, exits, moves, trapIf, older, signalTo, alien, steer, resolve, blockAt, actBy, view}
@@ -22,8 +22,7 @@ use Rattle.rules.specs.declared.statement.Value.the-variants.{Copy, Join}
 use Rattle.rules.specs.declared.statement.Statement.{Statement}
 use Rattle.rules.specs.declared.statement.Statement.the-variants.{Skip, Assign, If, SendDirect, SendBuffered, Call, Return, Transfer, Exit}
 use Rattle.one_by_one.specs.Passed.{Passed}
-use Rattle.encoding.specs.Tests.{both}
-use Rattle.invariants.specs.Destinations.{parts}
+use Rattle.invariants.specs.Destinations.{head}
 
 -- ---- how many operands a record has, and how many values are read
 
@@ -47,17 +46,8 @@ counted op o c h = case (eqb op 2) (eqb op 4) (leb 5 op && leb op 9) (eqb o 1) (
     case false false true a b k = leb-true c operandCount k
     case false false false a b k = omega (arith, eqb-true c 0 k)
 
-pub operands-limit : (image table : List ℕ) → Passed image table → (l : ℕ) → l < labels image → operands (recordAt image l) ≤ operandCount
-unfolding headOk
-operands-limit image table ok l h =
-    let r = recordAt image l in
-    let a : Bool = leb 1 (opcode r) && leb (opcode r) 10 in
-    let b : Bool = ltb (blockField r) 16 in
-    let c : Bool = ltb (entry r) 4 in
-    let d : Bool = operatorOk (opcode r) (operator r) in
-    let e : Bool = countOk (opcode r) (operator r) (operands r) in
-    let k = both (a && b && c && d && e) _ (parts image table ok l h .head) in
-    counted (opcode r) (operator r) (operands r) (both (a && b && c && d) e (k .0) .1)
+operands-limit : (image table : List ℕ) → Passed image table → (l : ℕ) → l < labels image → operands (recordAt image l) ≤ operandCount
+operands-limit image table ok l h = let r = recordAt image l in counted (opcode r) (operator r) (operands r) (head image table ok l h .count)
 
 length-operands : (r : List ℕ) (k n : ℕ) → length (operandsFrom r k n) ≡ n
 unfolding operandsFrom

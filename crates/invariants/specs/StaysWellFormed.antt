@@ -1,7 +1,7 @@
 -- Well formed stays well formed: every event that a checked image accepts leaves a well formed machine well formed, and a fresh
 -- machine is well formed.
 use mathlib.Core.Path.{_≡_, refl, sym, ap, _∙_, subst}
-use mathlib.Core.Bool.{true}
+use mathlib.Core.Bool.{true, false}
 use mathlib.Core.Option.{Option, none, some}
 use mathlib.Core.List.{List, [], _∷_, _++_}
 use Prim.Native.Nat.{ℕ, _≤_, _<_}
@@ -9,10 +9,11 @@ use native.Mathlib.Decide.{ℕ-discrete}
 use lib.ListN.{length}
 use lib.Seq.{getD-set-same, getD-set-other}
 use Rattle.rules.specs.Sizes.{threadCount, registerCount}
-use Rattle.rules.specs.Image.{recordAt, entry}
+use Rattle.rules.specs.Bytes.{has}
+use Rattle.rules.specs.Image.{recordAt, entry, rowAt}
 use Rattle.rules.specs.Check.{Checked}
 use Rattle.rules.specs.Machine.{Signal, Job, ThreadState, idle, running, Machine, threadAt, locksOf, jobOf, fresh, queue, first, put, window}
-use Rattle.rules.specs.Events.{Event, arrive, step, cut, Valid}
+use Rattle.rules.specs.Events.{Event, arrive, step, cut, threadOf, Valid}
 use Rattle.rules.specs.Steps.{Rules, Effect, Move, Reply, added, pendingOf, founded, requeued, rulesBy, grant, applied, finished, react, final}
 use Rattle.rules.specs.WellFormed.{pendingOk, machineOk}
 use Rattle.fields.specs.Each.{Each, each-append}
@@ -21,6 +22,7 @@ use Rattle.one_by_one.specs.Locks.{getD-set-idle}
 use Rattle.one_by_one.specs.Passed.{Passed, passed}
 use Rattle.one_by_one.specs.Checked.{checked-laws}
 use Rattle.invariants.specs.Happens.{startOf, goOf, Happens, remains, founds, starts, goes, ends, happens}
+use Rattle.invariants.specs.Untouched.{words-of-other-blocks-stay}
 use Rattle.invariants.specs.Queues.{first-queue, queue-append, queue-put, queue-put-other}
 use Rattle.invariants.specs.Members.{getD-set}
 use Rattle.invariants.specs.Sound.{PlaceIn, ThreadIn, PendingIn, TreeIn, QueueIn, Sound, sound-of, sound-ok}
@@ -166,3 +168,9 @@ module _ (image table : List ℕ) (checked : Checked image table) where
   pub well-formed-to-the-end : (s : Machine) (l : List Event) → length (s .threads) ≡ threadCount → machineOk image table s ≡ true → Each (Accepted image) l
       → machineOk image table (final (rulesBy image table) s l) ≡ true
   well-formed-to-the-end s l size m h = sound-ok image table _ (sound-final s l (sound-of image table s size m) h)
+
+-- of a well formed machine, as of any that has the invariant: a block whose lock the event's own thread does not hold keeps all its words
+pub words-of-other-blocks : (image table : List ℕ) (s : Machine) (e : Event) (b : ℕ) → length (s .threads) ≡ threadCount → machineOk image table s ≡ true
+    → ((t : ℕ) → threadOf e ≡ some t → has (rowAt table b .lock) (locksOf (threadAt s t)) ≡ false)
+    → window b (react (rulesBy image table) s e .state .words) ≡ window b (s .words)
+words-of-other-blocks image table s e b size m n = words-of-other-blocks-stay (rulesBy image table) s (sound-of image table s size m .invariant) e b n

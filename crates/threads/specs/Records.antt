@@ -21,7 +21,7 @@ use Rattle.encoding.specs.Sized.{SizedThread}
 use Rattle.encoding.specs.Lengths.{length-thread}
 use Rattle.encoding.specs.Tests.{zeros-part}
 use Rattle.encoding.specs.Runs.{length-chunks, chunks-at}
-use Rattle.encoding.specs.Registers.{presence-forth, values-forth}
+use Rattle.encoding.specs.Registers.{length-registers, presence-forth, values-forth}
 use Rattle.encoding.specs.Threads.{RunningRead, running-read, thread-back, thread-tidy}
 use Rattle.threads.specs.Returns.{TidyReturns}
 use Rattle.threads.specs.Registers.{none-registers, none-tidy}
@@ -167,3 +167,16 @@ bytes-say b l e = go (eqb (num16 b) idleLabel) refl e
 -- the thread that bytes were written of
 pub bytes-of : (x : law.ThreadState) → SizedThread x → (q : List ℕ) → Says (rawThread (threadBytes x ++ q)) x
 bytes-of x z q = rw (thread-back x z q) at (bytes-say (threadBytes x ++ q) (simp length-append (omega (arith, length-thread x))) (thread-tidy x z q))
+
+-- what a tidy state says is within the limits
+pub tidy-sized : (w : ThreadState) → Tidy w → SizedThread (stateOf w)
+unfolding stateOf
+tidy-sized w z = go (eqb (w .label .0) idleLabel) refl
+  where
+    go : (b : Bool) → eqb (w .label .0) idleLabel ≡ b → SizedThread (cond b idle (running (w .locks) (jobOf w)))
+    go true e = tt
+    go false e = record {
+      label = eqb-false (w .label .0) idleLabel e;
+      returns = omega (arith, z .returns .within, length-take-le (w .depth) (w .returns) (omega (arith, z .returns .within, z .returns .sized)));
+      registers = length-registers (w .present) (w .registers) 0 registerCount;
+    }

@@ -25,6 +25,11 @@ pub struct ThreadState {
 impl ThreadState {
     pub const IDLE: u16 = 65535;
 
+    // Where the thread records stand in the state, and how long each is.
+    pub const AT: usize = 512;
+
+    pub const SIZE: usize = 75;
+
     // A thread with nothing to do.
     pub fn idle() -> Self
         ensures { λ r. ⌜ Idle r ⌝ }

@@ -1,22 +1,20 @@
 -- Bytes that are the encoding of the machine that they say.
-use mathlib.Core.Path.{_≡_, _∙_}
+use mathlib.Core.Path.{_≡_, sym}
+use mathlib.Core.Bool.{true}
 use mathlib.Core.List.{List}
 use Prim.Native.Nat.{ℕ}
 use lib.ListN.{length, getD}
-use Rattle.rules.specs.Sizes.{treesAt, stateSize}
+use Rattle.rules.specs.Sizes.{stateSize}
 use Rattle.rules.specs.Machine.{Signal, Tree, Machine}
 use Rattle.rules.specs.Encoding.{noTree, encode, machineFrom}
+use Rattle.rules.specs.WellFormed.{stateTidy}
 use Rattle.encoding.specs.Sized.{Sized}
-use Rattle.encoding.specs.Lengths.{length-encode}
-use Rattle.encoding.specs.Layout.{count-back}
-use Rattle.encoding.specs.Machines.{machine-back}
+use Rattle.encoding.specs.Numbers.{AreBytes}
+use Rattle.encoding.specs.Machines.{machine-back, machine-forth, machine-sized}
+use Rattle.encoding.specs.Encoded.{Canonical, encodes, encoded-canonical}
 
--- the last two follow from the first
-pub record Canon (b : List ℕ) : Type 0 where
-  pub same : b ≡ encode (machineFrom b)
-  pub sized : Sized (machineFrom b)
-  pub long : length b ≡ stateSize
-  pub count : getD b treesAt 0 ≡ length (machineFrom b .trees)
+abbrev pub Canon : List ℕ → Type 0
+Canon b = Canonical b
 
 abbrev pub treeAt : Machine → ℕ → Tree
 treeAt s i = getD (s .trees) i noTree
@@ -30,9 +28,8 @@ module _ (s : Machine) (z : Sized s) {b : List ℕ} (e : b ≡ encode s) where
   says = rw e (machine-back s z)
 
   pub canon : Canon b
-  canon = record {
-    same = e ∙ rw says;
-    sized = rw says z;
-    long = rw e (length-encode s);
-    count = rw (says, e) (count-back s);
-  }
+  canon = encoded-canonical b s (encodes b s e z)
+
+-- bytes that pass the tests are those of the machine that they say
+pub canon-tidy : (b : List ℕ) → AreBytes b → length b ≡ stateSize → stateTidy b ≡ true → Canon b
+canon-tidy b h l e = canon (machineFrom b) (machine-sized b l e) (sym (machine-forth b h l e))

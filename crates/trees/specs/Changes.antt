@@ -5,16 +5,16 @@ use mathlib.Core.List.{List, [], _∷_, _++_, append-nil}
 use Prim.Native.Nat.{ℕ, zero, suc, _+_, _<_}
 use native.Mathlib.Omega.{arith}
 use lib.ListN.{length, getD, take, drop, set, length-append, length-set, length-drop, drop-of-length-le}
-use lib.Seq.{split-at}
+use lib.Seq.{split-at, set-split}
 use Rattle.rules.specs.Sizes.{treeCount, pendingCount}
-use Rattle.rules.specs.Machine.{Signal, Tree, Machine, put}
+use Rattle.rules.specs.Machine.{Signal, Tree, Machine, first, put}
 use Rattle.rules.specs.Encoding.{noTree}
 use Rattle.fields.specs.Each.{Each, each-at, each-set, each-append, each-tail}
 use Rattle.fields.specs.Filled.{removeAt, length-removeAt}
 use Rattle.encoding.specs.Sized.{SizedSignal, SizedTree, Sized}
 use Rattle.encoding.specs.TreeStores.{withTrees, sized-trees}
 use Rattle.encoding.specs.SignalStores.{pushed, rest, moved}
-use Rattle.encoding.specs.FirstTree.{firstTree, first-thread, put-none, put-some}
+use Rattle.encoding.specs.FirstTree.{firstTree, first-thread, first-some, put-none, put-some}
 use Rattle.trees.specs.Canon.{treeAt, pendingAt}
 
 -- ---- the machines
@@ -76,12 +76,29 @@ sized-one t g h = record { count = omega arith; each = (h, tt) }
 
 -- ---- tree i, where it is the first of thread u
 
+none-requeued : (t : ℕ) (p : List Signal) → length p ≡ 0 → requeuedOn t p ≡ []
+none-requeued t [] l = refl
+none-requeued t (g ∷ p) l = absurd (omega arith)
+
+some-requeued : (t : ℕ) (p : List Signal) → 0 < length p → requeuedOn t p ≡ record { thread = t; pending = p } ∷ []
+some-requeued t [] l = absurd (omega arith)
+some-requeued t (g ∷ p) l = refl
+
 module _ (s : Machine) (i u : ℕ) (e : i ≡ firstTree u (s .trees)) (h : i < length (s .trees)) where
+  pub first-is : first u (s .trees) ≡ some (pendingAt s i)
+  first-is = rw e (first-some u (s .trees) (rw e at h))
+
   pub set-first : (p : List Signal) → withTrees s (set (s .trees) i (record { thread = treeAt s i .thread; pending = p })) ≡ withTrees s (put u (some p) (s .trees))
   set-first p =
       let k : firstTree u (s .trees) < length (s .trees) = rw e at h in
       let f : treeAt s i .thread ≡ u = rw e (first-thread u (s .trees) k) in
       rw (f, e, ← put-some u p (s .trees) k)
+
+  -- the signals that it has already
+  pub put-same : put u (some (pendingAt s i)) (s .trees) ≡ s .trees
+  put-same =
+      let own : set (s .trees) i (treeAt s i) ≡ s .trees = set-split (s .trees) i (treeAt s i) h ∙ sym (split-at (s .trees) i noTree h) in
+      ap (λ (m : Machine). m .trees) (sym (set-first (pendingAt s i)) ∙ ap (withTrees s) own)
 
   pub remove-first : removeAt i (s .trees) ≡ put u none (s .trees)
   remove-first =
@@ -89,14 +106,6 @@ module _ (s : Machine) (i u : ℕ) (e : i ≡ firstTree u (s .trees)) (h : i < l
       rw (e, ← put-none u (s .trees) k)
 
   -- the tree of an ended job: nothing is pending, or something is
-  none-requeued : (t : ℕ) (p : List Signal) → length p ≡ 0 → requeuedOn t p ≡ []
-  none-requeued t [] l = refl
-  none-requeued t (g ∷ p) l = absurd (omega arith)
-
-  some-requeued : (t : ℕ) (p : List Signal) → 0 < length p → requeuedOn t p ≡ record { thread = t; pending = p } ∷ []
-  some-requeued t [] l = absurd (omega arith)
-  some-requeued t (g ∷ p) l = refl
-
   pub ended-empty : (t : ℕ) → length (pendingAt s i) ≡ 0 → withTrees s (removeAt i (s .trees)) ≡ ended u t i s
   ended-empty t l = rw (none-requeued t (pendingAt s i) l, append-nil, remove-first)
 
@@ -110,17 +119,3 @@ unfolding removeAt
 last-stays l i e =
     let o : drop (suc i) l ≡ [] = drop-of-length-le l {i = suc i} (omega arith) in
     rw (o, append-nil) (sym (split-at l i noTree (omega arith) ∙ rw o))
-
-pub last-set : (a : List Tree) (x y : Tree) (n : ℕ) → n ≡ length a → set (a ++ x ∷ []) n y ≡ a ++ y ∷ []
-last-set a x y n e = rw e (go a)
-  where
-    go : (a : List Tree) → set (a ++ x ∷ []) (length a) y ≡ a ++ y ∷ []
-    go [] = refl
-    go (z ∷ a) = ap (λ r. z ∷ r) (go a)
-
-pub last-at : (a : List Tree) (x : Tree) (n : ℕ) → n ≡ length a → getD (a ++ x ∷ []) n noTree ≡ x
-last-at a x n e = rw e (go a)
-  where
-    go : (a : List Tree) → getD (a ++ x ∷ []) (length a) noTree ≡ x
-    go [] = refl
-    go (z ∷ a) = go a

@@ -1,17 +1,20 @@
 -- A signal as a value of the code: the signal that it means, and its bytes.
-use mathlib.Core.Path.{_≡_, refl}
+use mathlib.Core.Path.{_≡_, refl, sym, ap, _∙_}
+use mathlib.Core.Bool.{true}
 use mathlib.Core.List.{List, [], _∷_, _++_}
 use Prim.Native.Nat.{ℕ, _≤_}
-use lib.ListN.{length, getD, take, drop}
+use lib.ListN.{length, getD, take, drop, take-append-drop}
 use lib.Seq.{take-at, length-take-le}
-use Rattle.rules.specs.Sizes.{registerCount}
+use Rattle.rules.specs.Sizes.{registerCount, signalSize}
 use Rattle.rules.specs.Sorts.{label}
 use Rattle.rules.specs.Bytes.{num16, le16, blocks, pad, chunks}
 use Rattle.rules.specs.Machine as law
-use Rattle.rules.specs.Encoding.{signalBytes}
+use Rattle.rules.specs.Encoding.{signalBytes, signalFrom}
+use Rattle.rules.specs.WellFormed.{signalTidy}
 use Rattle.fields.specs.Blocks.{pad-split, length-pad}
 use Rattle.encoding.specs.Sized.{SizedSignal}
-use Rattle.encoding.specs.Numbers.{num16-le16, nums-back}
+use Rattle.encoding.specs.Numbers.{num16-le16, nums-back, AreBytes}
+use Rattle.encoding.specs.Trees.{signal-forth, signal-sized}
 use Rattle.trees.specs.declared.signals.Signal.{Signal}
 
 -- the label, and as many values as are counted
@@ -33,9 +36,9 @@ signalRead b = record { label = label (num16 b); count = getD b 2 0; values = ch
 
 -- ---- read
 
-pub value-back : (g : law.Signal) → SizedSignal g → (q : List ℕ) → signalRead (signalBytes g ++ q) ≡ signalFor g
+value-back : (g : law.Signal) (q : List ℕ) → signalRead (signalBytes g ++ q) ≡ signalFor g
 unfolding signalRead signalBytes
-value-back g z q =
+value-back g q =
     let v : chunks num16 2 25 (blocks le16 (pad 0 25 (g .values)) ++ q) ≡ pad 0 25 (g .values) = nums-back 25 (pad 0 25 (g .values)) q (length-pad 0 25 (g .values)) in
     let a : num16 (le16 (g .label) ++ (length (g .values) ∷ (blocks le16 (pad 0 25 (g .values)) ++ q))) ≡ g .label = num16-le16 _ _ in
     λ i. record { label = label (a i); count = length (g .values); values = v i }
@@ -43,11 +46,15 @@ value-back g z q =
 counted : (g : law.Signal) → SizedSignal g → take (length (g .values)) (pad 0 registerCount (g .values)) ≡ g .values
 counted g z = rw (pad-split 0 25 (g .values) z) (take-at (g .values) _ (length (g .values)) refl)
 
-pub means : (g : law.Signal) → SizedSignal g → signalOf (signalFor g) ≡ g
-means g z = λ i. record { label = g .label; values = counted g z i }
+-- what is read means the signal that was written, and is tidy
+pub read-back : (g : law.Signal) → SizedSignal g → (q : List ℕ) {r : Signal} → r ≡ signalRead (signalBytes g ++ q) → (signalOf r ≡ g) × TidySignal r
+read-back g z q e = rw (e, value-back g q) (λ i. record { label = g .label; values = counted g z i }, record { few = z; zeros = rw (counted g z) })
 
-pub tidy-value : (g : law.Signal) → SizedSignal g → TidySignal (signalFor g)
-tidy-value g z = record { few = z; zeros = rw (counted g z) }
+-- the same of bytes that pass the test
+pub read-tidy : (b : List ℕ) → AreBytes b → signalSize ≤ length b → signalTidy b ≡ true → {r : Signal} → r ≡ signalRead b → (signalOf r ≡ signalFrom b) × TidySignal r
+read-tidy b h l t e =
+    let f : b ≡ signalBytes (signalFrom b) ++ drop 53 b = sym (rw (signal-forth b h l t) (take-append-drop 53 b)) in
+    read-back (signalFrom b) (signal-sized b l t) (drop 53 b) (e ∙ ap signalRead f)
 
 -- ---- written
 

@@ -1,30 +1,26 @@
 -- What runs of stores into a machine's bytes leave: the bytes are a machine's again, and which machine.
 use mathlib.Core.Path.{_≡_, refl, sym, ap, _∙_}
-use mathlib.Core.Bool.{true}
 use mathlib.Core.List.{List, [], _∷_, _++_}
 use Prim.Native.Nat.{ℕ, _+_, _*_, _-_, _≤_, _<_}
 use native.Mathlib.Omega.{arith}
-use lib.ListN.{length, getD, drop, replicate, length-append, length-drop}
-use lib.Seq.{take-all}
+use lib.ListN.{length, getD, drop, replicate, length-append}
+use lib.Seq.{take-all, getD-at, set-at}
 use Rattle.rules.specs.Sizes.{treeCount, pendingCount, signalSize, treeSize, treesAt}
 use Rattle.rules.specs.Bytes.{num16, part, firstBad}
 use Rattle.rules.specs.Machine.{Signal, Tree, Machine}
-use Rattle.rules.specs.Encoding.{noSignal, signalBytes, signalFrom, treeBytes, machineFrom}
-use Rattle.rules.specs.WellFormed.{signalTidy}
+use Rattle.rules.specs.Encoding.{noSignal, noTree, signalBytes, signalFrom, treeBytes, machineFrom}
 use Rattle.fields.specs.Put.{put, put-whole}
 use Rattle.fields.specs.Each.{each-at}
 use Rattle.fields.specs.Filled.{removeAt, length-removeAt}
 use Rattle.encoding.specs.Sized.{SizedSignal, SizedTree}
 use Rattle.encoding.specs.Lengths.{length-tree}
-use Rattle.encoding.specs.Numbers.{AreBytes, bytes-drop}
-use Rattle.encoding.specs.Trees.{signal-forth, signal-sized}
 use Rattle.encoding.specs.TreeStores.{withTrees, tree-remove, tree-append, signal-append}
 use Rattle.encoding.specs.SignalStores.{pushed, rest, moved, signal-push, signal-take, tree-move, pending-is, signal-on, signal-is, tree-bytes-are}
 use Rattle.encoding.specs.FirstTree.{firstTree, elsewhere, first-found}
 use Rattle.trees.specs.Canon.{Canon, treeAt, pendingAt, says, canon}
-use Rattle.trees.specs.Signals.{signalOf, TidySignal, signalRead, value-back, means, tidy-value}
+use Rattle.trees.specs.Signals.{signalOf, TidySignal, signalRead, read-back}
 use Rattle.trees.specs.declared.signals.Signal as Value
-use Rattle.trees.specs.Changes.{taken, sent, arrived, sized-append, sized-at, sized-set, sized-remove, sized-pushed, sized-rest, sized-moved, sized-one, set-first, last-at, last-set}
+use Rattle.trees.specs.Changes.{taken, sent, arrived, sized-append, sized-at, sized-set, sized-remove, sized-pushed, sized-rest, sized-moved, sized-one, set-first}
 
 -- ---- what is read
 
@@ -50,7 +46,7 @@ module _ {b : List ℕ} (k : Canon b) (i : ℕ) (h : i < length (machineFrom b .
         let z : SizedSignal g = each-at SizedSignal (pendingAt s i) 0 noSignal (sized-at s (k .sized) i h .each) some in
         let d = signal-on s i (k .same) (k .sized .trees) h at ea (k .sized .eachTree) 0 some in
         let f : drop (at + 2) b ≡ signalBytes g ++ d .0 = d .1 in
-        rw (e, f, value-back g z (d .0)) (means g z, tidy-value g z)
+        read-back g z (d .0) (e ∙ ap signalRead f)
 
 -- ---- tree i
 
@@ -85,18 +81,13 @@ module _ {b : List ℕ} (k : Canon b) (i : ℕ) (h : i < length (machineFrom b .
 -- ---- the list's end
 
 module _ {b : List ℕ} (k : Canon b) where
-  pub signal-arrived : {b₁ b₂ : List ℕ} (t n at : ℕ) (from : List ℕ) (start : ℕ) → AreBytes from → start + signalSize ≤ length from → signalTidy (drop start from) ≡ true
-      → length (machineFrom b .trees) < treeCount → n ≡ length (machineFrom b .trees) → at ≡ treesAt + 1 + treeSize * n
-      → b₁ ≡ put b at (t ∷ 1 ∷ part from start signalSize) → b₂ ≡ put b₁ treesAt ((n + 1) ∷ [])
-      → Canon b₂ × (machineFrom b₂ ≡ arrived t (signalFrom (drop start from)) (machineFrom b))
-  unfolding part
-  signal-arrived {b₁} t n at from start bytes fits tidy room en ea e₁ e₂ =
+  pub signal-arrived : {b₁ b₂ : List ℕ} (t n at : ℕ) (g : Signal) → SizedSignal g → length (machineFrom b .trees) < treeCount → n ≡ length (machineFrom b .trees)
+      → at ≡ treesAt + 1 + treeSize * n → b₁ ≡ put b at (t ∷ 1 ∷ signalBytes g) → b₂ ≡ put b₁ treesAt ((n + 1) ∷ [])
+      → Canon b₂ × (machineFrom b₂ ≡ arrived t g (machineFrom b))
+  signal-arrived t n at g zg room en ea e₁ e₂ =
       let s = machineFrom b in
-      let g = signalFrom (drop start from) in
-      let l : signalSize ≤ length (drop start from) = simp length-drop (omega arith) in
-      let f : signalBytes g ≡ part from start 53 = signal-forth (drop start from) (bytes-drop from start bytes) l tidy in
-      let q = signal-append s t n at g (k .same) room en ea (rw f e₁) e₂ in
-      let z = sized-append s (k .sized) _ (sized-one t g (signal-sized (drop start from) l tidy)) room in
+      let q = signal-append s t n at g (k .same) room en ea e₁ e₂ in
+      let z = sized-append s (k .sized) _ (sized-one t g zg) room in
       (canon _ z q, says _ z q)
 
   pub tree-appended : {b₁ b₂ : List ℕ} (n at : ℕ) (x : Tree) → SizedTree x → length (machineFrom b .trees) < treeCount → n ≡ length (machineFrom b .trees)
@@ -135,4 +126,4 @@ last-moved {b} {b′} k s a x t n m en e =
     let y = moved (treeAt (machineFrom b) (n - 1)) t in
     let q = tree-move (machineFrom b) (n - 1) (k .same) (k .sized .trees) h t (1113 + 426 * (n - 1)) refl e in
     let z = sized-set (machineFrom b) (k .sized) (n - 1) h y (sized-moved _ t (sized-at (machineFrom b) (k .sized) (n - 1) h)) in
-    (canon _ z q, says _ z q ∙ rw m (rw (last-at a x (n - 1) p, last-set a x (moved x t) (n - 1) p)))
+    (canon _ z q, says _ z q ∙ rw m (rw (getD-at a x [] noTree (n - 1) (sym p), set-at a x [] (moved x t) (n - 1) (sym p))))

@@ -1,5 +1,6 @@
 // The job trees in the lent bytes of a state, read and changed in place.
 pub mod copies;
+pub mod layout;
 pub mod list;
 pub mod pending;
 pub mod signals;

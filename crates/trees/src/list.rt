@@ -1,11 +1,13 @@
 // The list of trees: its count, a thread's first tree, a tree that comes, and a tree that leaves or goes to the end.
 use crate::copies::copy;
-use crate::pending::OLDEST;
-use crate::pending::PENDING;
-use crate::pending::TREE;
-use crate::pending::TREES;
+use crate::layout::COUNT;
+use crate::layout::OLDEST;
+use crate::layout::PENDING;
+use crate::layout::TREE;
+use crate::layout::TREES;
 use crate::pending::pending;
-use crate::signals::SIGNAL;
+use crate::signals::read_signal;
+use crate::signals::write_signal;
 use fields::read::get8;
 use fields::write::put8;
 use fields::write::remove;
@@ -24,9 +26,6 @@ ghost use Rattle.encoding.specs.SignalStores.{moved};
 ghost use Rattle.encoding.specs.TreeStores.{withTrees};
 ghost use Rattle.trees.specs.Canon.{Canon, treeAt};
 ghost use Rattle.trees.specs.Changes.{arrived, ended};
-
-// The tree count, before the tree records.
-const COUNT: usize = 1112;
 
 pub fn tree_count(state: &[u8]) -> usize
     requires { ⌜ Canon (now state) ⌝ }
@@ -60,9 +59,10 @@ pub fn append(state: &mut [u8], t: Thread, bytes: &[u8], at: usize)
 {
     let n = get8(state, COUNT);
     let to = TREES + TREE * n;
+    let g = read_signal(bytes, at);
     put8(state, to, thread_number(t));
     put8(state, to + PENDING, 1);
-    copy(state, to + OLDEST, bytes, at, SIGNAL);
+    write_signal(state, to + OLDEST, g);
     put8(state, COUNT, (n + 1) as u8);
 }
 

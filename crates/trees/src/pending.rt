@@ -1,5 +1,9 @@
 // The pending signals of tree i, oldest first.
-use crate::signals::SIGNAL;
+use crate::layout::OLDEST;
+use crate::layout::PENDING;
+use crate::layout::SIGNAL;
+use crate::layout::TREE;
+use crate::layout::TREES;
 use crate::signals::Signal;
 use crate::signals::read_signal;
 use crate::signals::write_signal;
@@ -18,15 +22,6 @@ ghost use Rattle.encoding.specs.FirstTree.{firstTree};
 ghost use Rattle.trees.specs.Canon.{Canon, pendingAt};
 ghost use Rattle.trees.specs.Signals.{signalOf, TidySignal};
 ghost use Rattle.trees.specs.Changes.{taken, sent};
-
-// The tree records: the first, and the bytes of each. A tree's pending count and its oldest signal stand after its thread.
-pub const TREES: usize = 1113;
-
-pub const TREE: usize = 426;
-
-pub const PENDING: usize = 1;
-
-pub const OLDEST: usize = 2;
 
 // How many there are.
 pub fn pending(state: &[u8], i: usize) -> usize

@@ -15,8 +15,6 @@ ghost use Rattle.rules.specs.Encoding.{signalBytes};
 ghost use Rattle.fields.specs.Put.{put};
 ghost use Rattle.trees.specs.Signals.{signalOf, TidySignal, signalRead};
 
-pub const SIGNAL: usize = 53;
-
 pub struct Signal {
     pub label: Label,
     pub count: u8,

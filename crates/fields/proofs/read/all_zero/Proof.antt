@@ -1,40 +1,32 @@
-use mathlib.Core.Path.{_≡_, refl, sym, _∙_}
-use Prim.Native.Nat.{_+_, _-_, _≤_}
-use native.Mathlib.Nat.{add-zero, sub-zero}
+use Prim.Native.Nat.{_-_}
 use native.Mathlib.Omega.{arith}
-use borrow.Author.Tests.{eq-eqb, ne-eqb}
 use denote.Ref.{now}
-use Rattle.rules.specs.Bytes.{part, isZeros}
-use Rattle.fields.specs.Tests.{zeros-step, zeros-done}
+use Rattle.fields.specs.Tests.{Gathered, gathered-none, gathered-next, gathered-all}
 use Rattle.fields.proofs.read.all_zero.Statement.{statement}
 use Rattle.fields.proofs.read.all_zero.Tie as tie
 
 abbrev Inv-loop : tie.InvT-loop
-Inv-loop s at n k₀ k = (k ≤ n) × (isZeros (part s at n) ≡ isZeros (part s (at + k) (n - k)))
+Inv-loop s at n set₀ k₀ set k = Gathered s at n set k
 
 abbrev μ-loop : tie.MeasureT-loop
-μ-loop s at n k₀ k = n - k
+μ-loop s at n set₀ k₀ set k = n - k
 
 loop-holds : tie.Need-loop-holds Inv-loop μ-loop
-loop-holds c = (omega arith, rw (add-zero, sub-zero))
-
-returns : tie.Need-returns Inv-loop μ-loop
-returns c =
-    let a = c .before .before .before .before .args in
-    let l = c .before .before .before .loop in
-    sym (l .inv .1 ∙ zeros-step (now (a .s)) (a .at) (a .n) (l .k) (c .before .before .loop-test .taken) (c .before .before .before .before .pre) ∙ rw (ne-eqb _ _ (c .if1 .taken)))
+loop-holds c =
+    let a = c .args in
+    gathered-none (now (a .s)) (a .at) (a .n)
 
 loop-again : tie.Need-loop-again Inv-loop μ-loop
 loop-again c =
-    let a = c .before .before .before .before .args in
-    let l = c .before .before .before .loop in
-    (omega arith, l .inv .1 ∙ zeros-step (now (a .s)) (a .at) (a .n) (l .k) (c .before .before .loop-test .taken) (c .before .before .before .before .pre) ∙ rw (eq-eqb _ _ (c .if1 .left)))
+    let a = c .before .before .before .args in
+    let l = c .before .before .loop in
+    gathered-next (now (a .s)) (a .at) (a .n) (l .set) (l .k) (l .inv) (c .before .loop-test .taken) (c .before .before .before .pre)
 
-returns-2 : tie.Need-returns-2 Inv-loop μ-loop
-returns-2 c =
+returns : tie.Need-returns Inv-loop μ-loop
+returns c =
     let a = c .before .before .args in
     let l = c .before .loop in
-    sym (l .inv .1 ∙ zeros-done (now (a .s)) (a .at + l .k) (a .n) (l .k) (omega arith))
+    gathered-all (now (a .s)) (a .at) (a .n) (l .set) (l .k) (l .inv) (c .loop-test .left)
 
 pub all-zero-spec : {M : Type 1} → statement M
 all-zero-spec =
@@ -45,8 +37,7 @@ all-zero-spec =
     loop-holds
     (λ c. omega arith)
     (λ c. omega arith)
-    returns
     (λ c. omega arith)
     (λ c. omega arith)
     loop-again
-    returns-2)
+    returns)

@@ -1,5 +1,7 @@
-use mathlib.Core.Path.{sym, _∙_}
-use Rattle.image.specs.Faults.{found, passed, last, table-length}
+use mathlib.Core.Path.{refl, sym, _∙_}
+use Rattle.rules.specs.Bytes.{allFrom}
+use Rattle.image.specs.Operands.{Marks}
+use Rattle.image.specs.Faults.{found, passed, table-length}
 use borrow.Author.Needs.{needs}
 use Rattle.image.proofs.check.image_fault.Statement.{statement}
 use Rattle.image.proofs.check.image_fault.Tie as tie
@@ -15,20 +17,16 @@ returns-2 c =
 table-fault-requires : tie.Need-table-fault-requires
 table-fault-requires c κs = table-length _ (sym (c .before .table-length-fault .ensures) ∙ c .if2 .left)
 
+record-fault-requires : tie.Need-record-fault-requires
+unfolding Marks allFrom
+record-fault-requires c κs = (c .before .before .before .before .before .before .before .count-labels .ensures, refl, refl)
+
 returns-3 : tie.Need-returns-3
 returns-3 c =
-    let c2 = c .before .before in
+    let c2 = c .before .before .before .before .before in
     let c1 = c2 .before .before in
-    rw (← c1 .before .image-length-fault .ensures, ← c2 .before .table-length-fault .ensures, ← c .before .table-fault .ensures)
-    (sym (passed _ _ (c1 .if1 .left) ∙ passed _ _ (c2 .if2 .left) ∙ found _ _ (c .if3 .taken)))
-
-returns-4 : tie.Need-returns-4
-returns-4 c =
-    let c3 = c .before in
-    let c2 = c3 .before .before in
-    let c1 = c2 .before .before in
-    rw (← c1 .before .image-length-fault .ensures, ← c2 .before .table-length-fault .ensures, ← c3 .before .table-fault .ensures, ← c .record-fault .ensures)
-    (sym (passed _ _ (c1 .if1 .left) ∙ passed _ _ (c2 .if2 .left) ∙ passed _ _ (c3 .if3 .left) ∙ last _))
+    rw (← c1 .before .image-length-fault .ensures, ← c2 .before .table-length-fault .ensures, ← c .before .before .before .before .table-fault .ensures, ← c .before .record-fault .ensures)
+    (c .first-of .ensures ∙ sym (passed _ _ (c1 .if1 .left) ∙ passed _ _ (c2 .if2 .left)))
 
 pub image-fault-spec : {M : Type 1} → statement M
 image-fault-spec =
@@ -40,6 +38,6 @@ image-fault-spec =
     (λ c κs. search needs)
     returns-2
     table-fault-requires
-    returns-3
+    record-fault-requires
     (λ c κs. search needs)
-    returns-4)
+    returns-3)

@@ -1,11 +1,10 @@
-use Rattle.image.proofs.Bits.{or-zero}
 use mathlib.Core.Path.{_≡_, refl}
 use mathlib.Core.Bool.{_&&_, and-assoc, and-true}
 use Prim.Native.Nat.{_*_, _≤_, _-_}
 use native.Mathlib.Omega.{arith}
 use lib.Dec.{eqb}
 use Rattle.rules.specs.Bytes.{allFrom}
-use Rattle.fields.specs.Tests.{all-step, all-done}
+use Rattle.fields.specs.Tests.{or-none, all-step, all-done}
 use Rattle.image.specs.Operands.{bitsOk}
 use Rattle.image.proofs.operands.wrong_bits.Statement.{statement}
 use Rattle.image.proofs.operands.wrong_bits.Tie as tie
@@ -24,7 +23,7 @@ unfolding bitsOk
 loop-again c =
     let a = c .before .before .before .before .args in
     let l = c .before .before .before .loop in
-    (omega arith, omega arith, refl, rw (or-zero, and-assoc) (rw (all-step (bitsOk (a .marks .now) (a .r .now) (a .c)) (a .to) (l .i) (omega arith)) at (l .inv .3)))
+    (omega arith, omega arith, refl, rw (or-none, and-assoc) (rw (all-step (bitsOk (a .marks .now) (a .r .now) (a .c)) (a .to) (l .i) (omega arith)) at (l .inv .3)))
 
 returns : tie.Need-returns Inv-loop μ-loop
 returns c =

@@ -83,17 +83,17 @@ form-ok-spec =
     (tie.spec
     (λ c. search needs)
     (λ c. search needs)
-    (λ c κs. search needs)
+    (λ c κs. (c .before .before .before .before .before .pre .0, c .before .before .before .before .before .pre .1))
     (λ c. search needs)
     (λ c κs. search needs)
-    (λ c κs. search needs)
-    (λ c κs. search needs)
-    (λ c κs. search needs)
-    (λ c κs. search needs)
-    (λ c κs. search needs)
-    (λ c κs. search needs)
-    (λ c κs. search needs)
-    (λ c κs. search needs)
+    (λ c κs. (c .before .before .before .before .before .before .before .pre .0, c .before .before .before .before .before .before .before .pre .1))
+    (λ c κs. (c .before .before .before .before .before .pre .0, c .before .before .before .before .before .pre .1))
+    (λ c κs. (c .before .before .before .before .before .pre .0, c .before .before .before .before .before .pre .1))
+    (λ c κs. (c .before .before .before .before .before .pre .0, c .before .before .before .before .before .pre .1))
+    (λ c κs. (c .before .before .before .before .before .pre .0, c .before .before .before .before .before .pre .1))
+    (λ c κs. (c .before .before .before .before .before .pre .0, c .before .before .before .before .before .pre .1))
+    (λ c κs. (c .before .before .before .before .before .pre .0, c .before .before .before .before .before .pre .1))
+    (λ c κs. (c .before .before .before .before .before .pre .0, c .before .before .before .before .before .pre .1))
     returns
     returns-2
     returns-3

@@ -2,7 +2,6 @@ use Prim.Native.Nat.{_^_, _<_}
 use native.Mathlib.Nat.{one-mul, mod-eq-of-lt}
 use native.Mathlib.Omega.{arith}
 use lib.Pow.{pow-mono, pow-pos}
-use borrow.Author.Needs.{needs}
 use Rattle.threads.proofs.registers.low.Statement.{statement}
 use Rattle.threads.proofs.registers.low.Tie as tie
 
@@ -16,4 +15,4 @@ returns : tie.Need-returns
 returns c = let h = small c in rw (one-mul, mod-eq-of-lt h)
 
 pub low-spec : {M : Type 1} → statement M
-low-spec = tie.close (tie.spec (λ c. search needs) sub-result returns)
+low-spec = tie.close (tie.spec (λ c. omega arith) sub-result returns)

@@ -2,7 +2,6 @@ use Prim.Native.Nat.{_^_, _<_}
 use native.Mathlib.Nat.{one-mul, mod-eq-of-lt}
 use native.Mathlib.Omega.{arith}
 use lib.Pow.{pow-lt}
-use borrow.Author.Needs.{needs}
 use Rattle.threads.proofs.registers.unmark.Statement.{statement}
 use Rattle.threads.proofs.registers.unmark.Tie as tie
 
@@ -10,4 +9,4 @@ returns : tie.Need-returns
 returns c = let h : 2 ^ c .args .register < 4294967296 = omega (arith, pow-lt (c .pre)) in rw (one-mul, mod-eq-of-lt h)
 
 pub unmark-spec : {M : Type 1} → statement M
-unmark-spec = tie.close (tie.spec (λ c. search needs) (λ c. search needs) (λ c. search needs) (λ c. search needs) returns)
+unmark-spec = tie.close (tie.spec (λ c. omega arith) (λ c. omega arith) (λ c. omega arith) (λ c. omega arith) returns)

@@ -1,6 +1,6 @@
+use native.Mathlib.Omega.{arith}
 use mathlib.Core.Path.{refl, _∙_}
 use Rattle.trees.specs.Stored.{tree-removed}
-use borrow.Author.Needs.{needs}
 use Rattle.trees.proofs.list.remove_tree.Statement.{statement}
 use Rattle.trees.proofs.list.remove_tree.Tie as tie
 
@@ -13,15 +13,15 @@ pub remove-tree-spec : {M : Type 1} → statement M
 remove-tree-spec =
     tie.close
     (tie.spec
-    (λ c κs. search needs)
-    (λ c. search needs)
-    (λ c. search needs)
-    (λ c. search needs)
-    (λ c. search needs)
-    (λ c. search needs)
-    (λ c κs. search needs)
-    (λ c. search needs)
-    (λ c. search needs)
-    (λ c κs. search needs)
-    (λ c. search needs)
+    (λ c κs. omega arith)
+    (λ c. omega arith)
+    (λ c. omega arith)
+    (λ c. omega arith)
+    (λ c. omega arith)
+    (λ c. omega arith)
+    (λ c κs. omega arith)
+    (λ c. omega arith)
+    (λ c. omega arith)
+    (λ c κs. omega arith)
+    (λ c. omega arith)
     returns)

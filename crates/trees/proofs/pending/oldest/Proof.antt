@@ -1,3 +1,4 @@
+use native.Mathlib.Omega.{arith}
 use Rattle.trees.specs.Stored.{oldest-read}
 use mathlib.Core.Path.{refl}
 use borrow.Author.Needs.{needs}
@@ -12,4 +13,4 @@ returns c =
 pub oldest-spec : {M : Type 1} → statement M
 oldest-spec =
     tie.close
-    (tie.spec (λ c. search needs) (λ c. search needs) (λ c. search needs) (λ c κs. search needs) returns)
+    (tie.spec (λ c. omega arith) (λ c. search needs) (λ c. search needs) (λ c κs. omega arith) returns)

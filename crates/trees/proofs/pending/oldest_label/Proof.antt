@@ -1,3 +1,4 @@
+use native.Mathlib.Omega.{arith}
 use Rattle.rules.specs.Sorts.{label}
 use Rattle.trees.specs.Stored.{label-read}
 use mathlib.Core.Path.{refl, ap, _∙_}
@@ -12,4 +13,4 @@ returns c =
 
 pub oldest-label-spec : {M : Type 1} → statement M
 oldest-label-spec =
-    tie.close (tie.spec (λ c. search needs) (λ c. search needs) (λ c. search needs) (λ c κs. search needs) (λ c κs. search needs) returns)
+    tie.close (tie.spec (λ c. omega arith) (λ c. search needs) (λ c. search needs) (λ c κs. omega arith) (λ c κs. search needs) returns)

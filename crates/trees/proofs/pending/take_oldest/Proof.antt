@@ -6,7 +6,6 @@ use lib.ListN.{length, getD}
 use Rattle.rules.specs.Encoding.{machineFrom}
 use Rattle.trees.specs.Canon.{pendingAt}
 use Rattle.trees.specs.Stored.{pending-byte, pending-few, oldest-taken}
-use borrow.Author.Needs.{needs}
 use Rattle.trees.proofs.pending.take_oldest.Statement.{statement}
 use Rattle.trees.proofs.pending.take_oldest.Tie as tie
 
@@ -32,17 +31,17 @@ pub take-oldest-spec : {M : Type 1} → statement M
 take-oldest-spec =
     tie.close
     (tie.spec
-    (λ c. search needs)
-    (λ c. search needs)
-    (λ c. search needs)
-    (λ c κs. search needs)
-    (λ c. search needs)
+    (λ c. omega arith)
+    (λ c. omega arith)
+    (λ c. omega arith)
+    (λ c κs. omega arith)
+    (λ c. omega arith)
     sub-remove
-    (λ c. search needs)
+    (λ c. omega arith)
     remove-requires
-    (λ c. search needs)
+    (λ c. omega arith)
     sub-put8
-    (λ c. search needs)
-    (λ c κs. search needs)
-    (λ c. search needs)
+    (λ c. omega arith)
+    (λ c κs. omega arith)
+    (λ c. omega arith)
     returns)

@@ -1,7 +1,7 @@
+use native.Mathlib.Omega.{arith}
 use denote.Ref.{now}
 use lib.Seq.{drop-drop, getD-drop}
 use Rattle.trees.specs.Signals.{signalRead}
-use borrow.Author.Needs.{needs}
 use Rattle.trees.proofs.signals.read_signal.Statement.{statement}
 use Rattle.trees.proofs.signals.read_signal.Tie as tie
 
@@ -16,11 +16,11 @@ pub read-signal-spec : {M : Type 1} → statement M
 read-signal-spec =
     tie.close
     (tie.spec
-    (λ c. search needs)
-    (λ c. search needs)
-    (λ c κs. search needs)
-    (λ c κs. search needs)
-    (λ c κs. search needs)
-    (λ c. search needs)
-    (λ c. search needs)
+    (λ c. omega arith)
+    (λ c. omega arith)
+    (λ c κs. omega arith)
+    (λ c κs. omega arith)
+    (λ c κs. omega arith)
+    (λ c. omega arith)
+    (λ c. omega arith)
     returns)

@@ -23,12 +23,12 @@ pub write-signal-spec : {M : Type 1} → statement M
 write-signal-spec =
     tie.close
     (tie.spec
-    (λ c κs. search needs)
-    (λ c κs. search needs)
-    (λ c. search needs)
-    (λ c κs. search needs)
-    (λ c. search needs)
+    (λ c κs. omega arith)
+    (λ c κs. omega arith)
+    (λ c. omega arith)
+    (λ c κs. omega arith)
+    (λ c. omega arith)
     (λ c. search needs)
     put16s-requires
-    (λ c. search needs)
+    (λ c. omega arith)
     returns)

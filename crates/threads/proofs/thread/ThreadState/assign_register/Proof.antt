@@ -1,5 +1,5 @@
+use native.Mathlib.Omega.{arith}
 use mathlib.Core.Path.{refl, ap}
-use borrow.Author.Needs.{needs}
 use Rattle.threads.specs.Registers.{stored-registers, stored-tidy}
 use Rattle.threads.specs.Threads.{running-thread, job, returnsOf}
 use Rattle.threads.proofs.thread.ThreadState.assign_register.Statement.{statement}
@@ -16,4 +16,4 @@ returns c =
     (ap (λ l. job (w .label .0) (returnsOf w) l) (stored-registers (w .present) (w .registers) (a .register) (a .value) (z .sized) (p .1))))
 
 pub assign-register-spec : {M : Type 1} → statement M
-assign-register-spec = tie.close (tie.spec (λ c. search needs) (λ c. search needs) (λ c κs. search needs) returns)
+assign-register-spec = tie.close (tie.spec (λ c. omega arith) (λ c. omega arith) (λ c κs. omega arith) returns)

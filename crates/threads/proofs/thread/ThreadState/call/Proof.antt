@@ -1,8 +1,8 @@
+use native.Mathlib.Omega.{arith}
 use Prim.Native.Nat.{_+_}
 use mathlib.Core.Path.{_≡_, refl, ap}
 use mathlib.Core.List.{[], _∷_, _++_}
 use lib.ListN.{set, take}
-use borrow.Author.Needs.{needs}
 use Rattle.rules.specs.Machine.{fill}
 use Rattle.threads.specs.Returns.{pushed, pushed-tidy}
 use Rattle.threads.specs.Threads.{job, returnsOf, tidy-with, runs-as}
@@ -29,10 +29,10 @@ pub call-spec : {M : Type 1} → statement M
 call-spec =
     tie.close
     (tie.spec
-    (λ c κs. search needs)
-    (λ c κs. search needs)
-    (λ c. search needs)
-    (λ c. search needs)
-    (λ c. search needs)
+    (λ c κs. omega arith)
+    (λ c κs. omega arith)
+    (λ c. omega arith)
+    (λ c. omega arith)
+    (λ c. omega arith)
     enter-requires
     returns)

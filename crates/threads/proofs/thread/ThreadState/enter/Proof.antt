@@ -18,4 +18,4 @@ returns : tie.Need-returns
 returns c = rw (c .fill .ensures) (filled-runs _ _ (c .before .pre .1) (c .before .pre .0 .returns) (few (c .before)))
 
 pub enter-spec : {M : Type 1} → statement M
-enter-spec = tie.close (tie.spec (λ c κs. search needs) returns)
+enter-spec = tie.close (tie.spec (λ c κs. omega arith) returns)

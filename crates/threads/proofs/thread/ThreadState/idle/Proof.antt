@@ -1,4 +1,4 @@
-use borrow.Author.Needs.{needs}
+use native.Mathlib.Omega.{arith}
 use Rattle.threads.specs.Threads.{idle-thread}
 use Rattle.threads.proofs.thread.ThreadState.idle.Statement.{statement}
 use Rattle.threads.proofs.thread.ThreadState.idle.Tie as tie
@@ -7,4 +7,4 @@ returns : tie.Need-returns
 returns c = rw (c .label-of .ensures) idle-thread
 
 pub idle-spec : {M : Type 1} → statement M
-idle-spec = tie.close (tie.spec (λ c κs. search needs) returns)
+idle-spec = tie.close (tie.spec (λ c κs. omega arith) returns)

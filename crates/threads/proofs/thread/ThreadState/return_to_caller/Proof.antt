@@ -1,7 +1,7 @@
+use native.Mathlib.Omega.{arith}
 use Prim.Native.Nat.{_-_}
 use mathlib.Core.Path.{_≡_, refl, ap, _∙_}
 use lib.ListN.{getD, set, take}
-use borrow.Author.Needs.{needs}
 use Rattle.rules.specs.Machine.{fill}
 use Rattle.threads.specs.Returns.{newestOf, olderOf, popped, popped-label, popped-tidy}
 use Rattle.threads.specs.Threads.{job, returnsOf, tidy-with, runs-as}
@@ -36,13 +36,13 @@ pub return-to-caller-spec : {M : Type 1} → statement M
 return-to-caller-spec =
     tie.close
     (tie.spec
-    (λ c. search needs)
-    (λ c κs. search needs)
-    (λ c. search needs)
-    (λ c. search needs)
-    (λ c κs. search needs)
-    (λ c. search needs)
-    (λ c. search needs)
-    (λ c. search needs)
+    (λ c. omega arith)
+    (λ c κs. omega arith)
+    (λ c. omega arith)
+    (λ c. omega arith)
+    (λ c κs. omega arith)
+    (λ c. omega arith)
+    (λ c. omega arith)
+    (λ c. omega arith)
     enter-requires
     returns)

@@ -26,4 +26,4 @@ returns c =
     (ap (λ k. job (a .label .0) (returnsOf w) (map some vs ++ drop k (registersOf w))) (counted (c .before))))
 
 pub transfer-spec : {M : Type 1} → statement M
-transfer-spec = tie.close (tie.spec (λ c κs. search needs) returns)
+transfer-spec = tie.close (tie.spec (λ c κs. omega arith) returns)

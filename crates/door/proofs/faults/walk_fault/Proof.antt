@@ -1,0 +1,50 @@
+use mathlib.Core.Path.{_≡_, sym, _∙_}
+use mathlib.Core.List.{List, [], _∷_}
+use Prim.Native.Nat.{ℕ}
+use borrow.Author.Needs.{needs}
+use denote.Ref.{now}
+use Rattle.rules.specs.Check.{firstOf}
+use Rattle.rules.specs.Calls.{threadFault, metLengthFault, walkFault}
+use Rattle.door.specs.Faults.{machineFaults, before, after, one, other}
+use Rattle.door.proofs.faults.walk_fault.Statement.{statement}
+use Rattle.door.proofs.faults.walk_fault.Tie as tie
+
+returns : tie.Need-returns
+unfolding walkFault
+returns c =
+    let a = c .before .before .before .before .before .before .args in
+    let xs : List ℕ = machineFaults (now (a .image)) (now (a .table)) (now (a .state)) in
+    let ys : List ℕ = threadFault (a .thread) ∷ metLengthFault (now (a .met)) ∷ [] in
+    let e : c .before .machine-fault .result ≡ firstOf xs = c .before .machine-fault .ensures in
+    e ∙ sym (before xs ys (λ z. c .if1 .taken (e ∙ z)))
+
+returns-2 : tie.Need-returns-2
+unfolding walkFault
+returns-2 c =
+    let a = c .before .before .before .before .before .before .before .before .args in
+    let xs : List ℕ = machineFaults (now (a .image)) (now (a .table)) (now (a .state)) in
+    let ys : List ℕ = threadFault (a .thread) ∷ metLengthFault (now (a .met)) ∷ [] in
+    let e : c .before .before .before .machine-fault .result ≡ firstOf xs = c .before .before .before .machine-fault .ensures in
+    let f : c .before .thread-fault .result ≡ threadFault (a .thread) = c .before .thread-fault .ensures in
+    f ∙ sym (after xs ys (sym e ∙ c .before .before .if1 .left) ∙ one (threadFault (a .thread)) (metLengthFault (now (a .met))) (λ z. c .if2 .taken (f ∙ z)))
+
+returns-3 : tie.Need-returns-3
+unfolding walkFault
+returns-3 c =
+    let a = c .before .before .before .before .before .before .before .before .before .args in
+    let xs : List ℕ = machineFaults (now (a .image)) (now (a .table)) (now (a .state)) in
+    let ys : List ℕ = threadFault (a .thread) ∷ metLengthFault (now (a .met)) ∷ [] in
+    let e : c .before .before .before .before .machine-fault .result ≡ firstOf xs = c .before .before .before .before .machine-fault .ensures in
+    let f : c .before .before .thread-fault .result ≡ threadFault (a .thread) = c .before .before .thread-fault .ensures in
+    c .met-length-fault .ensures ∙ sym (after xs ys (sym e ∙ c .before .before .before .if1 .left) ∙ other (threadFault (a .thread)) (metLengthFault (now (a .met))) (sym f ∙ c .before .if2 .left))
+
+pub walk-fault-spec : {M : Type 1} → statement M
+walk-fault-spec =
+    tie.close
+    (tie.spec
+    (λ c κs. search needs)
+    returns
+    (λ c κs. search needs)
+    returns-2
+    (λ c κs. search needs)
+    returns-3)

@@ -1,0 +1,35 @@
+-- The refusals of a call on a machine.
+use mathlib.Core.Path.{_≡_, _∙_}
+use mathlib.Core.List.{List, [], _∷_, _++_}
+use Prim.Native.Nat.{ℕ}
+use lib.ListN.{length}
+use native.Mathlib.Omega.{arith}
+use lib.Dec.{eqb}
+use borrow.Author.Tests.{eqb-true, eq-eqb, ne-eqb}
+use Rattle.rules.specs.Check.{firstOf, imageFaults}
+use Rattle.rules.specs.Calls.{stateLengthFault, stateFault}
+use Rattle.image.specs.Faults.{found, passed, last, then, refusal-none}
+
+-- numbers 1 to 6
+abbrev pub machineFaults : List ℕ → List ℕ → List ℕ → List ℕ
+machineFaults image table state = imageFaults image table (stateLengthFault state ∷ stateFault image table state ∷ [])
+
+pub state-length : (state : List ℕ) → stateLengthFault state ≡ 0 → length state ≡ 7929
+unfolding stateLengthFault
+state-length state e = eqb-true (length state) 7929 (refusal-none (eqb (length state) 7929) 5 0 (omega arith) e)
+
+-- one of the refusals xs applies, or ys decide
+module _ (xs ys : List ℕ) where
+  pub before : (firstOf xs ≡ 0 → ⊥) → firstOf (xs ++ ys) ≡ firstOf xs
+  before h = then xs ys ∙ rw (ne-eqb (firstOf xs) 0 h)
+
+  pub after : firstOf xs ≡ 0 → firstOf (xs ++ ys) ≡ firstOf ys
+  after h = then xs ys ∙ rw (eq-eqb (firstOf xs) 0 h)
+
+-- two refusals of which the first applies, or does not
+module _ (x y : ℕ) where
+  pub one : (x ≡ 0 → ⊥) → firstOf (x ∷ y ∷ []) ≡ x
+  one h = found x (y ∷ []) h
+
+  pub other : x ≡ 0 → firstOf (x ∷ y ∷ []) ≡ y
+  other h = passed x (y ∷ []) h ∙ last y

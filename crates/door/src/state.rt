@@ -1,0 +1,31 @@
+// Whether a lent state is well formed.
+use crate::layout::TREE;
+use crate::layout::TREE_COUNT;
+use crate::layout::TREES;
+use crate::locks::locks_apart;
+use crate::places::threads_good;
+use crate::queues::trees_good;
+use fields::read::all_zero;
+use fields::read::get8;
+use image::records::count_labels;
+use rules::limits::Tree;
+ghost use mathlib.Core.Path.{_≡_};
+ghost use lib.ListN.{length};
+ghost use Rattle.rules.specs.Sizes.{stateSize};
+ghost use Rattle.rules.specs.Check.{Checked};
+ghost use Rattle.rules.specs.WellFormed.{wellFormed};
+
+// "Well formed", of a state of the right length, by an image and a block table that pass the check.
+pub fn well_formed(image: &[u8], table: &[u8], state: &[u8]) -> bool
+    requires { ⌜ Checked (now image) (now table) × (length (now state) ≡ stateSize) ⌝ }
+    ensures { λ r. ⌜ r ≡ wellFormed (now (image .entry)) (now (table .entry)) (now (state .entry)) ⌝ }
+{
+    let count = get8(state, TREE_COUNT);
+    if Tree::COUNT < count {
+        return false;
+    }
+    let n = count_labels(image);
+    let threads = threads_good(image, n, table, state) & locks_apart(state);
+    let unused = all_zero(state, TREES + TREE * count, TREE * (Tree::COUNT - count));
+    threads & unused & trees_good(image, n, table, state, count)
+}

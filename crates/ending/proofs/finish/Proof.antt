@@ -1,0 +1,60 @@
+use mathlib.Core.Path.{_≡_, refl, subst}
+use mathlib.Core.List.{List}
+use Prim.Native.Nat.{ℕ, _<_}
+use borrow.Author.Needs.{needs}
+use lib.ListN.{length}
+use Rattle.rules.specs.Machine.{Machine}
+use Rattle.rules.specs.Encoding.{machineFrom}
+use Rattle.rules.specs.Steps.{rulesBy, finished}
+use Rattle.encoding.specs.Encoded.{Encodes}
+use Rattle.encoding.specs.Stores.{withThread}
+use Rattle.encoding.specs.FirstTree.{firstTree}
+use Rattle.threads.specs.Threads.{stateOf}
+use Rattle.state.specs.Records.{thread-written}
+use Rattle.ready.specs.Ready.{Ready}
+use Rattle.ready.specs.At.{Busy}
+use Rattle.ending.specs.Home.{first-inside, finished-is}
+use Rattle.ending.proofs.finish.Statement.{statement}
+use Rattle.ending.proofs.finish.Tie as tie
+
+-- a running thread has a tree
+inside : {image table b : List ℕ} (t : ℕ) (h : Ready image table b) → Busy b t → firstTree t (machineFrom b .trees) < length (machineFrom b .trees)
+inside {image} {table} {b} t h k =
+    let r = h .sound .invariant .rooted t (k .1) (rw (k .2) refl) in
+    first-inside t (r .0) (machineFrom b .trees) (r .1)
+
+first-tree-requires : tie.Need-first-tree-requires
+first-tree-requires c κs = c .before .before .before .before .pre .0 .canonical
+
+home-requires : tie.Need-home-requires
+home-requires c κs =
+    let s = c .before .before .before .before .before .before in
+    (s .pre .0, rw (c .before .first-tree .ensures) (inside (s .args .t .0) (s .pre .0) (s .pre .2)))
+
+end-tree-requires : tie.Need-end-tree-requires
+end-tree-requires c κs =
+    let s = c .before .before .before .before .before .before .before .before in
+    (s .pre .0 .canonical, rw (c .before .before .before .first-tree .ensures) (inside (s .args .t .0) (s .pre .0) (s .pre .2)))
+
+write-thread-requires : tie.Need-write-thread-requires
+write-thread-requires c κs =
+    let s = c .before .before .before .before .before .before .before .before .before .before .before .before .before in
+    (c .before .before .before .before .end-tree .ensures .0 .long, s .pre .1)
+
+returns : tie.Need-returns
+returns c =
+    let s = c .before .before .before .before .before .before .before .before .before .before .before .before .before .before .before .before in
+    let i = c .before .before .before .before .before .before .before .before .before .before .before .first-tree in
+    let e = c .before .before .before .before .before .before .before .end-tree in
+    let home = c .before .before .before .before .before .before .before .before .before .home in
+    let m = machineFrom (s .args .state .now) in
+    let t = s .args .t .0 in
+    let w = c .before .before .before .idle in
+    let l : i .result < length (m .trees) = rw (i .ensures) (inside (s .args .t .0) (s .pre .0) (s .pre .2)) in
+    let k = thread-written _ _ (e .ensures .0) t (w .result) (s .pre .1) (w .ensures .tidy) (c .before .before .write-thread .ensures) in
+    let f : withThread (machineFrom (e .last .0)) t (stateOf (w .result)) ≡ finished (rulesBy (s .args .image .now) (s .args .table .now)) t m =
+        rw (w .ensures .state, e .ensures .1 t (i .ensures)) (finished-is (s .args .image .now) (s .args .table .now) m t (home .result .0) (i .result) (i .ensures) l (home .ensures)) in
+    subst (λ (q : Machine). Encodes (c .before .before .write-thread .last .0) q) f k
+
+pub finish-spec : {M : Type 1} → statement M
+finish-spec = tie.close (tie.spec first-tree-requires home-requires end-tree-requires (λ c κs. search needs) write-thread-requires (λ c. search needs) returns)

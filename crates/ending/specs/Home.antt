@@ -1,0 +1,77 @@
+-- Where the tree of an ended job goes.
+use mathlib.Core.Path.{_≡_, refl, sym, ap, _∙_}
+use mathlib.Core.Option.{some}
+use mathlib.Core.List.{List, [], _∷_}
+use Prim.Native.Nat.{ℕ, _<_}
+use native.Mathlib.Decide.{decLt}
+use native.Mathlib.Omega.{arith}
+use lib.ListN.{length, getD}
+use Rattle.rules.specs.Sizes.{blockCount, tableSize}
+use Rattle.rules.specs.Image.{labels, rowAt}
+use Rattle.rules.specs.Encoding.{noSignal, noTree, machineFrom}
+use Rattle.fields.specs.Each.{each-at}
+use Rattle.one_by_one.specs.Invariant.{never}
+use Rattle.one_by_one.specs.Passed.{Passed, passed}
+use Rattle.invariants.specs.Sound.{PendingIn, TreeIn}
+use Rattle.invariants.specs.Destinations.{block-below}
+use Rattle.invariants.specs.Trees.{pending-below}
+use Rattle.ready.specs.Ready.{Ready}
+use Rattle.rules.specs.Machine.{Signal, Tree, Machine, idle, first}
+use Rattle.rules.specs.Steps.{rulesBy, blockAt, requeued, finished}
+use Rattle.encoding.specs.Stores.{withThread}
+use Rattle.encoding.specs.FirstTree.{firstTree, first-some, first-none}
+use Rattle.trees.specs.Canon.{pendingAt}
+use Rattle.trees.specs.Changes.{requeuedOn, ended}
+
+-- the thread of the oldest signal's block, if a signal is pending
+abbrev pub HomeOf : List ℕ → List ℕ → List Signal → ℕ → Type 0
+HomeOf image table [] t = Unit {0}
+HomeOf image table (g ∷ p) t = t ≡ rowAt table (blockAt image (g .label)) .thread
+
+module _ (image table : List ℕ) where
+  requeued-home : (p : List Signal) (t : ℕ) → HomeOf image table p t → requeuedOn t p ≡ requeued (rulesBy image table) (some p)
+  requeued-home [] t h = refl
+  requeued-home (g ∷ p) t h = rw h refl
+
+  -- the tree of the job goes, and then the thread is cleared
+  pub finished-is : (s : Machine) (t u i : ℕ) → i ≡ firstTree t (s .trees) → i < length (s .trees) → HomeOf image table (pendingAt s i) u
+      → withThread (ended t u i s) t idle ≡ finished (rulesBy image table) t s
+  finished-is s t u i e l h =
+      let k : first t (s .trees) ≡ some (pendingAt s i) = rw e (first-some t (s .trees) (rw e at l)) in
+      rw (requeued-home (pendingAt s i) u h, k) refl
+
+  pub home-none : (p : List Signal) (t : ℕ) → length p ≡ 0 → HomeOf image table p t
+  home-none [] t e = tt
+  home-none (g ∷ p) t e = absurd (omega arith)
+
+  pub home-some : (p : List Signal) (t : ℕ) → 0 < length p → t ≡ rowAt table (blockAt image (getD p 0 noSignal .label)) .thread → HomeOf image table p t
+  home-some [] t l e = absurd (omega arith)
+  home-some (g ∷ p) t l e = e
+
+-- ---- labels below n
+
+module _ {image table b : List ℕ} (h : Ready image table b) where
+  checked-parts : Passed image table
+  checked-parts = passed image table [] (h .checked) .0
+
+  -- the label of a tree's oldest signal
+  pub oldest-below : (i : ℕ) → i < length (machineFrom b .trees) → 0 < length (pendingAt (machineFrom b) i) → getD (pendingAt (machineFrom b) i) 0 noSignal .label < labels image
+  oldest-below i l k =
+      let x = each-at (TreeIn image table) (machineFrom b .trees) i noTree (h .sound .trees) l in
+      pending-below image table _ (each-at (PendingIn image table) (pendingAt (machineFrom b) i) 0 noSignal (x .pending) k)
+
+  -- the block of a label below n is one of the table's
+  pub block-inside : (l : ℕ) → l < labels image → blockAt image l < blockCount
+  block-inside l k = block-below image table checked-parts l k
+
+  pub table-long : length table ≡ tableSize
+  table-long = checked-parts .wholeTable
+
+-- ---- the first tree of a running thread
+
+pub first-inside : (t : ℕ) (p : List Signal) (l : List Tree) → first t l ≡ some p → firstTree t l < length l
+first-inside t p l h = case (decLt (firstTree t l) (length l))
+  where
+    case : Dec (firstTree t l < length l) → firstTree t l < length l
+    case (yes k) = k
+    case (no k) = never (cc (first-none t l (omega arith)))

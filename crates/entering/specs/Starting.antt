@@ -1,0 +1,118 @@
+-- What a step of an idle thread comes to.
+use mathlib.Core.Path.{_≡_, refl, sym, ap, _∙_, subst}
+use mathlib.Core.Bool.{Bool, true, false, cond}
+use mathlib.Core.Option.{Option, none, some}
+use mathlib.Core.List.{List, [], _∷_}
+use Prim.Native.Nat.{ℕ, _<_, _^_}
+use native.Mathlib.Omega.{arith}
+use lib.Bits.{bitOr}
+use lib.ListN.{length, getD, drop, take, set}
+use lib.Seq.{drop-cons}
+use Rattle.rules.specs.Sorts
+use Rattle.rules.specs.Sizes.{blockCount}
+use Rattle.rules.specs.Image.{labels, rowAt}
+use Rattle.rules.specs.Machine as law
+use Rattle.rules.specs.Machine.{Signal, Tree, Machine, idle, running, threadAt, first, queue, put, fill}
+use Rattle.rules.specs.Encoding.{noSignal, noTree, machineFrom}
+use Rattle.rules.specs.WellFormed.{homed, homedAs}
+use Rattle.rules.specs.Events.{step}
+use Rattle.rules.specs.Steps.{Reply, rulesBy, blockAt, begin, held, react}
+use Rattle.rules.specs.declared.sorts.Lock.{Lock}
+use Rattle.rules.specs.declared.answer.Answer.{Answer}
+use Rattle.rules.specs.declared.answer.Answer.the-variants.{NoWork, Waiting, Started}
+use Rattle.fields.specs.Each.{Each}
+use Rattle.encoding.specs.Encoded.{Encodes}
+use Rattle.encoding.specs.Stores.{withThread}
+use Rattle.encoding.specs.FirstTree.{firstTree, first-some}
+use Rattle.one_by_one.specs.Passed.{passed}
+use Rattle.one_by_one.specs.Invariant.{never}
+use Rattle.invariants.specs.Sound.{QueueIn}
+use Rattle.invariants.specs.Queues.{headPending, first-queue}
+use Rattle.invariants.specs.Destinations.{block-below}
+use Rattle.turns.specs.Events.{reply, no-tree, start-waits, start-runs}
+use Rattle.threads.specs.Threads.{job, stateOf, jobOf, Runs}
+use Rattle.threads.specs.declared.thread.ThreadState.{ThreadState}
+use Rattle.trees.specs.Canon.{pendingAt}
+use Rattle.trees.specs.Changes.{taken}
+use Rattle.trees.specs.Signals.{signalOf}
+use Rattle.trees.specs.declared.signals.Signal as Value
+use Rattle.ready.specs.Ready.{Ready, replyTo, Done, done}
+use Rattle.ending.specs.Home.{oldest-below}
+use Rattle.entering.specs.Entering.{runs-fields}
+use Rattle.entering.specs.declared.start.First.{First}
+use Rattle.entering.specs.declared.start.First.the-variants.{Pending, Nothing}
+
+-- thread t's first tree has the place i, and a signal pending; l is the lock of its oldest signal's block
+pub record FirstIs (image table : List ℕ) (s : Machine) (t i : ℕ) (l : Lock) : Type 0 where
+  pub place : i ≡ firstTree t (s .trees)
+  pub inside : i < length (s .trees)
+  pub some : 0 < length (pendingAt s i)
+  pub lock : l ≡ Sorts.lock (rowAt table (blockAt image (getD (pendingAt s i) 0 noSignal .label)) .lock)
+  pub small : l .0 < blockCount
+
+abbrev pub FirstOf : List ℕ → List ℕ → Machine → ℕ → First → Type 0
+FirstOf image table s t (Pending i l) = FirstIs image table s t i l
+FirstOf image table s t Nothing = first t (s .trees) ≡ none
+
+-- a tree of an idle thread has a signal pending
+homed-some : (image table : List ℕ) (x : Tree) → homed image table x ≡ true → 0 < length (x .pending)
+unfolding homed
+homed-some image table x h = case (x .pending) h
+  where
+    case : (p : List Signal) → homedAs image table (x .thread) p ≡ true → 0 < length p
+    case [] k = never (cc)
+    case (g ∷ p) k = omega arith
+
+module _ {image table b : List ℕ} (h : Ready image table b) (t : ℕ) (rests : threadAt (machineFrom b) t ≡ idle) where
+  abbrev s : Machine
+  s = machineFrom b
+
+  pub idle-pending : (i : ℕ) → i ≡ firstTree t (s .trees) → i < length (s .trees) → 0 < length (pendingAt s i)
+  idle-pending i e l =
+      let f : first t (s .trees) ≡ some (pendingAt s i) = rw e (first-some t (s .trees) (rw e at l)) in
+      let q : Each (λ x. homed image table x ≡ true) (queue t (s .trees)) = subst (λ (w : law.ThreadState). QueueIn image table w (queue t (s .trees))) rests (h .sound .queues t) in
+      case (queue t (s .trees)) q (sym (first-queue t (s .trees)) ∙ f)
+    where
+      case : (q : List Tree) → Each (λ x. homed image table x ≡ true) q → headPending q ≡ some (pendingAt s i) → 0 < length (pendingAt s i)
+      case [] k f = never (cc)
+      case (x ∷ q) k f =
+          let e : x .pending ≡ pendingAt s i = cc in
+          rw e at (homed-some image table x (k .0))
+
+  -- the first tree, by its place and the label of its oldest signal
+  pub first-is : (i : ℕ) (l : Lock) → i ≡ firstTree t (s .trees) → i < length (s .trees) → l ≡ Sorts.lock (blockAt image (getD (pendingAt s i) 0 noSignal .label)) → FirstIs image table s t i l
+  unfolding rowAt
+  first-is i l e k f =
+      let some = idle-pending i e k in
+      let below : blockAt image (getD (pendingAt s i) 0 noSignal .label) < blockCount = block-below image table (passed image table [] (h .checked) .0) _ (oldest-below h i k some) in
+      record { place = e; inside = k; some = some; lock = f; small = rw f below }
+
+  -- ---- what its step comes to
+
+  pub rests-on : {b′ : List ℕ} {a : Answer} → first t (s .trees) ≡ none → a ≡ NoWork → Encodes b′ s → Done (replyTo image table b (step t)) b′ a
+  rests-on e f z = done s NoWork (no-tree (rulesBy image table) s t rests e) f z
+
+  module _ {i : ℕ} {l : Lock} (k : FirstIs image table s t i l) where
+    abbrev oldest : Signal
+    oldest = getD (pendingAt s i) 0 noSignal
+
+    first-oldest : first t (s .trees) ≡ some (oldest ∷ drop 1 (pendingAt s i))
+    first-oldest =
+        let e : first t (s .trees) ≡ some (pendingAt s i) = rw (k .place) (first-some t (s .trees) (rw (k .place) at (k .inside))) in
+        e ∙ ap some (drop-cons (pendingAt s i) 0 noSignal (k .some))
+
+    pub start-waiting : held (l .0) (set (s .threads) t idle) ≡ true → replyTo image table b (step t) ≡ reply s (Waiting l)
+    start-waiting e = rw (k .lock) (start-waits (rulesBy image table) s t oldest (drop 1 (pendingAt s i)) rests first-oldest (rw (k .lock) at e))
+
+    pub start-running : held (l .0) (set (s .threads) t idle) ≡ false → replyTo image table b (step t) ≡ reply (withThread (taken t i s) t (running (bitOr 0 (2 ^ l .0)) (begin oldest))) Started
+    start-running e = rw (k .lock) (start-runs (rulesBy image table) s t oldest (drop 1 (pendingAt s i)) rests first-oldest (rw (k .lock) at e))
+
+    -- the thread as it takes the signal, and as it holds the lock
+    pub started : (b′ : List ℕ) {b″ : List ℕ} {a : Answer} (g : Value.Signal) (x w : ThreadState) → held (l .0) (set (s .threads) t idle) ≡ false → signalOf g ≡ oldest
+        → Runs x 0 (job (g .label .0) [] (fill (take (g .count) (g .values)))) → Runs w (bitOr (x .locks) (2 ^ l .0)) (jobOf x)
+        → machineFrom b′ ≡ taken t i s → Encodes b″ (withThread (machineFrom b′) t (stateOf w)) → a ≡ Started → Done (replyTo image table b (step t)) b″ a
+    started b′ {b″} g x w e f p q m z y =
+        let r = runs-fields x 0 _ p in
+        let n : stateOf w ≡ running (bitOr 0 (2 ^ l .0)) (begin oldest) = q .state ∙ rw (r .0, r .1) (ap (λ (o : Signal). running (bitOr 0 (2 ^ l .0)) (begin o)) f) in
+        let z′ : Encodes b″ (withThread (taken t i s) t (running (bitOr 0 (2 ^ l .0)) (begin oldest))) = rw (n, m) at z in
+        done (withThread (taken t i s) t (running (bitOr 0 (2 ^ l .0)) (begin oldest))) Started (start-running e) y z′

@@ -1,0 +1,26 @@
+-- The refusals of a Run for its events.
+use mathlib.Core.Path.{_≡_}
+use mathlib.Core.List.{List, [], _∷_}
+use Prim.Native.Nat.{ℕ, _*_, _/_, _≤_}
+use native.Mathlib.Omega.{arith}
+use lib.Dec.{eqb, leb}
+use lib.ListN.{length}
+use borrow.Author.Tests.{eqb-true, leb-true}
+use Rattle.rules.specs.Calls.{eventsLengthFault, eventFault, answersLengthFault}
+use Rattle.image.specs.Faults.{refusal-none}
+use Rattle.one_by_one.specs.Faults.{and-both}
+
+-- numbers 7 to 9
+abbrev pub eventsFaults : List ℕ → List ℕ → List ℕ → List ℕ
+eventsFaults image events space = eventsLengthFault events ∷ eventFault image events ∷ answersLengthFault events space ∷ []
+
+-- the length of events that number 7 lets pass
+pub record Counted (s : List ℕ) : Type 0 where
+  pub whole : length s ≡ 55 * (length s / 55)
+  pub few : length s / 55 ≤ 1024
+
+pub counted : (s : List ℕ) → eventsLengthFault s ≡ 0 → Counted s
+unfolding eventsLengthFault
+counted s e =
+    let k = and-both (eqb (length s) (55 * (length s / 55))) (leb (length s / 55) 1024) (refusal-none _ 7 0 (omega arith) e) in
+    record { whole = eqb-true _ _ (k .0); few = leb-true _ 1024 (k .1) }

@@ -1,0 +1,3 @@
+-- The laws of events in lent bytes.
+pub mod Places
+pub mod Faults

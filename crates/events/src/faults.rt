@@ -1,0 +1,63 @@
+// The refusals 7 to 9, and the whole list of a Run's.
+use crate::event::EVENT;
+use crate::event::first_bad_event;
+use door::faults::machine_fault;
+use image::check::refuse;
+ghost use mathlib.Core.Path.{_≡_};
+ghost use Rattle.rules.specs.Check.{firstOf};
+ghost use Rattle.rules.specs.Calls.{eventsLengthFault, eventFault, answersLengthFault, runReturn};
+ghost use Rattle.events.specs.Faults.{eventsFaults};
+
+// At most 1,024 events.
+pub const EVENTS: usize = 1024;
+
+// The bytes of an answer.
+pub const ANSWER: usize = 2;
+
+pub fn events_length_fault(events: &[u8]) -> u32
+    ensures { λ r. ⌜ r ≡ eventsLengthFault (now (events .entry)) ⌝ }
+{
+    let m = events.len() / EVENT;
+    refuse((events.len() == EVENT * m) & (m <= EVENTS), 7, 0)
+}
+
+pub fn event_fault(image: &[u8], events: &[u8]) -> u32
+    requires { ⌜ eventsLengthFault (now events) ≡ 0 ⌝ }
+    ensures { λ r. ⌜ r ≡ eventFault (now (image .entry)) (now (events .entry)) ⌝ }
+{
+    let m = events.len() / EVENT;
+    let i = first_bad_event(image, events, m);
+    refuse(i == m, 8, i)
+}
+
+pub fn answers_length_fault(events: &[u8], answers: &[u8]) -> u32
+    ensures { λ r. ⌜ r ≡ answersLengthFault (now (events .entry)) (now (answers .entry)) ⌝ }
+{
+    refuse(answers.len() == ANSWER * (events.len() / EVENT), 9, 0)
+}
+
+// The first of the refusals 7 to 9, or 0.
+pub fn events_fault(image: &[u8], events: &[u8], answers: &[u8]) -> u32
+    ensures { λ r. ⌜ r ≡ firstOf (eventsFaults (now (image .entry)) (now (events .entry)) (now (answers .entry))) ⌝ }
+{
+    let length = events_length_fault(events);
+    if length != 0 {
+        return length;
+    }
+    let event = event_fault(image, events);
+    if event != 0 {
+        return event;
+    }
+    answers_length_fault(events, answers)
+}
+
+// The first of the refusals 1 to 9 of a Run, or 0.
+pub fn run_fault(image: &[u8], table: &[u8], state: &[u8], events: &[u8], answers: &[u8]) -> u32
+    ensures { λ r. ⌜ r ≡ runReturn (now (image .entry)) (now (table .entry)) (now (state .entry)) (now (events .entry)) (now (answers .entry)) ⌝ }
+{
+    let before = machine_fault(image, table, state);
+    if before != 0 {
+        return before;
+    }
+    events_fault(image, events, answers)
+}

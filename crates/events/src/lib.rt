@@ -1,0 +1,3 @@
+// What a Run tests of the lent events: their length, their rules, and the room for their answers.
+pub mod event;
+pub mod faults;

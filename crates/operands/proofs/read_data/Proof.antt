@@ -1,0 +1,94 @@
+use mathlib.Core.Path.{_≡_, refl, sym, ap, _∙_}
+use Prim.Native.Nat.{ℕ, _-_, _≤_, _<_}
+use native.Mathlib.Omega.{arith}
+use borrow.Author.Needs.{needs}
+use lib.ListN.{length, length-set, replicate}
+use Rattle.rules.specs.Effects.{Cells, read, trap, got}
+use Rattle.rules.specs.Statements.{operandAt}
+use Rattle.operands.specs.Readings.{reading-value, reading-trap, read-reason}
+use Rattle.operands.specs.Legal.{slot-fits}
+use Rattle.operands.specs.Gathered.{ReadSoFar, reads-none, reads-more, reads-trap, reads-all}
+use Rattle.operands.specs.Cells.{cellsFrom}
+use Rattle.operands.proofs.read_data.Statement.{statement}
+use Rattle.operands.proofs.read_data.Tie as tie
+
+abbrev Inv-loop : tie.InvT-loop
+Inv-loop state block present registers r count n values₀ k₀ values k = (length values ≡ 25) × ReadSoFar (cellsFrom state (block .0) present registers) r n k values
+
+abbrev μ-loop : tie.MeasureT-loop
+μ-loop state block present registers r count n values₀ k₀ values k = n - k
+
+loop-holds : tie.Need-loop-holds Inv-loop μ-loop
+loop-holds c =
+    let a = c .before .before .before .before .args in
+    (refl, reads-none (cellsFrom (a .state .now) (a .block .0) (a .present) (a .registers .now)) (a .r .now) (c .wide .result) (replicate 25 0))
+
+operand-at-requires : tie.Need-operand-at-requires Inv-loop μ-loop
+operand-at-requires c κs = omega (arith, c .before .before .wide .ensures .0)
+
+read-operand-requires : tie.Need-read-operand-requires Inv-loop μ-loop
+read-operand-requires c κs =
+    let a = c .before .before .before .before .before .before .before in
+    let k = c .before .before .loop .k in
+    let w = c .before .before .before .wide .ensures .0 in
+    (a .pre .0, a .pre .1, rw (c .operand-at .ensures) (slot-fits (a .args .r .now) (a .pre .4) k (omega (arith, w)) (omega (arith, w, a .pre .3))))
+
+array-write-values : tie.Need-array-write-values Inv-loop μ-loop
+array-write-values c =
+    let a = c .before .before .before .before .before .before .before .before .before .before .before in
+    omega (arith, c .before .before .before .before .before .before .before .wide .ensures .0, a .pre .3)
+
+returns : tie.Need-returns Inv-loop μ-loop
+returns c =
+    let s = c .before .before .before .before .before .before .before .before .before .before .before in
+    let a = s .args in
+    let l = c .before .before .before .before .before .before .loop in
+    let w = c .before .before .before .before .before .before .before .wide .ensures .0 in
+    let cells : Cells = cellsFrom (a .state .now) (a .block .0) (a .present) (a .registers .now) in
+    let x : ℕ = c .before .reason .given .0 .0 in
+    let f : read cells (c .before .before .before .before .operand-at .result) ≡ trap x = reading-trap _ x (sym (c .before .before .before .read-operand .ensures) ∙ c .before .reason .given .1) in
+    let e : read cells (operandAt (a .r .now) (l .k)) ≡ trap x = rw (c .before .before .before .before .operand-at .ensures) at f in
+    let one : x ≡ 1 = read-reason cells (operandAt (a .r .now) (l .k)) x e in
+    let all = reads-trap cells (a .r .now) (c .before .before .before .before .before .before .before .wide .result) (l .k) (l .values) (l .inv .1) (omega arith) x e in
+    record { few = s .pre .3; values = λ z. absurd (omega arith); trapped = λ z. rw w at all; sized = l .inv .0 }
+
+loop-again : tie.Need-loop-again Inv-loop μ-loop
+loop-again c =
+    let a = c .before .before .before .before .before .before .before .before .before .before .before .args in
+    let l = c .before .before .before .before .before .before .loop in
+    let n = c .before .before .before .before .before .before .before .wide .result in
+    let cells : Cells = cellsFrom (a .state .now) (a .block .0) (a .present) (a .registers .now) in
+    let v : ℕ = c .before .v .given .0 .0 in
+    let f : read cells (c .before .before .before .before .operand-at .result) ≡ got v = reading-value _ v (sym (c .before .before .before .read-operand .ensures) ∙ c .before .v .given .1) in
+    let e : read cells (operandAt (a .r .now) (l .k)) ≡ got v = rw (c .before .before .before .before .operand-at .ensures) at f in
+    let h : l .k < length (l .values) = omega (arith, l .inv .0, c .before .before .before .before .before .before .before .wide .ensures .0, c .before .before .before .before .before .before .before .before .before .before .before .pre .3) in
+    (length-set (l .values) (l .k) v ∙ l .inv .0, reads-more cells (a .r .now) n (l .k) (l .values) (l .inv .1) (omega arith) v e h)
+
+returns-2 : tie.Need-returns-2 Inv-loop μ-loop
+returns-2 c =
+    let s = c .before .before .before .before .before .before in
+    let a = s .args in
+    let l = c .before .loop in
+    let all = reads-all (cellsFrom (a .state .now) (a .block .0) (a .present) (a .registers .now)) (a .r .now) (c .before .before .wide .result) (l .k) (l .values) (l .inv .1) (omega arith) in
+    record { few = s .pre .3; values = λ z. rw (c .before .before .wide .ensures .0) at all; trapped = λ z. absurd (z refl); sized = l .inv .0 }
+
+pub read-data-spec : {M : Type 1} → statement M
+read-data-spec =
+    tie.close
+    (tie.spec
+    Inv-loop
+    μ-loop
+    (λ c. search needs)
+    (λ c κs. search needs)
+    loop-holds
+    operand-at-requires
+    read-operand-requires
+    (λ c. search needs)
+    (λ c. omega arith)
+    array-write-values
+    (λ c. search needs)
+    returns
+    (λ c. omega arith)
+    (λ c. omega arith)
+    loop-again
+    returns-2)

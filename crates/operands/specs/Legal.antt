@@ -1,0 +1,78 @@
+-- What a record that breaks no rule has: its block is one of the table's, its operands are within limits, and each label that it uses
+-- is below n.
+use mathlib.Core.Path.{_≡_, refl, sym, ap, _∙_, subst}
+use mathlib.Core.Bool.{Bool, true, false, cond, _&&_, _||_, false≢true}
+use mathlib.Core.Logic.{_⊎_, inl, inr}
+use mathlib.Core.List.{List}
+use Prim.Native.Nat.{ℕ, zero, suc, _+_, _*_, _≤_, _<_}
+use native.Mathlib.Omega.{arith}
+use lib.Dec.{eqb, leb, ltb}
+use borrow.Author.Tests.{eqb-true, ltb-true, leb-true, lt-ltb, le-ltb}
+use Rattle.rules.specs.Sizes.{blockCount, operandCount, registerCount, wordCount}
+use Rattle.rules.specs.Bytes.{allFrom}
+use Rattle.rules.specs.Image.{labels, recordAt, opcode, blockField, entry, operator, labelA, labelB, operands, kind, value}
+use Rattle.rules.specs.Statements.{operandOf, operandAt, statementOf, roleA, roleB}
+use Rattle.rules.specs.Check.{headOk, operatorOk, countOk, operandOk, slotOk, roleOk, labelOk}
+use Rattle.rules.specs.declared.statement.Operand.{Operand}
+use Rattle.rules.specs.declared.statement.Operand.the-variants.{Number, Register, Word}
+use Rattle.rules.specs.declared.statement.Role.{Role}
+use Rattle.rules.specs.declared.statement.Role.the-variants.{Unused, Inner, Direct, Local, Buffered}
+use Rattle.one_by_one.specs.Faults.{and-both}
+use Rattle.one_by_one.specs.Passed.{Parts}
+
+-- a register 0 to 24, a shared word 0 to 15, or any number
+abbrev pub Fits : Operand → Type 0
+Fits (Number v) = Unit {0}
+Fits (Register r) = r < registerCount
+Fits (Word w) = w < wordCount
+
+pub or-cases : (a b : Bool) → a || b ≡ true → (a ≡ true) ⊎ (b ≡ true)
+or-cases true b h = inl refl
+or-cases false b h = inr h
+
+operand-fits : (k v : ℕ) → operandOk k v ≡ true → Fits (operandOf k v)
+unfolding operandOf
+operand-fits k v h = first (or-cases (eqb k 1 || (eqb k 2 && ltb v registerCount)) (eqb k 3 && ltb v wordCount) h)
+  where
+    as-word : k ≡ 3 → v < wordCount → Fits (cond (eqb k 1) (Number v) (cond (eqb k 2) (Register v) (Word v)))
+    as-word e l = rw e l
+    as-register : k ≡ 2 → v < registerCount → Fits (cond (eqb k 1) (Number v) (cond (eqb k 2) (Register v) (Word v)))
+    as-register e l = rw e l
+    as-number : k ≡ 1 → Fits (cond (eqb k 1) (Number v) (cond (eqb k 2) (Register v) (Word v)))
+    as-number e = rw e tt
+    second : (eqb k 1 ≡ true) ⊎ ((eqb k 2 && ltb v registerCount) ≡ true) → Fits (cond (eqb k 1) (Number v) (cond (eqb k 2) (Register v) (Word v)))
+    second (inl e) = as-number (eqb-true k 1 e)
+    second (inr e) = let b = and-both (eqb k 2) (ltb v registerCount) e in as-register (eqb-true k 2 (b .0)) (ltb-true v registerCount (b .1))
+    first : ((eqb k 1 || (eqb k 2 && ltb v registerCount)) ≡ true) ⊎ ((eqb k 3 && ltb v wordCount) ≡ true) → Fits (cond (eqb k 1) (Number v) (cond (eqb k 2) (Register v) (Word v)))
+    first (inl e) = second (or-cases (eqb k 1) (eqb k 2 && ltb v registerCount) e)
+    first (inr e) = let b = and-both (eqb k 3) (ltb v wordCount) e in as-word (eqb-true k 3 (b .0)) (ltb-true v wordCount (b .1))
+
+-- a test that holds of a run holds at each place of it
+all-at : (ok : ℕ → Bool) (i n : ℕ) → allFrom ok i n ≡ true → (k : ℕ) → k < n → ok (i + k) ≡ true
+unfolding allFrom
+all-at ok i zero h k l = absurd (omega arith)
+all-at ok i (suc n) h zero l = ap ok (omega arith) ∙ and-both (ok i) (allFrom ok (i + 1) n) h .0
+all-at ok i (suc n) h (suc k) l = ap ok (omega arith) ∙ all-at ok (i + 1) n (and-both (ok i) (allFrom ok (i + 1) n) h .1) k (omega arith)
+
+-- an operand that the record has is within limits
+pub slot-fits : (r : List ℕ) → allFrom (slotOk r) 0 operandCount ≡ true → (k : ℕ) → k < operands r → k < operandCount → Fits (operandAt r k)
+unfolding slotOk operandAt
+slot-fits r h k l m =
+    let e : slotOk r k ≡ true = ap (slotOk r) (omega arith) ∙ all-at (slotOk r) 0 operandCount h k m in
+    operand-fits (kind r k) (value r k) (rw (lt-ltb k (operands r) l) at e)
+
+-- a label that is used is below n
+abbrev pub Below : List ℕ → Role → ℕ → Type 0
+Below image Unused v = Unit {0}
+Below image Inner v = v < labels image
+Below image Direct v = v < labels image
+Below image Local v = v < labels image
+Below image Buffered v = v < labels image
+
+pub label-below : (image : List ℕ) (role : Role) (b v : ℕ) → labelOk image role b v ≡ true → Below image role v
+unfolding labelOk
+label-below image Unused b v h = tt
+label-below image Inner b v h = ltb-true v (labels image) (and-both (ltb v (labels image)) _ h .0)
+label-below image Direct b v h = ltb-true v (labels image) (and-both (ltb v (labels image)) _ h .0)
+label-below image Local b v h = ltb-true v (labels image) (and-both (ltb v (labels image)) _ (and-both _ (eqb (entry (recordAt image v)) 1) h .0) .0)
+label-below image Buffered b v h = ltb-true v (labels image) (and-both (ltb v (labels image)) _ h .0)

@@ -1,0 +1,6 @@
+pub mod Readings
+pub mod Gathered
+pub mod Legal
+pub mod Statements
+pub mod Cells
+pub mod Values

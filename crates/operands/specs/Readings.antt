@@ -1,0 +1,43 @@
+-- Readings as the code has them.
+use mathlib.Core.Path.{_≡_}
+use mathlib.Core.List.{List}
+use Prim.Native.Nat.{ℕ, _≤_, _<_}
+use mathlib.Core.Option.{Option, none, some}
+use lib.ListN.{length, take, getD}
+use Rattle.rules.specs.Sizes.{operandCount}
+use Rattle.rules.specs.Effects.{Got, trap, got, Cells, present, read}
+use Rattle.rules.specs.declared.statement.Operand.{Operand}
+use Rattle.rules.specs.declared.statement.Operand.the-variants.{Number, Register, Word}
+use Rattle.one_by_one.specs.Invariant.{never}
+use Rattle.operands.specs.declared.Reading.{Reading}
+use Rattle.operands.specs.declared.Reading.the-variants.{Value, Trap}
+use Rattle.operands.specs.declared.Data.{Data}
+
+abbrev pub readingOf : Got ℕ → Reading
+readingOf (trap r) = Trap r
+readingOf (got v) = Value v
+
+-- the values that were read, or the reason of the trap, which is never 0
+pub record Reads (g : Got (List ℕ)) (d : Data) : Type 0 where
+  pub few : d .count ≤ operandCount
+  pub values : d .trap ≡ 0 → g ≡ got (take (d .count) (d .values))
+  pub trapped : (d .trap ≡ 0 → ⊥) → g ≡ trap (d .trap)
+  pub sized : length (d .values) ≡ operandCount
+
+pub reading-value : (g : Got ℕ) (v : ℕ) → readingOf g ≡ Value v → g ≡ got v
+reading-value (trap r) v e = never (cc)
+reading-value (got u) v e = cc
+
+pub reading-trap : (g : Got ℕ) (r : ℕ) → readingOf g ≡ Trap r → g ≡ trap r
+reading-trap (trap x) r e = cc
+reading-trap (got u) r e = never (cc)
+
+-- reading an operand traps for one reason only
+pub read-reason : (c : Cells) (p : Operand) (r : ℕ) → read c p ≡ trap r → r ≡ 1
+read-reason c (Number v) r e = never (cc)
+read-reason c (Register k) r e = case (getD (c .registers) k none) e
+  where
+    case : (o : Option ℕ) → present o ≡ trap r → r ≡ 1
+    case none q = cc
+    case (some v) q = never (cc)
+read-reason c (Word w) r e = never (cc)

@@ -1,0 +1,133 @@
+// The operands of a statement, read from a thread's registers and from the shared words of the statement's own block.
+use fields::read::get16;
+use fields::read::wide;
+use image::decode::operand_at;
+use rules::sorts::Block;
+use rules::sorts::block_number;
+use rules::statement::Operand;
+use rules::statement::Operator;
+use rules::statement::Value;
+ghost use mathlib.Core.Path.{_≡_};
+ghost use mathlib.Core.Bool.{true};
+ghost use mathlib.Core.List.{[], _∷_, List};
+ghost use Prim.Native.Nat.{_<_, _≤_};
+ghost use lib.ListN.{length, take};
+ghost use Rattle.rules.specs.Sizes.{operandCount};
+ghost use Rattle.rules.specs.Bytes.{allFrom};
+ghost use Rattle.rules.specs.Image.{operands};
+ghost use Rattle.rules.specs.Statements.{dataOf, sources};
+ghost use Rattle.rules.specs.Check.{slotOk};
+ghost use Rattle.rules.specs.Effects.{got, join, read, readAll};
+ghost use Rattle.operands.specs.Readings.{readingOf, Reads};
+ghost use Rattle.operands.specs.Legal.{Fits};
+ghost use Rattle.operands.specs.Cells.{cellsFrom};
+ghost use Rattle.operands.specs.Values.{ReadsPair, evaluated, FitAll};
+
+// The value of an operand, or the reason of the trap that reading it makes.
+pub enum Reading {
+    Value(u16),
+    Trap(u8),
+}
+
+// The reason of a trap: an absent register is read.
+pub const ABSENT: u8 = 1;
+
+// An operand, read. The registers are given by their presence set and their values.
+pub fn read_operand(state: &[u8], block: Block, present: u32, registers: &[u16; 25], p: Operand) -> Reading
+    requires { ⌜ (length (now state) ≡ 7929) × (block .0 < 16) × Fits p ⌝ }
+    ensures { λ r. ⌜ r ≡ readingOf (read (cellsFrom (now (state .entry)) (block .0) present (now (registers .entry))) p) ⌝ }
+{
+    match p {
+        Operand::Number(v) => Reading::Value(v),
+        Operand::Register(r) => {
+            if (present >> r) % 2 == 1 {
+                Reading::Value(registers[r as usize])
+            } else {
+                Reading::Trap(ABSENT)
+            }
+        }
+        Operand::Word(w) => {
+            Reading::Value(get16(state, 2 * (16 * (block_number(block) as usize) + (w as usize))))
+        }
+    }
+}
+
+// The data operands of a record, read left to right: as many values as there are, or the reason of the trap that reading them makes.
+pub struct Data {
+    pub values: [u16; 25],
+    pub count: u8,
+    pub trap: u8,
+}
+
+pub fn read_data(state: &[u8], block: Block, present: u32, registers: &[u16; 25], r: &[u8]) -> Data
+    requires { ⌜ (length (now state) ≡ 7929) × (block .0 < 16) × (length (now r) ≡ 84) × (operands (now r) ≤ 25) × (allFrom (slotOk (now r)) 0 operandCount ≡ true) ⌝ }
+    ensures { λ d. ⌜ Reads (readAll (cellsFrom (now (state .entry)) (block .0) present (now (registers .entry))) (dataOf (now (r .entry)))) d ⌝ }
+{
+    let count = r[8];
+    let n = wide(count);
+    let mut values = [0u16; 25];
+    let mut k = 0;
+    while k < n {
+        match read_operand(state, block, present, registers, operand_at(r, k)) {
+            Reading::Value(v) => {
+                values[k] = v;
+            }
+            Reading::Trap(reason) => {
+                return Data { values: values, count: count, trap: reason };
+            }
+        }
+        k += 1;
+    }
+    Data { values: values, count: count, trap: 0 }
+}
+
+// Two operands, read left to right: their values, or the reason of the trap that reading them makes.
+pub struct Pair {
+    pub left: u16,
+    pub right: u16,
+    pub trap: u8,
+}
+
+pub fn read_pair(state: &[u8], block: Block, present: u32, registers: &[u16; 25], p: Operand, q: Operand) -> Pair
+    requires { ⌜ (length (now state) ≡ 7929) × (block .0 < 16) × Fits p × Fits q ⌝ }
+    ensures { λ d. ⌜ ReadsPair (readAll (cellsFrom (now (state .entry)) (block .0) present (now (registers .entry))) (p ∷ q ∷ [])) d ⌝ }
+{
+    match read_operand(state, block, present, registers, p) {
+        Reading::Trap(reason) => Pair { left: 0, right: 0, trap: reason },
+        Reading::Value(left) => match read_operand(state, block, present, registers, q) {
+            Reading::Trap(reason) => Pair { left: 0, right: 0, trap: reason },
+            Reading::Value(right) => Pair { left: left, right: right, trap: 0 },
+        },
+    }
+}
+
+// Add, subtract and multiply, each modulo 65,536.
+pub fn joined(o: Operator, p: u16, q: u16) -> u16
+    ensures { λ r. ⌜ got r ≡ join o p q ⌝ }
+{
+    let left = p as u32;
+    let right = q as u32;
+    match o {
+        Operator::Add => ((left + right) % 65536) as u16,
+        Operator::Subtract => ((left + 65536 - right) % 65536) as u16,
+        Operator::Multiply => (left * right % 65536) as u16,
+    }
+}
+
+// What ASSIGN stores, or the reason of the trap that working it out makes.
+pub fn evaluate(state: &[u8], block: Block, present: u32, registers: &[u16; 25], v: Value) -> Reading
+    requires { ⌜ (length (now state) ≡ 7929) × (block .0 < 16) × FitAll (sources v) ⌝ }
+    ensures { λ r. ⌜ r ≡ readingOf (evaluated (cellsFrom (now (state .entry)) (block .0) present (now (registers .entry))) v) ⌝ }
+{
+    match v {
+        Value::Copy(p) => read_operand(state, block, present, registers, p),
+        Value::Join(o, p, q) => {
+            let pair = read_pair(state, block, present, registers, p, q);
+            if pair.trap != 0 {
+                Reading::Trap(pair.trap)
+            } else {
+                Reading::Value(joined(o, pair.left, pair.right))
+            }
+        }
+    }
+}

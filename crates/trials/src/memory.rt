@@ -1,0 +1,82 @@
+// The seven buffers that a call can be lent, a part of 65,536 bytes for each, and their lengths.
+
+pub const PART: usize = 65536;
+
+pub const BUFFERS: usize = 7;
+
+pub const IMAGE: usize = 0;
+
+pub const TABLE: usize = 1;
+
+pub const WORDS: usize = 2;
+
+pub const EVENTS: usize = 3;
+
+pub const ANSWERS: usize = 4;
+
+pub const STATE: usize = 5;
+
+pub const MET: usize = 6;
+
+pub type Memory = [u8; 458752];
+
+pub type Lengths = [usize; 7];
+
+// The bytes of a buffer.
+pub fn bytes<'a>(memory: &'a Memory, lengths: &Lengths, buffer: usize) -> &'a [u8] {
+    let all = &memory[..];
+    if buffer < BUFFERS {
+        let n = lengths[buffer];
+        if n <= PART {
+            let from = buffer * PART;
+            let to = from + n;
+            return &all[from..to];
+        }
+    }
+    &all[..0]
+}
+
+// Sets a byte of a buffer.
+pub fn set(memory: &mut Memory, buffer: usize, place: usize, value: u8) {
+    if buffer < BUFFERS {
+        if place < PART {
+            memory[buffer * PART + place] = value;
+        }
+    }
+}
+
+// Makes every byte of every buffer 0.
+pub fn clear(memory: &mut Memory) {
+    let mut i = 0;
+    while i < 458752 {
+        memory[i] = 0;
+        i += 1;
+    }
+}
+
+// Makes a buffer's length `n`: cuts it, or fills it up with bytes of 1.
+pub fn resize(memory: &mut Memory, lengths: &mut Lengths, buffer: usize, n: usize) {
+    if buffer < BUFFERS {
+        let mut i = lengths[buffer];
+        lengths[buffer] = n;
+        if n <= PART {
+            while i < n {
+                set(memory, buffer, i, 1);
+                i += 1;
+            }
+        }
+    }
+}
+
+// The name of a buffer, in the names of files and in edits: to the first 0.
+pub fn name(buffer: usize) -> [u8; 8] {
+    match buffer {
+        IMAGE => *b"image\0\0\0",
+        TABLE => *b"table\0\0\0",
+        WORDS => *b"words\0\0\0",
+        EVENTS => *b"events\0\0",
+        ANSWERS => *b"answers\0",
+        STATE => *b"state\0\0\0",
+        _ => *b"met\0\0\0\0\0",
+    }
+}

@@ -1,0 +1,102 @@
+#include "bench_jobs.h"
+#include "build.h"
+
+#include <stdbool.h>
+
+enum { ROUTINE = 16, ROUND = 16 };
+
+/* One routine; its blocks and labels are counted from its first. */
+static const struct statement routine[ROUTINE] = {
+    {0, PLEX_EXTERNAL, PLEX_ASSIGN, PLEX_MULTIPLY, 1, 0, 3, {WORD(0), REGISTER(0), REGISTER(1)}},
+    {0, PLEX_NO_ENTRY, PLEX_IF, PLEX_LESS, 2, 2, 2, {WORD(0), REGISTER(0)}},
+    {0, PLEX_NO_ENTRY, PLEX_CALL, 0, 7, 3, 4, {REGISTER(0), REGISTER(1), WORD(0), NUMBER(7)}},
+    {0, PLEX_NO_ENTRY, PLEX_SEND_BUFFERED, 0, 11, 4, 2, {REGISTER(0), REGISTER(1)}},
+    {0, PLEX_NO_ENTRY, PLEX_TRANSFER, 0, 5, 0, 1, {REGISTER(1)}},
+    {0, PLEX_DIRECT, PLEX_GOTO, 0, 6, 0, 0, {NUMBER(0)}},
+    {0, PLEX_NO_ENTRY, PLEX_EXIT, 0, 0, 0, 0, {NUMBER(0)}},
+    {1, PLEX_DIRECT, PLEX_SKIP, 0, 8, 0, 0, {NUMBER(0)}},
+    {1, PLEX_NO_ENTRY, PLEX_ASSIGN, PLEX_SUBTRACT, 9, 0, 3, {WORD(1), REGISTER(0), REGISTER(1)}},
+    {1, PLEX_NO_ENTRY, PLEX_SEND_DIRECT, 0, 10, 0, 3, {REGISTER(0), REGISTER(1), REGISTER(2)}},
+    {1, PLEX_DIRECT, PLEX_RETURN, 0, 0, 0, 2, {REGISTER(0), REGISTER(1)}},
+    {0, PLEX_BUFFERED, PLEX_ASSIGN, PLEX_COPY, 12, 0, 2, {WORD(2), REGISTER(0)}},
+    {0, PLEX_NO_ENTRY, PLEX_EXIT, 0, 0, 0, 0, {NUMBER(0)}},
+    {0, PLEX_NO_ENTRY, PLEX_EXIT, 0, 0, 0, 0, {NUMBER(0)}},
+    {0, PLEX_NO_ENTRY, PLEX_EXIT, 0, 0, 0, 0, {NUMBER(0)}},
+    {0, PLEX_NO_ENTRY, PLEX_EXIT, 0, 0, 0, 0, {NUMBER(0)}},
+};
+
+static bool uses_a(uint8_t opcode)
+{
+    return opcode != PLEX_RETURN && opcode != PLEX_EXIT;
+}
+
+static bool uses_b(uint8_t opcode)
+{
+    return opcode == PLEX_IF || opcode == PLEX_SEND_BUFFERED || opcode == PLEX_CALL;
+}
+
+void bench_job_image(uint8_t *image, size_t records)
+{
+    for (size_t label = 0; label < records; label++) {
+        struct statement moved = routine[label % ROUTINE];
+        uint16_t first = (uint16_t)(label - label % ROUTINE);
+        moved.block = (uint8_t)((moved.block + first / ROUTINE * 2) % PLEX_BLOCKS);
+        if (uses_a(moved.opcode))
+            moved.a = (uint16_t)(moved.a + first);
+        if (uses_b(moved.opcode))
+            moved.b = (uint16_t)(moved.b + first);
+        put_statement(image + PLEX_RECORD_SIZE * label, &moved);
+    }
+}
+
+void bench_job_table(uint8_t *table)
+{
+    for (uint32_t block = 0; block < PLEX_BLOCKS; block++) {
+        table[PLEX_ROW_SIZE * block + PLEX_ROW_THREAD] = (uint8_t)(block / 2);
+        table[PLEX_ROW_SIZE * block + PLEX_ROW_KIND] = PLEX_CMX;
+    }
+}
+
+void bench_job_events(uint8_t *events, size_t count, size_t records)
+{
+    static const uint16_t values[] = {300, 7, 5};
+    uint32_t routines = (uint32_t)(records / ROUTINE);
+    for (uint32_t i = 0; i < count; i++) {
+        uint32_t turn = i / ROUND % routines;
+        if (i % ROUND == 0 && count > 1)
+            put_arrival(events + PLEX_EVENT_SIZE * i, ROUTINE * turn, values, 3);
+        else
+            put_step(events + PLEX_EVENT_SIZE * i, turn % PLEX_THREADS);
+    }
+}
+
+void bench_ring_image(uint8_t *image, size_t records)
+{
+    static const struct statement leave = {0, PLEX_DIRECT, PLEX_EXIT, 0, 0, 0, 0, {NUMBER(0)}};
+    for (uint16_t label = 0; label < records; label++)
+        put_statement(image + PLEX_RECORD_SIZE * label, &leave);
+    for (uint16_t thread = 0; thread < PLEX_THREADS; thread++) {
+        uint16_t next = (uint16_t)((thread + 1) % PLEX_THREADS);
+        struct statement send = {(uint8_t)thread, PLEX_EXTERNAL, PLEX_SEND_DIRECT, 0,
+                                 (uint16_t)(PLEX_THREADS + next), 0, 0, {NUMBER(0)}};
+        put_statement(image + PLEX_RECORD_SIZE * thread, &send);
+        image[PLEX_RECORD_SIZE * (PLEX_THREADS + thread) + PLEX_RECORD_BLOCK] = (uint8_t)thread;
+    }
+}
+
+void bench_ring_table(uint8_t *table)
+{
+    for (uint32_t block = 0; block < PLEX_BLOCKS; block++) {
+        table[PLEX_ROW_SIZE * block + PLEX_ROW_THREAD] = (uint8_t)(block % PLEX_THREADS);
+        table[PLEX_ROW_SIZE * block + PLEX_ROW_KIND] = PLEX_CMX;
+    }
+}
+
+void bench_ring_events(uint8_t *events)
+{
+    for (uint32_t thread = 0; thread < PLEX_THREADS; thread++) {
+        put_arrival(events + PLEX_EVENT_SIZE * thread, thread, NULL, 0);
+        put_step(events + PLEX_EVENT_SIZE * (PLEX_THREADS + thread), thread);
+        put_step(events + PLEX_EVENT_SIZE * (2 * PLEX_THREADS + thread), thread);
+    }
+}

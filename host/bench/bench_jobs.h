@@ -1,0 +1,28 @@
+/* Images and event lists whose jobs do every sort of statement, the same in every run. */
+#ifndef BENCH_JOBS_H
+#define BENCH_JOBS_H
+
+#include <stddef.h>
+#include <stdint.h>
+
+/* A multiple of 16 records, up to 512: routines of 16 records in two blocks each. */
+void bench_job_image(uint8_t *image, size_t records);
+
+/* Two blocks a thread, all CMX. */
+void bench_job_table(uint8_t *table);
+
+/* For an image of bench_job_image. In every 16 events a job arrives, does each opcode and ends, as
+ * does the job of the signal that it sends; from a fresh machine they leave no thread running and
+ * no tree, and the same words each time. A single event is a step without work. */
+void bench_job_events(uint8_t *events, size_t count, size_t records);
+
+/* A multiple of 16 records, up to 512: each of 8 blocks sends to the next one's second record. */
+void bench_ring_image(uint8_t *image, size_t records);
+
+/* For an image of bench_ring_image and a table with one block a thread: 24 events that start a job
+ * on each thread and have it wait for the next. */
+enum { RING_EVENTS = 24 };
+void bench_ring_table(uint8_t *table);
+void bench_ring_events(uint8_t *events);
+
+#endif

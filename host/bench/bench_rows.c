@@ -1,0 +1,154 @@
+#include "bench_rows.h"
+#include "bench_image.h"
+#include "bench_jobs.h"
+#include "plain.h"
+#include "plex.h"
+
+#include <string.h>
+
+/* What an engine alters. */
+struct altered {
+    uint8_t state[PLEX_STATE_SIZE];
+    uint8_t answers[PLEX_ANSWER_SIZE * PLEX_EVENTS_MAX];
+    uint8_t met[PLEX_MET_SIZE];
+};
+
+/* What the row in hand lends: the same to both engines, but for what they alter. */
+static struct {
+    uint8_t image[PLEX_RECORD_SIZE * PLEX_RECORDS_MAX];
+    size_t image_len;
+    uint8_t table[PLEX_TABLE_SIZE];
+    uint8_t words[PLEX_WORDS_SIZE];
+    uint8_t events[PLEX_EVENT_SIZE * PLEX_EVENTS_MAX];
+    size_t event_count;
+} work;
+
+static struct altered by_plex, by_plain;
+
+#define IMAGE work.image, work.image_len
+#define TABLE work.table, sizeof work.table
+#define WORDS work.words, sizeof work.words
+#define STATE(engine) engine.state, sizeof engine.state
+#define EVENTS work.events, PLEX_EVENT_SIZE * work.event_count
+#define ANSWERS(engine) engine.answers, PLEX_ANSWER_SIZE * work.event_count
+#define MET(engine) engine.met, sizeof engine.met
+
+static uint32_t plex_check_call(void) { return plex_check(IMAGE, TABLE); }
+static uint32_t plain_check_call(void) { return plain_check(IMAGE, TABLE); }
+
+static uint32_t plex_fresh_call(void) { return plex_fresh(IMAGE, TABLE, WORDS, STATE(by_plex)); }
+static uint32_t plain_fresh_call(void) { return plain_fresh(IMAGE, TABLE, WORDS, STATE(by_plain)); }
+
+static uint32_t plex_run_call(void)
+{
+    return plex_run(IMAGE, TABLE, STATE(by_plex), EVENTS, ANSWERS(by_plex));
+}
+
+static uint32_t plain_run_call(void)
+{
+    return plain_run(IMAGE, TABLE, STATE(by_plain), EVENTS, ANSWERS(by_plain));
+}
+
+static uint32_t plex_walk_call(void)
+{
+    return plex_walk(IMAGE, TABLE, STATE(by_plex), 0, MET(by_plex));
+}
+
+static uint32_t plain_walk_call(void)
+{
+    return plain_walk(IMAGE, TABLE, STATE(by_plain), 0, MET(by_plain));
+}
+
+static void begin(const struct bench_row *row)
+{
+    memset(&work, 0, sizeof work);
+    memset(&by_plex, 0, sizeof by_plex);
+    memset(&by_plain, 0, sizeof by_plain);
+    work.image_len = PLEX_RECORD_SIZE * row->records;
+    work.event_count = row->events;
+}
+
+static void prepare_mixed(const struct bench_row *row)
+{
+    begin(row);
+    bench_mixed_image(work.image, row->records);
+}
+
+static void prepare_exit(const struct bench_row *row)
+{
+    begin(row);
+    bench_exit_image(work.image, row->records);
+}
+
+/* Both states are made by the plain engine, so that a row times one call of the other alone. */
+static void begin_state(void)
+{
+    plain_fresh(IMAGE, TABLE, WORDS, STATE(by_plain));
+    by_plex = by_plain;
+}
+
+static void prepare_jobs(const struct bench_row *row)
+{
+    begin(row);
+    bench_job_image(work.image, row->records);
+    bench_job_table(work.table);
+    bench_job_events(work.events, row->events, row->records);
+    begin_state();
+}
+
+/* No thread waits. */
+static void prepare_idle(const struct bench_row *row)
+{
+    prepare_mixed(row);
+    begin_state();
+}
+
+/* Thread 0 waits for 1, 1 for 2, and so on to 7, which waits for 0. */
+static void prepare_ring(const struct bench_row *row)
+{
+    begin(row);
+    bench_ring_image(work.image, row->records);
+    bench_ring_table(work.table);
+    bench_ring_events(work.events);
+    work.event_count = RING_EVENTS;
+    plain_fresh(IMAGE, TABLE, WORDS, STATE(by_plain));
+    plain_run(IMAGE, TABLE, STATE(by_plain), EVENTS, ANSWERS(by_plain));
+    by_plex = by_plain;
+}
+
+#define CHECK prepare_mixed, plex_check_call, plain_check_call
+#define FRESH prepare_mixed, plex_fresh_call, plain_fresh_call
+#define RUN prepare_jobs, plex_run_call, plain_run_call
+#define WALK_RING prepare_ring, plex_walk_call, plain_walk_call
+
+const struct bench_row bench_rows[] = {
+    {"check, 1 record", 1, 0, CHECK_PLOT, CHECK},
+    {"check, 16 records", 16, 0, CHECK_PLOT, CHECK},
+    {"check, 128 records", 128, 0, CHECK_PLOT, CHECK},
+    {"check, 512 records", 512, 0, CHECK_PLOT, CHECK},
+    {"check, 512 EXIT", 512, 0, NO_PLOT, prepare_exit, plex_check_call, plain_check_call},
+    {"fresh, 1 record", 1, 0, FRESH_PLOT, FRESH},
+    {"fresh, 16 records", 16, 0, FRESH_PLOT, FRESH},
+    {"fresh, 128 records", 128, 0, FRESH_PLOT, FRESH},
+    {"fresh, 512 records", 512, 0, FRESH_PLOT, FRESH},
+    {"walk, nobody waits", 16, 0, NO_PLOT, prepare_idle, plex_walk_call, plain_walk_call},
+    {"walk, ring, 16 records", 16, 0, WALK_PLOT, WALK_RING},
+    {"walk, ring, 128 records", 128, 0, WALK_PLOT, WALK_RING},
+    {"walk, ring, 512 records", 512, 0, WALK_PLOT, WALK_RING},
+    {"run, 16 records", 16, 1, SMALL_RUN_PLOT, RUN},
+    {"run, 16 records", 16, 16, SMALL_RUN_PLOT, RUN},
+    {"run, 16 records", 16, 64, SMALL_RUN_PLOT, RUN},
+    {"run, 16 records", 16, 256, SMALL_RUN_PLOT, RUN},
+    {"run, 16 records", 16, 1024, SMALL_RUN_PLOT, RUN},
+    {"run, 512 records", 512, 1, FULL_RUN_PLOT, RUN},
+    {"run, 512 records", 512, 16, FULL_RUN_PLOT, RUN},
+    {"run, 512 records", 512, 64, FULL_RUN_PLOT, RUN},
+    {"run, 512 records", 512, 256, FULL_RUN_PLOT, RUN},
+    {"run, 512 records", 512, 1024, FULL_RUN_PLOT, RUN},
+};
+const size_t bench_row_count = sizeof bench_rows / sizeof bench_rows[0];
+
+int bench_same_bytes(void)
+{
+    return memcmp(&by_plex, &by_plain, sizeof by_plex) == 0;
+}

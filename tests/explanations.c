@@ -1,0 +1,137 @@
+/* The explanations go with the library's word: on good and damaged bytes, a rule is named exactly
+ * where the library refuses, and for no part before that. */
+#include "bench_image.h"
+#include "build.h"
+#include "explain.h"
+
+#include <stdio.h>
+#include <string.h>
+
+enum { RECORDS = 128, TRIALS = 40000 };
+
+static uint8_t image[RECORDS * PLEX_RECORD_SIZE], table[PLEX_TABLE_SIZE], state[PLEX_STATE_SIZE];
+static uint32_t failures, refusals[PLEX_BAD_MET_LENGTH + 1];
+
+/* A number below the limit, from a fixed sequence. */
+static uint32_t below(uint32_t limit)
+{
+    static uint64_t chance = 88172645463325252u;
+    chance ^= chance << 13;
+    chance ^= chance >> 7;
+    chance ^= chance << 17;
+    return (uint32_t)(chance >> 32) % limit;
+}
+
+/* Sets a byte to a number at or beside a limit, or flips a bit of it. */
+static void damage(uint8_t *bytes, size_t size)
+{
+    static const uint8_t telling[] = {0, 1, 2, 3, 4, 7, 8, 9, 10, 11, 15, 16, 24, 25, 26, 255};
+    uint8_t *byte = bytes + below((uint32_t)size);
+    if (below(2) == 0)
+        *byte = telling[below(sizeof telling)];
+    else
+        *byte ^= (uint8_t)(1u << below(8));
+}
+
+/* Of a part: it is explained if it is refused, and if not, not. */
+static void expect(const char *what, const struct line *why, int is_refused)
+{
+    if ((why->length != 0) == (is_refused != 0))
+        return;
+    failures++;
+    printf("explanations: a %s is%s refused: '%s'\n", what, is_refused ? "" : " not", why->text);
+}
+
+static void try_image(void)
+{
+    uint8_t tried[sizeof image], tried_table[PLEX_TABLE_SIZE];
+    uint32_t edits = below(3);
+    memcpy(tried, image, sizeof image);
+    memcpy(tried_table, table, sizeof table);
+    for (uint32_t i = 0; i < edits; i++) {
+        size_t width = below(2) ? PLEX_RECORD_SIZE : 16;
+        damage(tried + PLEX_RECORD_SIZE * below(RECORDS), width);
+    }
+    if (below(16) == 0)
+        damage(tried_table, sizeof tried_table);
+    uint32_t result = plex_check(tried, sizeof tried, tried_table, sizeof tried_table);
+    uint32_t number = PLEX_NUMBER(result), place = PLEX_PLACE(result);
+    refusals[number]++;
+    for (uint32_t block = 0; block < PLEX_BLOCKS; block++) {
+        struct line why = {0};
+        explain_row(&why, tried_table, block);
+        if (number != PLEX_BAD_TABLE_FIELD || block <= place)
+            expect("row", &why, number == PLEX_BAD_TABLE_FIELD && block == place);
+    }
+    for (uint32_t label = 0; label < RECORDS && number != PLEX_BAD_TABLE_FIELD; label++) {
+        struct line why = {0};
+        explain_record(&why, tried, RECORDS, label);
+        if (number != PLEX_BAD_RECORD || label <= place)
+            expect("record", &why, number == PLEX_BAD_RECORD && label == place);
+    }
+}
+
+static uint32_t run(uint8_t *tried, const uint8_t *event, size_t size)
+{
+    uint8_t answer[PLEX_ANSWER_SIZE];
+    return plex_run(image, sizeof image, table, sizeof table, tried, PLEX_STATE_SIZE, event, size,
+                    answer, size == 0 ? 0 : sizeof answer);
+}
+
+/* One event, at times damaged, and then the state that it leaves, damaged. */
+static void try_event(void)
+{
+    static const uint16_t values[PLEX_REGISTERS] = {1, 2, 3};
+    uint8_t event[PLEX_EVENT_SIZE], tried[PLEX_STATE_SIZE];
+    struct line why = {0}, state_why = {0};
+    if (below(4) == 0)
+        put_arrival(event, below(RECORDS + 2), values, (uint8_t)below(PLEX_REGISTERS + 1));
+    else if (below(50) == 0)
+        put_cut(event, below(PLEX_THREADS));
+    else
+        put_step(event, below(PLEX_THREADS));
+    if (below(4) == 0)
+        damage(event, sizeof event);
+    explain_event(&why, image, RECORDS, event);
+    uint32_t number = PLEX_NUMBER(run(state, event, sizeof event));
+    expect("event", &why, number == PLEX_BAD_EVENT);
+    memcpy(tried, state, sizeof tried);
+    size_t live = PLEX_STATE_TREES + PLEX_TREE_SIZE * (state[PLEX_STATE_TREE_COUNT] + 1u);
+    size_t end = live < sizeof tried ? live : sizeof tried;
+    for (uint32_t edits = below(3); edits > 0; edits--)
+        damage(tried + PLEX_STATE_THREADS, end - PLEX_STATE_THREADS);
+    refusals[number]++;
+    number = PLEX_NUMBER(run(tried, event, 0));
+    explain_state(&state_why, image, RECORDS, table, tried);
+    expect("state", &state_why, number == PLEX_BAD_STATE);
+    refusals[number]++;
+}
+
+/* Each block on a thread of its own as far as they go, every third block FD. */
+static void begin(void)
+{
+    static const uint8_t words[PLEX_WORDS_SIZE];
+    bench_mixed_image(image, RECORDS);
+    for (uint32_t block = 0; block < PLEX_BLOCKS; block++) {
+        table[PLEX_ROW_SIZE * block + PLEX_ROW_THREAD] = (uint8_t)(block % PLEX_THREADS);
+        table[PLEX_ROW_SIZE * block + PLEX_ROW_KIND] = block % 3 == 0 ? PLEX_FD : PLEX_CMX;
+    }
+    if (plex_fresh(image, sizeof image, table, sizeof table, words, sizeof words, state,
+                   sizeof state) != 0)
+        failures++;
+}
+
+int main(void)
+{
+    begin();
+    for (uint32_t trial = 0; trial < TRIALS; trial++) {
+        try_event();
+        if (trial % 16 == 0)
+            try_image();
+    }
+    printf("explanations: refused images %u, tables %u, events %u, states %u; %u failures\n",
+           refusals[PLEX_BAD_RECORD], refusals[PLEX_BAD_TABLE_FIELD], refusals[PLEX_BAD_EVENT],
+           refusals[PLEX_BAD_STATE], failures);
+    return failures != 0 || refusals[PLEX_BAD_RECORD] == 0 || refusals[PLEX_BAD_TABLE_FIELD] == 0
+        || refusals[PLEX_BAD_EVENT] == 0 || refusals[PLEX_BAD_STATE] == 0;
+}

@@ -1,0 +1,111 @@
+/* Statements, events and answers in words, one of each sort. */
+#include "build.h"
+#include "words.h"
+
+#include <stdio.h>
+#include <string.h>
+
+static const struct {
+    struct statement statement;
+    const char *words;
+} statements[] = {
+    {{0, 0, PLEX_SKIP, 0, 5, 0, 0, {NUMBER(0)}}, "SKIP, on to 5"},
+    {{0, 0, PLEX_ASSIGN, PLEX_COPY, 1, 0, 2, {WORD(15), NUMBER(7)}}, "ASSIGN w15 := 7, on to 1"},
+    {{0, 0, PLEX_ASSIGN, PLEX_ADD, 1, 0, 3, {REGISTER(2), WORD(3), REGISTER(24)}},
+     "ASSIGN r2 := w3 + r24, on to 1"},
+    {{0, 0, PLEX_ASSIGN, PLEX_SUBTRACT, 511, 0, 3, {REGISTER(2), NUMBER(65535), WORD(0)}},
+     "ASSIGN r2 := 65535 - w0, on to 511"},
+    {{0, 0, PLEX_ASSIGN, PLEX_MULTIPLY, 1, 0, 3, {WORD(0), WORD(0), WORD(0)}},
+     "ASSIGN w0 := w0 * w0, on to 1"},
+    {{0, 0, PLEX_GOTO, 0, 300, 0, 0, {NUMBER(0)}}, "GOTO 300"},
+    {{0, 0, PLEX_IF, PLEX_EQUAL, 3, 4, 2, {REGISTER(0), NUMBER(1)}}, "IF r0 = 1 THEN 3 ELSE 4"},
+    {{0, 0, PLEX_IF, PLEX_LESS, 3, 4, 2, {REGISTER(0), WORD(1)}}, "IF r0 < w1 THEN 3 ELSE 4"},
+    {{0, 0, PLEX_SEND_DIRECT, 0, 9, 0, 2, {NUMBER(1), WORD(2)}}, "SEND direct to 9 WITH 1, w2"},
+    {{0, 0, PLEX_SEND_BUFFERED, 0, 9, 2, 0, {NUMBER(0)}}, "SEND buffered to 9, on to 2"},
+    {{0, 0, PLEX_CALL, 0, 9, 2, 1, {REGISTER(0)}}, "CALL to 9 WITH r0, return to 2"},
+    {{0, 0, PLEX_RETURN, 0, 0, 0, 1, {REGISTER(0)}}, "RETURN WITH r0"},
+    {{0, 0, PLEX_TRANSFER, 0, 9, 0, 1, {REGISTER(0)}}, "TRANSFER to 9 WITH r0"},
+    {{0, 0, PLEX_EXIT, 0, 0, 0, 0, {NUMBER(0)}}, "EXIT"},
+    {{0, 0, PLEX_RETURN, 0, 0, 0, 1, {{9, 8}}}, "RETURN WITH (kind 9: 8)"},
+    {{0, 0, PLEX_IF, 7, 3, 4, 2, {NUMBER(0), NUMBER(1)}}, "IF 0 unknown 1 THEN 3 ELSE 4"},
+    {{0, 0, 77, 0, 0, 0, 0, {NUMBER(0)}}, "unknown opcode 77"},
+};
+
+static const struct {
+    uint8_t answer[PLEX_ANSWER_SIZE];
+    const char *words;
+} answers[] = {
+    {{PLEX_ARRIVED, 0}, "arrived"},
+    {{PLEX_LIST_FULL, 0}, "turned away, the list is full"},
+    {{PLEX_NO_WORK, 0}, "no work"},
+    {{PLEX_WAITING, 3}, "waiting for the lock of block 3"},
+    {{PLEX_STARTED, 0}, "started"},
+    {{PLEX_MOVED_ON, 0}, "moved on"},
+    {{PLEX_EXITED, 0}, "EXIT"},
+    {{PLEX_TRAPPED, PLEX_RETURNS_FULL}, "trap 3, CALL with 8 return labels"},
+    {{PLEX_WAS_CUT, 0}, "cut"},
+    {{PLEX_NOTHING_TO_CUT, 0}, "nothing to cut"},
+    {{11, 0}, "unknown"},
+};
+
+static int failed;
+
+static void expect(const struct line *line, const char *words)
+{
+    if (strcmp(line->text, words) != 0) {
+        printf("words: '%s', expected '%s'\n", line->text, words);
+        failed = 1;
+    }
+}
+
+static void try_events(void)
+{
+    static const uint16_t values[] = {7, 65535};
+    uint8_t event[PLEX_EVENT_SIZE];
+    struct line arrival = {0}, step = {0}, cut = {0};
+    put_arrival(event, 300, values, 2);
+    add_event(&arrival, event);
+    expect(&arrival, "arrival at 300 WITH 7, 65535");
+    put_step(event, 7);
+    add_event(&step, event);
+    expect(&step, "step of thread 7");
+    put_cut(event, 0);
+    add_event(&cut, event);
+    expect(&cut, "cut of thread 0");
+}
+
+/* Counts beyond every limit, and more words than a line has room for. */
+static void try_any_bytes(void)
+{
+    uint8_t bytes[PLEX_RECORD_SIZE];
+    struct line line = {0};
+    memset(bytes, 255, sizeof bytes);
+    for (int i = 0; i < 10; i++) {
+        bytes[PLEX_RECORD_OPCODE] = (uint8_t)(PLEX_SKIP + i);
+        add_statement(&line, bytes);
+        add_thread(&line, bytes);
+        add_registers(&line, bytes);
+        add_signal(&line, bytes);
+    }
+    if (line.length >= sizeof line.text || line.text[line.length] != '\0')
+        failed = 1;
+}
+
+int main(void)
+{
+    for (size_t i = 0; i < sizeof statements / sizeof statements[0]; i++) {
+        uint8_t record[PLEX_RECORD_SIZE];
+        struct line line = {0};
+        put_statement(record, &statements[i].statement);
+        add_statement(&line, record);
+        expect(&line, statements[i].words);
+    }
+    for (size_t i = 0; i < sizeof answers / sizeof answers[0]; i++) {
+        struct line line = {0};
+        add_answer(&line, answers[i].answer);
+        expect(&line, answers[i].words);
+    }
+    try_events();
+    try_any_bytes();
+    return failed;
+}
