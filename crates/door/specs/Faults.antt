@@ -8,7 +8,7 @@ use lib.Dec.{eqb}
 use borrow.Author.Tests.{eqb-true, eq-eqb, ne-eqb}
 use Rattle.rules.specs.Check.{firstOf, imageFaults}
 use Rattle.rules.specs.Calls.{stateLengthFault, stateFault}
-use Rattle.image.specs.Faults.{found, passed, last, then, refusal-none}
+use Rattle.image.specs.Faults.{then, refusal-none}
 
 -- numbers 1 to 6
 abbrev pub machineFaults : List ℕ → List ℕ → List ℕ → List ℕ
@@ -25,11 +25,3 @@ module _ (xs ys : List ℕ) where
 
   pub after : firstOf xs ≡ 0 → firstOf (xs ++ ys) ≡ firstOf ys
   after h = then xs ys ∙ rw (eq-eqb (firstOf xs) 0 h)
-
--- two refusals of which the first applies, or does not
-module _ (x y : ℕ) where
-  pub one : (x ≡ 0 → ⊥) → firstOf (x ∷ y ∷ []) ≡ x
-  one h = found x (y ∷ []) h
-
-  pub other : x ≡ 0 → firstOf (x ∷ y ∷ []) ≡ y
-  other h = passed x (y ∷ []) h ∙ last y

@@ -3,6 +3,7 @@
 use crate::layout::STATE;
 use crate::layout::WORDS;
 use crate::state::well_formed;
+use image::check::first_of;
 use image::check::image_fault;
 use image::check::refuse;
 use rules::sorts::Thread;
@@ -67,11 +68,7 @@ pub fn fresh_fault(image: &[u8], table: &[u8], words: &[u8], state: &[u8]) -> u3
     if before != 0 {
         return before;
     }
-    let length = state_length_fault(state);
-    if length != 0 {
-        return length;
-    }
-    words_length_fault(words)
+    first_of(state_length_fault(state), words_length_fault(words))
 }
 
 // The first of the refusals 1 to 6, 11 and 12 of the walk, or 0.
@@ -82,9 +79,5 @@ pub fn walk_fault(image: &[u8], table: &[u8], state: &[u8], thread: u32, met: &[
     if before != 0 {
         return before;
     }
-    let number = thread_fault(thread);
-    if number != 0 {
-        return number;
-    }
-    met_length_fault(met)
+    first_of(thread_fault(thread), met_length_fault(met))
 }

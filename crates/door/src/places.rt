@@ -58,15 +58,8 @@ pub fn places_ok(image: &[u8], n: usize, table: &[u8], t: Thread, s: &[u8], at: 
     let mut ok = place_ok(image, n, table, t, locks, label_of(get16(s, at)));
     let mut k = 0;
     while k < returns {
-        ok = ok
-            & place_ok(
-                image,
-                n,
-                table,
-                t,
-                locks,
-                label_of(get16(s, at + 5 + 2 * k)),
-            );
+        let l = label_of(get16(s, at + 5 + 2 * k));
+        ok = ok & place_ok(image, n, table, t, locks, l);
         k += 1;
     }
     ok

@@ -59,7 +59,14 @@ pub fn trapped(image: &[u8], table: &[u8], state: &mut [u8], t: Thread, reason: 
 }
 
 // EXIT.
-pub fn leave(image: &[u8], table: &[u8], state: &mut [u8], t: Thread, w: ThreadState, r: &[u8]) -> Answer
+pub fn leave(
+    image: &[u8],
+    table: &[u8],
+    state: &mut [u8],
+    t: Thread,
+    w: ThreadState,
+    r: &[u8],
+) -> Answer
     requires { ⌜ At (now image) (now table) (now state) (t .0) w (now r) × (statementOf (now r) ≡ Exit) ⌝ }
     ensures { λ a. ⌜ Done (replyTo (now (image .entry)) (now (table .entry)) (now (state .entry)) (step (t .0))) (now (state .exit)) a ⌝ }
 {

@@ -3,19 +3,19 @@ use mathlib.Core.Path.{_≡_, refl, sym, ap, _∙_, subst}
 use mathlib.Core.Bool.{Bool, true, false, cond}
 use mathlib.Core.Option.{some}
 use mathlib.Core.List.{List, [], _∷_, _++_}
-use Prim.Native.Nat.{ℕ, _≤_, _<_, _^_}
+use Prim.Native.Nat.{ℕ, _<_, _^_}
+use native.Mathlib.Decide.{ℕ-discrete}
 use native.Mathlib.Omega.{arith}
 use lib.Bits.{bitOr}
-use lib.Dec.{eqb, leb, ltb}
+use lib.Dec.{eqb, leb}
 use lib.ListN.{length, take, set}
 use lib.Seq.{length-take-le}
 use borrow.Author.Tests.{ne-eqb}
-use native.Mathlib.Decide.{ℕ-discrete}
 use Rattle.rules.specs.Sorts.{lock}
 use Rattle.rules.specs.Sizes.{blockCount, returnCount, idleLabel}
 use Rattle.rules.specs.Image.{labels, recordAt, blockField, labelA, labelB, Row, rowAt}
 use Rattle.rules.specs.Statements.{statementOf, roleA, dataOf}
-use Rattle.rules.specs.Effects.{Got, readAll}
+use Rattle.rules.specs.Effects.{readAll}
 use Rattle.rules.specs.Machine.{Signal, Job, Machine, idle, running, threadAt, first, fill}
 use Rattle.rules.specs.Encoding.{machineFrom}
 use Rattle.rules.specs.Events.{step}
@@ -24,6 +24,8 @@ use Rattle.rules.specs.declared.sorts.Lock.{Lock}
 use Rattle.rules.specs.declared.answer.Answer.{Answer}
 use Rattle.rules.specs.declared.answer.Answer.the-variants.{Waiting, Moved, Trapped}
 use Rattle.rules.specs.declared.statement.Statement.the-variants.{SendDirect, Call}
+use Rattle.rules.specs.declared.statement.Role.{Role}
+use Rattle.rules.specs.declared.statement.Role.the-variants.{Direct}
 use Rattle.encoding.specs.Encoded.{Encodes}
 use Rattle.one_by_one.specs.Passed.{passed}
 use Rattle.invariants.specs.Destinations.{block-below}
@@ -31,16 +33,19 @@ use Rattle.turns.specs.Events.{withThread, reply}
 use Rattle.turns.specs.Statements.{unread, send-alien, send-waits, send-enters, call-deep, call-alien, call-waits, call-enters}
 use Rattle.threads.specs.Threads.{job, jobOf, returnsOf, Runs}
 use Rattle.threads.specs.declared.thread.ThreadState.{ThreadState}
+use Rattle.operands.specs.Legal.{Below}
 use Rattle.operands.specs.Readings.{Reads}
 use Rattle.operands.specs.Cells.{cellsFrom}
 use Rattle.operands.specs.declared.Data.{Data}
 use Rattle.ready.specs.Ready.{replyTo, Done, done}
 use Rattle.ready.specs.At.{At, runs-says, tree, below-A}
-use Rattle.operands.specs.Legal.{Below}
-use Rattle.rules.specs.declared.statement.Statement.{Statement}
 use Rattle.entering.specs.Passages.{passageTo, callTrap}
 use Rattle.entering.specs.declared.passage.Passage.{Passage}
 use Rattle.entering.specs.declared.passage.Passage.the-variants.{Trap, Ask}
+
+-- the signal of a direct SEND or a CALL is below n
+pub direct-below : {image table b : List ℕ} {t : ℕ} {w : ThreadState} {r : List ℕ} → At image table b t w r → roleA (statementOf r) ≡ Direct → labelA r < labels image
+direct-below {image} {r = r} h e = subst (λ (q : Role). Below image q (labelA r)) e (below-A h)
 
 -- the values that were read
 abbrev pub valuesOf : Data → List ℕ
@@ -133,7 +138,7 @@ module _ {image table b : List ℕ} {t : ℕ} {w : ThreadState} {r : List ℕ} (
 
   pub send-passes : statementOf r ≡ SendDirect → (to : ℕ) → to ≡ labelA r → (q : Passage) → q ≡ passageTo (rowAt table (blockAt image to)) t (d .trap)
       → Passes image table (machineFrom b) t (w .locks) (job to (returnsOf w) (fill (valuesOf d))) q
-  send-passes e to at q f = rw (f, at) (go r (h .here) g e (lock-inside r (subst (λ (q : Statement). Below image (roleA q) (labelA r)) e (below-A h))))
+  send-passes e to isA q f = rw (f, isA) (go r (h .here) g e (lock-inside r (direct-below h (ap roleA e))))
     where
       go : (q : List ℕ) → q ≡ recordAt image (w .label .0) → Reads (readAll (cellsFrom b (blockField q) (w .present) (w .registers)) (dataOf q)) d → statementOf q ≡ SendDirect
           → rowAt table (blockAt image (labelA q)) .lock < blockCount
@@ -142,7 +147,7 @@ module _ {image table b : List ℕ} {t : ℕ} {w : ThreadState} {r : List ℕ} (
 
   pub call-passes : statementOf r ≡ Call → (to back : ℕ) → to ≡ labelA r → back ≡ labelB r → (q : Passage) → q ≡ passageTo (rowAt table (blockAt image to)) t (callTrap (d .trap) (w .depth))
       → Passes image table (machineFrom b) t (w .locks) (job to (returnsOf w ++ back ∷ []) (fill (valuesOf d))) q
-  call-passes e to back at at′ q f = rw (f, at, at′) (go r (h .here) g e (lock-inside r (subst (λ (q : Statement). Below image (roleA q) (labelA r)) e (below-A h))))
+  call-passes e to back isA isB q f = rw (f, isA, isB) (go r (h .here) g e (lock-inside r (direct-below h (ap roleA e))))
     where
       deep : length (returnsOf w) ≡ w .depth
       deep = length-take-le (w .depth) (w .returns) (omega (arith, h .thread .tidy .returns .sized, h .thread .tidy .returns .within))

@@ -1,3 +1,4 @@
 pub mod Passages
 pub mod Entering
 pub mod Starting
+pub mod Waiting

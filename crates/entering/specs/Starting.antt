@@ -1,7 +1,7 @@
 -- What a step of an idle thread comes to.
-use mathlib.Core.Path.{_≡_, refl, sym, ap, _∙_, subst}
-use mathlib.Core.Bool.{Bool, true, false, cond}
-use mathlib.Core.Option.{Option, none, some}
+use mathlib.Core.Path.{_≡_, sym, ap, _∙_, subst}
+use mathlib.Core.Bool.{true, false}
+use mathlib.Core.Option.{none, some}
 use mathlib.Core.List.{List, [], _∷_}
 use Prim.Native.Nat.{ℕ, _<_, _^_}
 use native.Mathlib.Omega.{arith}
@@ -10,13 +10,13 @@ use lib.ListN.{length, getD, drop, take, set}
 use lib.Seq.{drop-cons}
 use Rattle.rules.specs.Sorts
 use Rattle.rules.specs.Sizes.{blockCount}
-use Rattle.rules.specs.Image.{labels, rowAt}
+use Rattle.rules.specs.Image.{rowAt}
 use Rattle.rules.specs.Machine as law
-use Rattle.rules.specs.Machine.{Signal, Tree, Machine, idle, running, threadAt, first, queue, put, fill}
-use Rattle.rules.specs.Encoding.{noSignal, noTree, machineFrom}
+use Rattle.rules.specs.Machine.{Signal, Tree, Machine, idle, running, threadAt, first, queue, fill}
+use Rattle.rules.specs.Encoding.{noSignal, machineFrom}
 use Rattle.rules.specs.WellFormed.{homed, homedAs}
 use Rattle.rules.specs.Events.{step}
-use Rattle.rules.specs.Steps.{Reply, rulesBy, blockAt, begin, held, react}
+use Rattle.rules.specs.Steps.{rulesBy, blockAt, begin, held}
 use Rattle.rules.specs.declared.sorts.Lock.{Lock}
 use Rattle.rules.specs.declared.answer.Answer.{Answer}
 use Rattle.rules.specs.declared.answer.Answer.the-variants.{NoWork, Waiting, Started}

@@ -13,27 +13,22 @@ use state::locks::held_by_other;
 use state::thread_records::write_thread;
 use threads::thread::ThreadState;
 ghost use mathlib.Core.Path.{_≡_};
-ghost use mathlib.Core.Bool.{cond};
-ghost use Prim.Native.Nat.{_<_, _^_};
-ghost use lib.Bits.{bitOr};
-ghost use lib.ListN.{set};
-ghost use Rattle.rules.specs.Machine.{idle, running};
+ghost use Prim.Native.Nat.{_<_};
 ghost use Rattle.rules.specs.Encoding.{machineFrom};
 ghost use Rattle.rules.specs.Events.{step};
 ghost use Rattle.rules.specs.Statements.{statementOf};
-ghost use Rattle.rules.specs.Steps.{held};
 ghost use Rattle.rules.specs.declared.statement.Statement.the-variants.{SendDirect, Call};
 ghost use Rattle.encoding.specs.Encoded.{Encodes, Canonical};
-ghost use Rattle.encoding.specs.Stores.{withThread};
 ghost use Rattle.threads.specs.Threads.{Running, jobOf};
 ghost use Rattle.ready.specs.Ready.{Done, replyTo};
 ghost use Rattle.ready.specs.At.{At};
+ghost use Rattle.entering.specs.Entering.{entered};
 
 // A thread that is to go on as `next` asks for a lock: it waits, with no change, if another thread holds it, and takes it if not.
 fn enter_block(state: &mut [u8], t: Thread, lock: Lock, next: ThreadState) -> Answer
     requires { ⌜ Canonical (now state) × (t .0 < 8) × (lock .0 < 16) × Running next ⌝ }
-    ensures { λ a. ⌜ a ≡ cond (held (lock .0) (set (machineFrom (now (state .entry)) .threads) (t .0) idle)) (Answer.Waiting lock) Answer.Moved ⌝ }
-    ensures { λ _. ⌜ Encodes (now (state .exit)) (cond (held (lock .0) (set (machineFrom (now (state .entry)) .threads) (t .0) idle)) (machineFrom (now (state .entry))) (withThread (machineFrom (now (state .entry))) (t .0) (running (bitOr (next .locks) (2 ^ lock .0)) (jobOf next)))) ⌝ }
+    ensures { λ a. ⌜ a ≡ entered (machineFrom (now (state .entry))) (t .0) (next .locks) (jobOf next) lock .answer ⌝ }
+    ensures { λ _. ⌜ Encodes (now (state .exit)) (entered (machineFrom (now (state .entry))) (t .0) (next .locks) (jobOf next) lock .state) ⌝ }
 {
     if held_by_other(state, lock, t) {
         return Answer::Waiting(lock);

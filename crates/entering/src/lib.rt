@@ -3,3 +3,4 @@
 pub mod direct;
 pub mod passage;
 pub mod start;
+pub mod waits;

@@ -2,6 +2,7 @@
 use crate::event::EVENT;
 use crate::event::first_bad_event;
 use door::faults::machine_fault;
+use image::check::first_of;
 use image::check::refuse;
 ghost use mathlib.Core.Path.{_≡_};
 ghost use Rattle.rules.specs.Check.{firstOf};
@@ -44,11 +45,10 @@ pub fn events_fault(image: &[u8], events: &[u8], answers: &[u8]) -> u32
     if length != 0 {
         return length;
     }
-    let event = event_fault(image, events);
-    if event != 0 {
-        return event;
-    }
-    answers_length_fault(events, answers)
+    first_of(
+        event_fault(image, events),
+        answers_length_fault(events, answers),
+    )
 }
 
 // The first of the refusals 1 to 9 of a Run, or 0.

@@ -2,6 +2,8 @@
 // that must be zero are tested over all bytes at once; after that each value is held to the limit of its kind.
 use fields::read::get16;
 use fields::read::wide;
+use rules::sorts::Block;
+use rules::sorts::Thread;
 ghost use mathlib.Core.Path.{_≡_};
 ghost use mathlib.Core.Bool.{true};
 ghost use Prim.Native.Nat.{_≤_, _-_};
@@ -14,7 +16,7 @@ ghost use Rattle.rules.specs.Check.{slotOk};
 ghost use Rattle.image.specs.Operands.{Marks, limitsOf, bitsOk, placeOk, valueOk};
 
 // A value is below the limit of its kind: number, register, shared word.
-pub const LIMITS: [u32; 4] = [0, 65536, 25, 16];
+pub const LIMITS: [u32; 4] = [0, 65536, Thread::REGISTERS as u32, Block::WORDS as u32];
 
 // The bits that are zero in the places' bytes. The last 75 are for places that are not used; before them are three for each place
 // that is: its kind is below 4.

@@ -108,5 +108,5 @@ pub fn rule_ok(image: &[u8], n: usize, r: &[u8], marks: &[u8; 150], limits: &[u3
     if !slots_ok(r, marks, limits, c) {
         return false;
     }
-    (r[1] < 16) & (r[2] < 4) & form_ok(image, n, r, c)
+    (wide(r[1]) < Block::COUNT) & (r[2] < 4) & form_ok(image, n, r, c)
 }

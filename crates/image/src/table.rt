@@ -36,7 +36,7 @@ pub fn row_ok(table: &[u8], b: usize) -> bool
     requires { ⌜ (b < blockCount) × (length (now table) ≡ tableSize) ⌝ }
     ensures { λ r. ⌜ r ≡ rowOk (now (table .entry)) b ⌝ }
 {
-    (table[Table::ROW * b] < 8) & (table[Table::ROW * b + 1] < 2)
+    (wide(table[Table::ROW * b]) < Thread::COUNT) & (table[Table::ROW * b + 1] < 2)
 }
 
 // The first block whose row is out of range, or 16.

@@ -27,7 +27,15 @@ ghost use Rattle.ready.specs.At.{At};
 ghost use Rattle.moves.specs.Stored.{stored};
 
 // The value goes to its destination, and the thread on to A.
-fn store(state: &mut [u8], t: Thread, w: ThreadState, r: &[u8], block: Block, to: Operand, v: u16) -> Answer
+fn store(
+    state: &mut [u8],
+    t: Thread,
+    w: ThreadState,
+    r: &[u8],
+    block: Block,
+    to: Operand,
+    v: u16,
+) -> Answer
     requires { ⌜ Canonical (now state) × (t .0 < 8) × Running w × (length (now r) ≡ 84) × (labelA (now r) < 65535) × (block .0 < 16) × Lands to ⌝ }
     ensures { λ a. ⌜ a ≡ Answer.Moved ⌝ }
     ensures { λ _. ⌜ Encodes (now (state .exit)) (stored (machineFrom (now (state .entry))) (t .0) w (labelA (now (r .entry))) (block .0) to v) ⌝ }
@@ -42,7 +50,15 @@ fn store(state: &mut [u8], t: Thread, w: ThreadState, r: &[u8], block: Block, to
     }
 }
 
-pub fn assign(image: &[u8], table: &[u8], state: &mut [u8], t: Thread, w: ThreadState, r: &[u8], a: Assignment) -> Answer
+pub fn assign(
+    image: &[u8],
+    table: &[u8],
+    state: &mut [u8],
+    t: Thread,
+    w: ThreadState,
+    r: &[u8],
+    a: Assignment,
+) -> Answer
     requires { ⌜ At (now image) (now table) (now state) (t .0) w (now r) × (statementOf (now r) ≡ Assign a) ⌝ }
     ensures { λ z. ⌜ Done (replyTo (now (image .entry)) (now (table .entry)) (now (state .entry)) (step (t .0))) (now (state .exit)) z ⌝ }
 {

@@ -25,7 +25,15 @@ pub fn relation_holds(relation: Relation, p: u16, q: u16) -> bool
     }
 }
 
-pub fn branch(image: &[u8], table: &[u8], state: &mut [u8], t: Thread, w: ThreadState, r: &[u8], c: Condition) -> Answer
+pub fn branch(
+    image: &[u8],
+    table: &[u8],
+    state: &mut [u8],
+    t: Thread,
+    w: ThreadState,
+    r: &[u8],
+    c: Condition,
+) -> Answer
     requires { ⌜ At (now image) (now table) (now state) (t .0) w (now r) × (statementOf (now r) ≡ If c) ⌝ }
     ensures { λ a. ⌜ Done (replyTo (now (image .entry)) (now (table .entry)) (now (state .entry)) (step (t .0))) (now (state .exit)) a ⌝ }
 {

@@ -18,7 +18,14 @@ ghost use Rattle.ready.specs.At.{At};
 // The reason of a trap: RETURN with no return label.
 pub const NO_RETURN_LABEL: u8 = 2;
 
-pub fn transfer(image: &[u8], table: &[u8], state: &mut [u8], t: Thread, w: ThreadState, r: &[u8]) -> Answer
+pub fn transfer(
+    image: &[u8],
+    table: &[u8],
+    state: &mut [u8],
+    t: Thread,
+    w: ThreadState,
+    r: &[u8],
+) -> Answer
     requires { ⌜ At (now image) (now table) (now state) (t .0) w (now r) × (statementOf (now r) ≡ Transfer) ⌝ }
     ensures { λ a. ⌜ Done (replyTo (now (image .entry)) (now (table .entry)) (now (state .entry)) (step (t .0))) (now (state .exit)) a ⌝ }
 {
@@ -31,7 +38,14 @@ pub fn transfer(image: &[u8], table: &[u8], state: &mut [u8], t: Thread, w: Thre
     moved(state, t, w.transfer(label_of(get16(r, 4)), values, d.count))
 }
 
-pub fn give_back(image: &[u8], table: &[u8], state: &mut [u8], t: Thread, w: ThreadState, r: &[u8]) -> Answer
+pub fn give_back(
+    image: &[u8],
+    table: &[u8],
+    state: &mut [u8],
+    t: Thread,
+    w: ThreadState,
+    r: &[u8],
+) -> Answer
     requires { ⌜ At (now image) (now table) (now state) (t .0) w (now r) × (statementOf (now r) ≡ Return) ⌝ }
     ensures { λ a. ⌜ Done (replyTo (now (image .entry)) (now (table .entry)) (now (state .entry)) (step (t .0))) (now (state .exit)) a ⌝ }
 {

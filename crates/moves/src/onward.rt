@@ -39,7 +39,14 @@ pub fn go_on(state: &mut [u8], t: Thread, w: ThreadState, r: &[u8], field: usize
     moved(state, t, w.move_on(label_of(get16(r, field))))
 }
 
-pub fn skip(image: &[u8], table: &[u8], state: &mut [u8], t: Thread, w: ThreadState, r: &[u8]) -> Answer
+pub fn skip(
+    image: &[u8],
+    table: &[u8],
+    state: &mut [u8],
+    t: Thread,
+    w: ThreadState,
+    r: &[u8],
+) -> Answer
     requires { ⌜ At (now image) (now table) (now state) (t .0) w (now r) × (statementOf (now r) ≡ Skip) ⌝ }
     ensures { λ a. ⌜ Done (replyTo (now (image .entry)) (now (table .entry)) (now (state .entry)) (step (t .0))) (now (state .exit)) a ⌝ }
 {

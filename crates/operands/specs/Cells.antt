@@ -30,7 +30,6 @@ unfolding wordsFrom
 word-read state block w b h = window-at block w (wordsFrom state) h ∙ chunks-at num16 2 (blockCount * wordCount) state 0 (wordCount * block + w) (omega arith)
 
 module _ (state : List ℕ) (block present : ℕ) (registers : List ℕ) where
-
   register-is : (r : ℕ) → r < registerCount → getD (cellsFrom state block present registers .registers) r none ≡ registerOf present registers r
   register-is r h = register-at present registers 0 registerCount r h ∙ rw zero-add refl
 

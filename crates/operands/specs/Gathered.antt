@@ -5,10 +5,13 @@ use Prim.Native.Nat.{ℕ, zero, suc, _+_, _-_, _≤_, _<_}
 use native.Mathlib.Nat.{sub-zero}
 use native.Mathlib.Numerals.{add-one}
 use native.Mathlib.Omega.{arith}
-use lib.ListN.{length, take, set}
-use lib.Seq.{take-suc-set}
+use lib.ListN.{length, take, drop, set, replicate, take-append-drop}
+use lib.Seq.{take-suc-set, drop-drop, drop-set-lt, length-take-le}
+use Rattle.rules.specs.Sizes.{operandCount}
+use Rattle.rules.specs.Bytes.{pad}
 use Rattle.rules.specs.Statements.{operandAt, operandsFrom}
 use Rattle.rules.specs.Effects.{Got, trap, got, then, Cells, read, readAll}
+use Rattle.fields.specs.Blocks.{pad-split}
 
 -- values read before the others
 abbrev pub prefixed : List ℕ → Got (List ℕ) → Got (List ℕ)
@@ -57,3 +60,19 @@ module _ (c : Cells) (r : List ℕ) (n : ℕ) where
       let e : k ≡ n = omega arith in
       let z : n - k ≡ 0 = omega arith in
       inv .1 ∙ rw (z, e, append-nil) refl
+
+-- zeros stand where nothing is stored yet, from place k on
+abbrev pub Unstored : ℕ → List ℕ → Type 0
+Unstored k values = drop k values ≡ replicate (operandCount - k) 0
+
+pub stored-more : (k v : ℕ) (values : List ℕ) → k < operandCount → Unstored k values → Unstored (k + 1) (set values k v)
+stored-more k v values h u =
+    let e : operandCount - k ≡ suc (operandCount - (k + 1)) = omega arith in
+    let w : drop k values ≡ 0 ∷ replicate (operandCount - (k + 1)) 0 = rw e at u in
+    drop-set-lt (k + 1) values k v (omega arith) ∙ sym (drop-drop 1 k values) ∙ ap (drop 1) w
+
+-- as many values as were stored, and zeros
+pub stored-all : (n : ℕ) (values : List ℕ) → length values ≡ operandCount → n ≤ operandCount → Unstored n values → pad 0 operandCount (take n values) ≡ values
+stored-all n values l h u =
+    let k : length (take n values) ≡ n = length-take-le n values (rw l h) in
+    pad-split 0 operandCount (take n values) (omega arith) ∙ rw (k, ← u) (take-append-drop n values)

@@ -36,13 +36,17 @@ operand-fits k v h = first (or-cases (eqb k 1 || (eqb k 2 && ltb v registerCount
   where
     as-word : k ≡ 3 → v < wordCount → Fits (cond (eqb k 1) (Number v) (cond (eqb k 2) (Register v) (Word v)))
     as-word e l = rw e l
+
     as-register : k ≡ 2 → v < registerCount → Fits (cond (eqb k 1) (Number v) (cond (eqb k 2) (Register v) (Word v)))
     as-register e l = rw e l
+
     as-number : k ≡ 1 → Fits (cond (eqb k 1) (Number v) (cond (eqb k 2) (Register v) (Word v)))
     as-number e = rw e tt
+
     second : (eqb k 1 ≡ true) ⊎ ((eqb k 2 && ltb v registerCount) ≡ true) → Fits (cond (eqb k 1) (Number v) (cond (eqb k 2) (Register v) (Word v)))
     second (inl e) = as-number (eqb-true k 1 e)
     second (inr e) = let b = and-both (eqb k 2) (ltb v registerCount) e in as-register (eqb-true k 2 (b .0)) (ltb-true v registerCount (b .1))
+
     first : ((eqb k 1 || (eqb k 2 && ltb v registerCount)) ≡ true) ⊎ ((eqb k 3 && ltb v wordCount) ≡ true) → Fits (cond (eqb k 1) (Number v) (cond (eqb k 2) (Register v) (Word v)))
     first (inl e) = second (or-cases (eqb k 1) (eqb k 2 && ltb v registerCount) e)
     first (inr e) = let b = and-both (eqb k 3) (ltb v wordCount) e in as-word (eqb-true k 3 (b .0)) (ltb-true v wordCount (b .1))

@@ -5,6 +5,7 @@ use Prim.Native.Nat.{ℕ, _≤_, _<_}
 use mathlib.Core.Option.{Option, none, some}
 use lib.ListN.{length, take, getD}
 use Rattle.rules.specs.Sizes.{operandCount}
+use Rattle.rules.specs.Bytes.{pad}
 use Rattle.rules.specs.Effects.{Got, trap, got, Cells, present, read}
 use Rattle.rules.specs.declared.statement.Operand.{Operand}
 use Rattle.rules.specs.declared.statement.Operand.the-variants.{Number, Register, Word}
@@ -23,6 +24,8 @@ pub record Reads (g : Got (List ℕ)) (d : Data) : Type 0 where
   pub values : d .trap ≡ 0 → g ≡ got (take (d .count) (d .values))
   pub trapped : (d .trap ≡ 0 → ⊥) → g ≡ trap (d .trap)
   pub sized : length (d .values) ≡ operandCount
+  -- the others are zero
+  pub zeros : d .trap ≡ 0 → pad 0 operandCount (take (d .count) (d .values)) ≡ d .values
 
 pub reading-value : (g : Got ℕ) (v : ℕ) → readingOf g ≡ Value v → g ≡ got v
 reading-value (trap r) v e = never (cc)

@@ -33,7 +33,13 @@ pub enum Reading {
 pub const ABSENT: u8 = 1;
 
 // An operand, read. The registers are given by their presence set and their values.
-pub fn read_operand(state: &[u8], block: Block, present: u32, registers: &[u16; 25], p: Operand) -> Reading
+pub fn read_operand(
+    state: &[u8],
+    block: Block,
+    present: u32,
+    registers: &[u16; 25],
+    p: Operand,
+) -> Reading
     requires { ⌜ (length (now state) ≡ 7929) × (block .0 < 16) × Fits p ⌝ }
     ensures { λ r. ⌜ r ≡ readingOf (read (cellsFrom (now (state .entry)) (block .0) present (now (registers .entry))) p) ⌝ }
 {
@@ -47,7 +53,10 @@ pub fn read_operand(state: &[u8], block: Block, present: u32, registers: &[u16; 
             }
         }
         Operand::Word(w) => {
-            Reading::Value(get16(state, 2 * (16 * (block_number(block) as usize) + (w as usize))))
+            Reading::Value(get16(
+                state,
+                2 * (16 * (block_number(block) as usize) + (w as usize)),
+            ))
         }
     }
 }
@@ -73,12 +82,20 @@ pub fn read_data(state: &[u8], block: Block, present: u32, registers: &[u16; 25]
                 values[k] = v;
             }
             Reading::Trap(reason) => {
-                return Data { values: values, count: count, trap: reason };
+                return Data {
+                    values: values,
+                    count: count,
+                    trap: reason,
+                };
             }
         }
         k += 1;
     }
-    Data { values: values, count: count, trap: 0 }
+    Data {
+        values: values,
+        count: count,
+        trap: 0,
+    }
 }
 
 // Two operands, read left to right: their values, or the reason of the trap that reading them makes.
@@ -88,15 +105,34 @@ pub struct Pair {
     pub trap: u8,
 }
 
-pub fn read_pair(state: &[u8], block: Block, present: u32, registers: &[u16; 25], p: Operand, q: Operand) -> Pair
+pub fn read_pair(
+    state: &[u8],
+    block: Block,
+    present: u32,
+    registers: &[u16; 25],
+    p: Operand,
+    q: Operand,
+) -> Pair
     requires { ⌜ (length (now state) ≡ 7929) × (block .0 < 16) × Fits p × Fits q ⌝ }
     ensures { λ d. ⌜ ReadsPair (readAll (cellsFrom (now (state .entry)) (block .0) present (now (registers .entry))) (p ∷ q ∷ [])) d ⌝ }
 {
     match read_operand(state, block, present, registers, p) {
-        Reading::Trap(reason) => Pair { left: 0, right: 0, trap: reason },
+        Reading::Trap(reason) => Pair {
+            left: 0,
+            right: 0,
+            trap: reason,
+        },
         Reading::Value(left) => match read_operand(state, block, present, registers, q) {
-            Reading::Trap(reason) => Pair { left: 0, right: 0, trap: reason },
-            Reading::Value(right) => Pair { left: left, right: right, trap: 0 },
+            Reading::Trap(reason) => Pair {
+                left: 0,
+                right: 0,
+                trap: reason,
+            },
+            Reading::Value(right) => Pair {
+                left: left,
+                right: right,
+                trap: 0,
+            },
         },
     }
 }
@@ -115,7 +151,13 @@ pub fn joined(o: Operator, p: u16, q: u16) -> u16
 }
 
 // What ASSIGN stores, or the reason of the trap that working it out makes.
-pub fn evaluate(state: &[u8], block: Block, present: u32, registers: &[u16; 25], v: Value) -> Reading
+pub fn evaluate(
+    state: &[u8],
+    block: Block,
+    present: u32,
+    registers: &[u16; 25],
+    v: Value,
+) -> Reading
     requires { ⌜ (length (now state) ≡ 7929) × (block .0 < 16) × FitAll (sources v) ⌝ }
     ensures { λ r. ⌜ r ≡ readingOf (evaluated (cellsFrom (now (state .entry)) (block .0) present (now (registers .entry))) v) ⌝ }
 {

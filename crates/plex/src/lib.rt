@@ -1,7 +1,14 @@
 // The calls that a host makes, on byte slices and numbers. Each returns one number: 0, or 65,536 × number + place of the first refusal.
+use door::faults::fresh_fault;
+use door::faults::walk_fault;
+use engine::fresh::fresh;
+use engine::run::run;
+use events::faults::run_fault;
 use image::check::image_fault;
+use rules::sorts::thread_of;
+use waits::walk;
 ghost use mathlib.Core.Path.{_≡_};
-ghost use Rattle.rules.specs.Calls.{checkReturn};
+ghost use Rattle.rules.specs.Calls.{checkReturn, freshReturn, freshState, runReturn, runState, runAnswers, walkReturn, walkMet};
 
 // The image check.
 #[no_mangle]
@@ -9,4 +16,58 @@ pub extern "C" fn plex_check(image: &[u8], table: &[u8]) -> u32
     ensures { λ r. ⌜ r ≡ checkReturn (now (image .entry)) (now (table .entry)) ⌝ }
 {
     image_fault(image, table)
+}
+
+// A fresh machine with these initial words.
+#[no_mangle]
+pub extern "C" fn plex_fresh(image: &[u8], table: &[u8], words: &[u8], state: &mut [u8]) -> u32
+    ensures { λ r. ⌜ r ≡ freshReturn (now (image .entry)) (now (table .entry)) (now (words .entry)) (now (state .entry)) ⌝ }
+    ensures { λ _. ⌜ now (state .exit) ≡ freshState (now (image .entry)) (now (table .entry)) (now (words .entry)) (now (state .entry)) ⌝ }
+{
+    let fault = fresh_fault(image, table, words, state);
+    if fault != 0 {
+        return fault;
+    }
+    fresh(words, state);
+    0
+}
+
+// Events carried out on a state, each with the two bytes of its answer.
+#[no_mangle]
+pub extern "C" fn plex_run(
+    image: &[u8],
+    table: &[u8],
+    state: &mut [u8],
+    events: &[u8],
+    answers: &mut [u8],
+) -> u32
+    ensures { λ r. ⌜ r ≡ runReturn (now (image .entry)) (now (table .entry)) (now (state .entry)) (now (events .entry)) (now (answers .entry)) ⌝ }
+    ensures { λ _. ⌜ now (state .exit) ≡ runState (now (image .entry)) (now (table .entry)) (now (state .entry)) (now (events .entry)) (now (answers .entry)) ⌝ }
+    ensures { λ _. ⌜ now (answers .exit) ≡ runAnswers (now (image .entry)) (now (table .entry)) (now (state .entry)) (now (events .entry)) (now (answers .entry)) ⌝ }
+{
+    let fault = run_fault(image, table, state, events, answers);
+    if fault != 0 {
+        return fault;
+    }
+    run(image, table, state, events, answers);
+    0
+}
+
+// The walk along waits from a thread.
+#[no_mangle]
+pub extern "C" fn plex_walk(
+    image: &[u8],
+    table: &[u8],
+    state: &[u8],
+    thread: u32,
+    met: &mut [u8],
+) -> u32
+    ensures { λ r. ⌜ r ≡ walkReturn (now (image .entry)) (now (table .entry)) (now (state .entry)) thread (now (met .entry)) ⌝ }
+    ensures { λ _. ⌜ now (met .exit) ≡ walkMet (now (image .entry)) (now (table .entry)) (now (state .entry)) thread (now (met .entry)) ⌝ }
+{
+    let fault = walk_fault(image, table, state, thread, met);
+    if fault != 0 {
+        return fault;
+    }
+    walk(image, table, state, thread_of(thread as u8), met)
 }

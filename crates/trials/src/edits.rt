@@ -53,19 +53,22 @@ fn place(line: &[u8], at: usize, end: usize, buffer: usize) -> usize {
 // Carries out the edit at `at`: BUFFER#LENGTH or BUFFER:PLACE=BYTE.
 fn edit(line: &[u8], at: usize, memory: &mut Memory, lengths: &mut Lengths) {
     let buffer = buffer_named(line, at);
+    let end = after(line, at, b' ');
     let size = after(line, at, b'#');
-    if size < after(line, at, b' ') {
+    if size < end {
         resize(memory, lengths, buffer, number(line, size));
         return;
     }
     let from = after(line, at, b':');
-    let value = after(line, from, b'=');
-    set(
-        memory,
-        buffer,
-        place(line, from, value, buffer),
-        (number(line, value) % 256) as u8,
-    );
+    if from < end {
+        let value = after(line, from, b'=');
+        set(
+            memory,
+            buffer,
+            place(line, from, value, buffer),
+            (number(line, value) % 256) as u8,
+        );
+    }
 }
 
 // Carries out the edits of a line, in order: its words from the third to `=>`.

@@ -35,7 +35,7 @@ fn read_part(path: &[u8; 32], n: usize, memory: &mut [u8], from: usize) -> usize
     }
     let all = &path[..];
     let to = from + PART;
-    read(&all[..n], &mut memory[from..to])
+    read(&all[0..n], &mut memory[from..to])
 }
 
 // Adds the first word of `text` to a path that ends at `at`, and says where it then ends.

@@ -1,11 +1,11 @@
-// Trials that are the lines of a file: CASE CALL EDIT.. => RETURN.
-use crate::calls::agrees;
+// Trials that are the lines of a file: CASE CALL EDIT.. => RETURN. A call is handed the files of its case, CASE.image and the others,
+// with the edits carried out in order. The vectors are what independent implementations of document 01 agree on.
+use crate::claims::agrees;
 use crate::edits::apply;
 use crate::files::load;
 use crate::files::read;
 use crate::memory::Lengths;
 use crate::memory::Memory;
-use crate::statements::statements;
 use crate::tally::Tally;
 use crate::text::after;
 use crate::text::begins;
@@ -21,11 +21,7 @@ fn is_of(line: &[u8], call: &[u8]) -> bool {
 
 // Tries a line, on the buffers of its case with its edits.
 fn try_line(line: &[u8], memory: &mut Memory, lengths: &mut Lengths) -> bool {
-    if begins(line, 0, b"statements") {
-        statements(memory, lengths);
-    } else {
-        load(line, memory, lengths);
-    }
+    load(line, memory, lengths);
     apply(line, memory, lengths);
     agrees(line, memory, lengths)
 }

@@ -1,4 +1,6 @@
 // The seven buffers that a call can be lent, a part of 65,536 bytes for each, and their lengths.
+ghost use mathlib.Core.Path.{_≡_};
+ghost use lib.ListN.{length};
 
 pub const PART: usize = 65536;
 
@@ -17,6 +19,8 @@ pub const ANSWERS: usize = 4;
 pub const STATE: usize = 5;
 
 pub const MET: usize = 6;
+
+pub type Part = [u8; 65536];
 
 pub type Memory = [u8; 458752];
 
@@ -45,15 +49,6 @@ pub fn set(memory: &mut Memory, buffer: usize, place: usize, value: u8) {
     }
 }
 
-// Makes every byte of every buffer 0.
-pub fn clear(memory: &mut Memory) {
-    let mut i = 0;
-    while i < 458752 {
-        memory[i] = 0;
-        i += 1;
-    }
-}
-
 // Makes a buffer's length `n`: cuts it, or fills it up with bytes of 1.
 pub fn resize(memory: &mut Memory, lengths: &mut Lengths, buffer: usize, n: usize) {
     if buffer < BUFFERS {
@@ -79,4 +74,36 @@ pub fn name(buffer: usize) -> [u8; 8] {
         STATE => *b"state\0\0\0",
         _ => *b"met\0\0\0\0\0",
     }
+}
+
+// A copy of the bytes of a buffer, and zeros. The `ensures` says the length, which lending the array as a slice needs.
+pub fn copy(memory: &Memory, lengths: &Lengths, buffer: usize) -> Part
+    ensures { λ r. ⌜ 65536 ≡ length r ⌝ }
+{
+    let from = bytes(memory, lengths, buffer);
+    let mut part = [0u8; PART];
+    let mut i = 0;
+    while i < from.len() {
+        if PART <= i {
+            return part;
+        }
+        part[i] = from[i];
+        i += 1;
+    }
+    part
+}
+
+// Whether `part` begins with `bytes`.
+pub fn same(bytes: &[u8], part: &Part) -> bool {
+    let mut i = 0;
+    while i < bytes.len() {
+        if PART <= i {
+            return false;
+        }
+        if part[i] != bytes[i] {
+            return false;
+        }
+        i += 1;
+    }
+    true
 }

@@ -53,7 +53,7 @@ returns c =
     let l : i .result < length (m .trees) = rw (i .ensures) (inside (s .args .t .0) (s .pre .0) (s .pre .2)) in
     let k = thread-written _ _ (e .ensures .0) t (w .result) (s .pre .1) (w .ensures .tidy) (c .before .before .write-thread .ensures) in
     let f : withThread (machineFrom (e .last .0)) t (stateOf (w .result)) ≡ finished (rulesBy (s .args .image .now) (s .args .table .now)) t m =
-        rw (w .ensures .state, e .ensures .1 t (i .ensures)) (finished-is (s .args .image .now) (s .args .table .now) m t (home .result .0) (i .result) (i .ensures) l (home .ensures)) in
+    rw (w .ensures .state, e .ensures .1 t (i .ensures)) (finished-is (s .args .image .now) (s .args .table .now) m t (home .result .0) (i .result) (i .ensures) l (home .ensures)) in
     subst (λ (q : Machine). Encodes (c .before .before .write-thread .last .0) q) f k
 
 pub finish-spec : {M : Type 1} → statement M

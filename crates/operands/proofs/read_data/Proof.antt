@@ -7,13 +7,13 @@ use Rattle.rules.specs.Effects.{Cells, read, trap, got}
 use Rattle.rules.specs.Statements.{operandAt}
 use Rattle.operands.specs.Readings.{reading-value, reading-trap, read-reason}
 use Rattle.operands.specs.Legal.{slot-fits}
-use Rattle.operands.specs.Gathered.{ReadSoFar, reads-none, reads-more, reads-trap, reads-all}
+use Rattle.operands.specs.Gathered.{ReadSoFar, reads-none, reads-more, reads-trap, reads-all, Unstored, stored-more, stored-all}
 use Rattle.operands.specs.Cells.{cellsFrom}
 use Rattle.operands.proofs.read_data.Statement.{statement}
 use Rattle.operands.proofs.read_data.Tie as tie
 
 abbrev Inv-loop : tie.InvT-loop
-Inv-loop state block present registers r count n values₀ k₀ values k = (length values ≡ 25) × ReadSoFar (cellsFrom state (block .0) present registers) r n k values
+Inv-loop state block present registers r count n values₀ k₀ values k = (length values ≡ 25) × ReadSoFar (cellsFrom state (block .0) present registers) r n k values × Unstored k values
 
 abbrev μ-loop : tie.MeasureT-loop
 μ-loop state block present registers r count n values₀ k₀ values k = n - k
@@ -21,7 +21,7 @@ abbrev μ-loop : tie.MeasureT-loop
 loop-holds : tie.Need-loop-holds Inv-loop μ-loop
 loop-holds c =
     let a = c .before .before .before .before .args in
-    (refl, reads-none (cellsFrom (a .state .now) (a .block .0) (a .present) (a .registers .now)) (a .r .now) (c .wide .result) (replicate 25 0))
+    (refl, reads-none (cellsFrom (a .state .now) (a .block .0) (a .present) (a .registers .now)) (a .r .now) (c .wide .result) (replicate 25 0), refl)
 
 operand-at-requires : tie.Need-operand-at-requires Inv-loop μ-loop
 operand-at-requires c κs = omega (arith, c .before .before .wide .ensures .0)
@@ -50,7 +50,7 @@ returns c =
     let e : read cells (operandAt (a .r .now) (l .k)) ≡ trap x = rw (c .before .before .before .before .operand-at .ensures) at f in
     let one : x ≡ 1 = read-reason cells (operandAt (a .r .now) (l .k)) x e in
     let all = reads-trap cells (a .r .now) (c .before .before .before .before .before .before .before .wide .result) (l .k) (l .values) (l .inv .1) (omega arith) x e in
-    record { few = s .pre .3; values = λ z. absurd (omega arith); trapped = λ z. rw w at all; sized = l .inv .0 }
+    record { few = s .pre .3; values = λ z. absurd (omega arith); trapped = λ z. rw w at all; sized = l .inv .0; zeros = λ z. absurd (omega arith) }
 
 loop-again : tie.Need-loop-again Inv-loop μ-loop
 loop-again c =
@@ -62,7 +62,7 @@ loop-again c =
     let f : read cells (c .before .before .before .before .operand-at .result) ≡ got v = reading-value _ v (sym (c .before .before .before .read-operand .ensures) ∙ c .before .v .given .1) in
     let e : read cells (operandAt (a .r .now) (l .k)) ≡ got v = rw (c .before .before .before .before .operand-at .ensures) at f in
     let h : l .k < length (l .values) = omega (arith, l .inv .0, c .before .before .before .before .before .before .before .wide .ensures .0, c .before .before .before .before .before .before .before .before .before .before .before .pre .3) in
-    (length-set (l .values) (l .k) v ∙ l .inv .0, reads-more cells (a .r .now) n (l .k) (l .values) (l .inv .1) (omega arith) v e h)
+    (length-set (l .values) (l .k) v ∙ l .inv .0, reads-more cells (a .r .now) n (l .k) (l .values) (l .inv .1) (omega arith) v e h, stored-more (l .k) v (l .values) (omega (arith, l .inv .0)) (l .inv .2))
 
 returns-2 : tie.Need-returns-2 Inv-loop μ-loop
 returns-2 c =
@@ -70,7 +70,16 @@ returns-2 c =
     let a = s .args in
     let l = c .before .loop in
     let all = reads-all (cellsFrom (a .state .now) (a .block .0) (a .present) (a .registers .now)) (a .r .now) (c .before .before .wide .result) (l .k) (l .values) (l .inv .1) (omega arith) in
-    record { few = s .pre .3; values = λ z. rw (c .before .before .wide .ensures .0) at all; trapped = λ z. absurd (z refl); sized = l .inv .0 }
+    let n : ℕ = c .before .before .wide .result in
+    let e : l .k ≡ n = omega (arith, l .inv .1 .0) in
+    let rest = stored-all n (l .values) (l .inv .0) (omega (arith, c .before .before .wide .ensures .0, s .pre .3)) (rw e at (l .inv .2)) in
+    record {
+      few = s .pre .3;
+      values = λ z. rw (c .before .before .wide .ensures .0) at all;
+      trapped = λ z. absurd (z refl);
+      sized = l .inv .0;
+      zeros = λ z. rw (c .before .before .wide .ensures .0) at rest;
+    }
 
 pub read-data-spec : {M : Type 1} → statement M
 read-data-spec =

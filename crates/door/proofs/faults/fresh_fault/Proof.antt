@@ -5,7 +5,7 @@ use borrow.Author.Needs.{needs}
 use denote.Ref.{now}
 use Rattle.rules.specs.Check.{firstOf, imageFaults}
 use Rattle.rules.specs.Calls.{stateLengthFault, wordsLengthFault, freshReturn}
-use Rattle.door.specs.Faults.{before, after, one, other}
+use Rattle.door.specs.Faults.{before, after}
 use Rattle.door.proofs.faults.fresh_fault.Statement.{statement}
 use Rattle.door.proofs.faults.fresh_fault.Tie as tie
 
@@ -14,29 +14,16 @@ unfolding freshReturn
 returns c =
     let a = c .before .before .before .before .before .before .args in
     let xs : List ℕ = imageFaults (now (a .image)) (now (a .table)) [] in
-    let ys : List ℕ = stateLengthFault (now (a .state)) ∷ wordsLengthFault (now (a .words)) ∷ [] in
     let e : c .before .image-fault .result ≡ firstOf xs = c .before .image-fault .ensures in
-    e ∙ sym (before xs ys (λ z. c .if1 .taken (e ∙ z)))
+    e ∙ sym (before xs (stateLengthFault (now (a .state)) ∷ wordsLengthFault (now (a .words)) ∷ []) (λ z. c .if1 .taken (e ∙ z)))
 
 returns-2 : tie.Need-returns-2
 unfolding freshReturn
 returns-2 c =
-    let a = c .before .before .before .before .before .before .before .before .args in
-    let xs : List ℕ = imageFaults (now (a .image)) (now (a .table)) [] in
-    let ys : List ℕ = stateLengthFault (now (a .state)) ∷ wordsLengthFault (now (a .words)) ∷ [] in
-    let e : c .before .before .before .image-fault .result ≡ firstOf xs = c .before .before .before .image-fault .ensures in
-    let f : c .before .state-length-fault .result ≡ stateLengthFault (now (a .state)) = c .before .state-length-fault .ensures in
-    f ∙ sym (after xs ys (sym e ∙ c .before .before .if1 .left) ∙ one (stateLengthFault (now (a .state))) (wordsLengthFault (now (a .words))) (λ z. c .if2 .taken (f ∙ z)))
-
-returns-3 : tie.Need-returns-3
-unfolding freshReturn
-returns-3 c =
     let a = c .before .before .before .before .before .before .before .before .before .args in
     let xs : List ℕ = imageFaults (now (a .image)) (now (a .table)) [] in
-    let ys : List ℕ = stateLengthFault (now (a .state)) ∷ wordsLengthFault (now (a .words)) ∷ [] in
-    let e : c .before .before .before .before .image-fault .result ≡ firstOf xs = c .before .before .before .before .image-fault .ensures in
-    let f : c .before .before .state-length-fault .result ≡ stateLengthFault (now (a .state)) = c .before .before .state-length-fault .ensures in
-    c .words-length-fault .ensures ∙ sym (after xs ys (sym e ∙ c .before .before .before .if1 .left) ∙ other (stateLengthFault (now (a .state))) (wordsLengthFault (now (a .words))) (sym f ∙ c .before .if2 .left))
+    rw (← c .before .before .state-length-fault .ensures, ← c .before .words-length-fault .ensures)
+    (c .first-of .ensures ∙ sym (after xs (c .before .before .state-length-fault .result ∷ c .before .words-length-fault .result ∷ []) (sym (c .before .before .before .before .image-fault .ensures) ∙ c .before .before .before .if1 .left)))
 
 pub fresh-fault-spec : {M : Type 1} → statement M
 fresh-fault-spec =
@@ -45,6 +32,6 @@ fresh-fault-spec =
     (λ c κs. search needs)
     returns
     (λ c κs. search needs)
-    returns-2
     (λ c κs. search needs)
-    returns-3)
+    (λ c κs. search needs)
+    returns-2)

@@ -5,7 +5,8 @@ use borrow.Author.Needs.{needs}
 use denote.Ref.{now}
 use Rattle.rules.specs.Check.{firstOf, imageFaults}
 use Rattle.rules.specs.Calls.{stateLengthFault, stateFault}
-use Rattle.door.specs.Faults.{state-length, before, after, one, other}
+use Rattle.image.specs.Faults.{found, passed, last}
+use Rattle.door.specs.Faults.{state-length, before, after}
 use Rattle.door.proofs.faults.machine_fault.Statement.{statement}
 use Rattle.door.proofs.faults.machine_fault.Tie as tie
 
@@ -24,7 +25,7 @@ returns-2 c =
     let ys : List ℕ = stateLengthFault (now (a .state)) ∷ stateFault (now (a .image)) (now (a .table)) (now (a .state)) ∷ [] in
     let e : c .before .before .before .image-fault .result ≡ firstOf xs = c .before .before .before .image-fault .ensures in
     let f : c .before .state-length-fault .result ≡ stateLengthFault (now (a .state)) = c .before .state-length-fault .ensures in
-    f ∙ sym (after xs ys (sym e ∙ c .before .before .if1 .left) ∙ one (stateLengthFault (now (a .state))) (stateFault (now (a .image)) (now (a .table)) (now (a .state))) (λ z. c .if2 .taken (f ∙ z)))
+    f ∙ sym (after xs ys (sym e ∙ c .before .before .if1 .left) ∙ found (stateLengthFault (now (a .state))) (stateFault (now (a .image)) (now (a .table)) (now (a .state)) ∷ []) (λ z. c .if2 .taken (f ∙ z)))
 
 state-fault-requires : tie.Need-state-fault-requires
 state-fault-requires c κs =
@@ -38,7 +39,7 @@ returns-3 c =
     let ys : List ℕ = stateLengthFault (now (a .state)) ∷ stateFault (now (a .image)) (now (a .table)) (now (a .state)) ∷ [] in
     let e : c .before .before .before .before .image-fault .result ≡ firstOf xs = c .before .before .before .before .image-fault .ensures in
     let f : c .before .before .state-length-fault .result ≡ stateLengthFault (now (a .state)) = c .before .before .state-length-fault .ensures in
-    c .state-fault .ensures ∙ sym (after xs ys (sym e ∙ c .before .before .before .if1 .left) ∙ other (stateLengthFault (now (a .state))) (stateFault (now (a .image)) (now (a .table)) (now (a .state))) (sym f ∙ c .before .if2 .left))
+    c .state-fault .ensures ∙ sym (after xs ys (sym e ∙ c .before .before .before .if1 .left) ∙ passed (stateLengthFault (now (a .state))) (stateFault (now (a .image)) (now (a .table)) (now (a .state)) ∷ []) (sym f ∙ c .before .if2 .left) ∙ last (stateFault (now (a .image)) (now (a .table)) (now (a .state))))
 
 pub machine-fault-spec : {M : Type 1} → statement M
 machine-fault-spec =

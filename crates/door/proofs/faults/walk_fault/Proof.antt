@@ -5,7 +5,7 @@ use borrow.Author.Needs.{needs}
 use denote.Ref.{now}
 use Rattle.rules.specs.Check.{firstOf}
 use Rattle.rules.specs.Calls.{threadFault, metLengthFault, walkFault}
-use Rattle.door.specs.Faults.{machineFaults, before, after, one, other}
+use Rattle.door.specs.Faults.{machineFaults, before, after}
 use Rattle.door.proofs.faults.walk_fault.Statement.{statement}
 use Rattle.door.proofs.faults.walk_fault.Tie as tie
 
@@ -14,29 +14,16 @@ unfolding walkFault
 returns c =
     let a = c .before .before .before .before .before .before .args in
     let xs : List ℕ = machineFaults (now (a .image)) (now (a .table)) (now (a .state)) in
-    let ys : List ℕ = threadFault (a .thread) ∷ metLengthFault (now (a .met)) ∷ [] in
     let e : c .before .machine-fault .result ≡ firstOf xs = c .before .machine-fault .ensures in
-    e ∙ sym (before xs ys (λ z. c .if1 .taken (e ∙ z)))
+    e ∙ sym (before xs (threadFault (a .thread) ∷ metLengthFault (now (a .met)) ∷ []) (λ z. c .if1 .taken (e ∙ z)))
 
 returns-2 : tie.Need-returns-2
 unfolding walkFault
 returns-2 c =
-    let a = c .before .before .before .before .before .before .before .before .args in
-    let xs : List ℕ = machineFaults (now (a .image)) (now (a .table)) (now (a .state)) in
-    let ys : List ℕ = threadFault (a .thread) ∷ metLengthFault (now (a .met)) ∷ [] in
-    let e : c .before .before .before .machine-fault .result ≡ firstOf xs = c .before .before .before .machine-fault .ensures in
-    let f : c .before .thread-fault .result ≡ threadFault (a .thread) = c .before .thread-fault .ensures in
-    f ∙ sym (after xs ys (sym e ∙ c .before .before .if1 .left) ∙ one (threadFault (a .thread)) (metLengthFault (now (a .met))) (λ z. c .if2 .taken (f ∙ z)))
-
-returns-3 : tie.Need-returns-3
-unfolding walkFault
-returns-3 c =
     let a = c .before .before .before .before .before .before .before .before .before .args in
     let xs : List ℕ = machineFaults (now (a .image)) (now (a .table)) (now (a .state)) in
-    let ys : List ℕ = threadFault (a .thread) ∷ metLengthFault (now (a .met)) ∷ [] in
-    let e : c .before .before .before .before .machine-fault .result ≡ firstOf xs = c .before .before .before .before .machine-fault .ensures in
-    let f : c .before .before .thread-fault .result ≡ threadFault (a .thread) = c .before .before .thread-fault .ensures in
-    c .met-length-fault .ensures ∙ sym (after xs ys (sym e ∙ c .before .before .before .if1 .left) ∙ other (threadFault (a .thread)) (metLengthFault (now (a .met))) (sym f ∙ c .before .if2 .left))
+    rw (← c .before .before .thread-fault .ensures, ← c .before .met-length-fault .ensures)
+    (c .first-of .ensures ∙ sym (after xs (c .before .before .thread-fault .result ∷ c .before .met-length-fault .result ∷ []) (sym (c .before .before .before .before .machine-fault .ensures) ∙ c .before .before .before .if1 .left)))
 
 pub walk-fault-spec : {M : Type 1} → statement M
 walk-fault-spec =
@@ -45,6 +32,6 @@ walk-fault-spec =
     (λ c κs. search needs)
     returns
     (λ c κs. search needs)
-    returns-2
     (λ c κs. search needs)
-    returns-3)
+    (λ c κs. search needs)
+    returns-2)

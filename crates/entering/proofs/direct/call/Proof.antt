@@ -1,32 +1,24 @@
-use mathlib.Core.Path.{_≡_, sym, ap, _∙_, subst}
+use mathlib.Core.Path.{_≡_, sym, ap, _∙_}
 use mathlib.Core.List.{[], _∷_, _++_}
-use Prim.Native.Nat.{_<_}
 use native.Mathlib.Omega.{arith}
 use borrow.Author.Needs.{needs}
-use Rattle.rules.specs.Image.{labels, labelA, labelB, rowAt}
+use Rattle.rules.specs.Image.{labelA, labelB, rowAt}
 use Rattle.rules.specs.Statements.{roleA}
 use Rattle.rules.specs.Machine.{fill}
 use Rattle.rules.specs.Steps.{blockAt}
-use Rattle.rules.specs.declared.statement.Statement.{Statement}
 use Rattle.threads.specs.Threads.{job, returnsOf}
-use Rattle.operands.specs.Legal.{Below}
 use Rattle.image.specs.Records.{labels-small}
-use Rattle.ready.specs.At.{below-A}
 use Rattle.entering.specs.Passages.{ask-shallow}
-use Rattle.entering.specs.Entering.{valuesOf, call-passes, passed-trap, passed-lock}
+use Rattle.entering.specs.Entering.{direct-below, valuesOf, call-passes, passed-trap, passed-lock}
 use Rattle.entering.specs.declared.passage.Passage.the-variants.{Trap, Ask}
 use Rattle.entering.proofs.direct.call.Statement.{statement}
 use Rattle.entering.proofs.direct.call.Tie as tie
-
--- label A is below n
-below : (s : tie.Start) → labelA (s .args .r .now) < labels (s .args .image .now)
-below s = subst (λ (q : Statement). Below (s .args .image .now) (roleA q) (labelA (s .args .r .now))) (s .pre .1) (below-A (s .pre .0))
 
 passage-to-requires : tie.Need-passage-to-requires
 passage-to-requires c κs =
     let s = c .before .before .before .before .before .before .before .before .before .before .before in
     let to : c .before .before .before .label-of .result .0 ≡ labelA (s .args .r .now) = ap (λ l. l .0) (c .before .before .before .label-of .ensures) ∙ c .before .before .before .before .get16 .ensures in
-    (s .pre .0 .ready .checked, rw to (below s))
+    (s .pre .0 .ready .checked, rw to (direct-below (s .pre .0) (ap roleA (s .pre .1))))
 
 call-requires : tie.Need-call-requires
 call-requires c κs =
@@ -34,7 +26,7 @@ call-requires c κs =
     let a = s .args in
     let to : c .before .before .before .before .before .before .before .before .before .label-of .result .0 ≡ labelA (a .r .now) = ap (λ l. l .0) (c .before .before .before .before .before .before .before .before .before .label-of .ensures) ∙ c .before .before .before .before .before .before .before .before .before .before .get16 .ensures in
     let shallow = ask-shallow (rowAt (a .table .now) (blockAt (a .image .now) (c .before .before .before .before .before .before .before .before .before .label-of .result .0))) (a .t .0) (c .before .before .before .before .before .before .before .before .before .before .before .data-of .result .trap) (a .w .depth) (c .before .before .before .lock .given .0 .0) (sym (rw (c .before .before .before .before .before .before .call-trap .ensures) at (c .before .before .before .before .before .passage-to .ensures)) ∙ c .before .before .before .lock .given .1) in
-    (s .pre .0 .thread, shallow, omega (arith, below s, labels-small (a .image .now)), c .before .before .before .before .before .before .before .before .before .before .before .data-of .ensures .few)
+    (s .pre .0 .thread, shallow, omega (arith, direct-below (s .pre .0) (ap roleA (s .pre .1)), labels-small (a .image .now)), c .before .before .before .before .before .before .before .before .before .before .before .data-of .ensures .few)
 
 enter-block-requires : tie.Need-enter-block-requires
 enter-block-requires c κs =

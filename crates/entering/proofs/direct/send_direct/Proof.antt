@@ -1,35 +1,27 @@
-use mathlib.Core.Path.{_≡_, sym, ap, _∙_, subst}
-use Prim.Native.Nat.{_<_}
+use mathlib.Core.Path.{_≡_, sym, ap, _∙_}
 use native.Mathlib.Omega.{arith}
 use borrow.Author.Needs.{needs}
-use Rattle.rules.specs.Image.{labels, labelA}
+use Rattle.rules.specs.Image.{labelA}
 use Rattle.rules.specs.Statements.{roleA}
 use Rattle.rules.specs.Machine.{fill}
-use Rattle.rules.specs.declared.statement.Statement.{Statement}
 use Rattle.threads.specs.Threads.{job, returnsOf}
-use Rattle.operands.specs.Legal.{Below}
 use Rattle.image.specs.Records.{labels-small}
-use Rattle.ready.specs.At.{below-A}
-use Rattle.entering.specs.Entering.{valuesOf, send-passes, passed-trap, passed-lock}
+use Rattle.entering.specs.Entering.{direct-below, valuesOf, send-passes, passed-trap, passed-lock}
 use Rattle.entering.specs.declared.passage.Passage.the-variants.{Trap, Ask}
 use Rattle.entering.proofs.direct.send_direct.Statement.{statement}
 use Rattle.entering.proofs.direct.send_direct.Tie as tie
-
--- label A is below n
-below : (s : tie.Start) → labelA (s .args .r .now) < labels (s .args .image .now)
-below s = subst (λ (q : Statement). Below (s .args .image .now) (roleA q) (labelA (s .args .r .now))) (s .pre .1) (below-A (s .pre .0))
 
 passage-to-requires : tie.Need-passage-to-requires
 passage-to-requires c κs =
     let s = c .before .before .before .before .before .before .before .before in
     let to : c .label-of .result .0 ≡ labelA (s .args .r .now) = ap (λ l. l .0) (c .label-of .ensures) ∙ c .before .get16 .ensures in
-    (s .pre .0 .ready .checked, rw to (below s))
+    (s .pre .0 .ready .checked, rw to (direct-below (s .pre .0) (ap roleA (s .pre .1))))
 
 enter-requires : tie.Need-enter-requires
 enter-requires c κs =
     let s = c .before .before .before .before .before .before .before .before .before .before .before .before .before .before in
     let to : c .before .before .before .before .before .before .label-of .result .0 ≡ labelA (s .args .r .now) = ap (λ l. l .0) (c .before .before .before .before .before .before .label-of .ensures) ∙ c .before .before .before .before .before .before .before .get16 .ensures in
-    (s .pre .0 .thread .tidy, omega (arith, below s, labels-small (s .args .image .now)), c .before .before .before .before .before .before .before .before .data-of .ensures .few)
+    (s .pre .0 .thread .tidy, omega (arith, direct-below (s .pre .0) (ap roleA (s .pre .1)), labels-small (s .args .image .now)), c .before .before .before .before .before .before .before .before .data-of .ensures .few)
 
 enter-block-requires : tie.Need-enter-block-requires
 enter-block-requires c κs =

@@ -1,4 +1,4 @@
-use mathlib.Core.Path.{_≡_, sym, ap, _∙_}
+use mathlib.Core.Path.{_≡_, sym, _∙_}
 use mathlib.Core.Bool.{true, false}
 use mathlib.Core.List.{[]}
 use borrow.Author.Needs.{needs}
@@ -8,7 +8,6 @@ use Rattle.rules.specs.Steps.{blockAt, alien}
 use Rattle.one_by_one.specs.Passed.{passed}
 use Rattle.invariants.specs.Destinations.{block-below}
 use Rattle.entering.specs.Passages.{passageTo, passage-on}
-use Rattle.entering.specs.declared.passage.Passage.the-variants.{Ask}
 use Rattle.entering.proofs.passage.passage_to.Statement.{statement}
 use Rattle.entering.proofs.passage.passage_to.Tie as tie
 

@@ -1,19 +1,15 @@
-use mathlib.Core.Path.{_≡_, refl, sym, ap, _∙_, subst}
-use mathlib.Core.Bool.{true, false}
+use mathlib.Core.Path.{refl, sym, ap, _∙_, subst}
 use Prim.Native.Nat.{_<_}
 use native.Mathlib.Omega.{arith}
 use borrow.Author.Needs.{needs}
-use lib.ListN.{set}
 use Rattle.rules.specs.Image.{labels}
 use Rattle.rules.specs.Machine.{Signal, idle}
 use Rattle.rules.specs.Encoding.{machineFrom}
-use Rattle.rules.specs.Steps.{held}
-use Rattle.rules.specs.declared.answer.Answer.the-variants.{Waiting}
 use Rattle.image.specs.Records.{labels-small}
 use Rattle.state.specs.Records.{thread-written}
 use Rattle.ready.specs.Ready.{done}
 use Rattle.ending.specs.Home.{oldest-below}
-use Rattle.entering.specs.Starting.{FirstOf, FirstIs, rests-on, start-waiting, started}
+use Rattle.entering.specs.Starting.{FirstOf, rests-on, start-waiting, started}
 use Rattle.entering.proofs.start.start.Statement.{statement}
 use Rattle.entering.proofs.start.start.Tie as tie
 

@@ -4,7 +4,6 @@ use borrow.Author.Needs.{needs}
 use denote.Ref.{now}
 use Rattle.rules.specs.Calls.{eventsLengthFault, eventFault, answersLengthFault}
 use Rattle.image.specs.Faults.{found, passed}
-use Rattle.door.specs.Faults.{one, other}
 use Rattle.events.proofs.faults.events_fault.Statement.{statement}
 use Rattle.events.proofs.faults.events_fault.Tie as tie
 
@@ -16,19 +15,9 @@ returns c =
 
 returns-2 : tie.Need-returns-2
 returns-2 c =
-    let a = c .before .before .before .before .before .before .before .args in
-    let e : c .before .before .before .events-length-fault .result ≡ eventsLengthFault (now (a .events)) = c .before .before .before .events-length-fault .ensures in
-    let f : c .before .event-fault .result ≡ eventFault (now (a .image)) (now (a .events)) = c .before .event-fault .ensures in
-    let g = answersLengthFault (now (a .events)) (now (a .answers)) in
-    f ∙ sym (passed _ (eventFault (now (a .image)) (now (a .events)) ∷ g ∷ []) (sym e ∙ c .before .before .if1 .left) ∙ one _ g (λ z. c .if2 .taken (f ∙ z)))
-
-returns-3 : tie.Need-returns-3
-returns-3 c =
     let a = c .before .before .before .before .before .before .before .before .args in
-    let e : c .before .before .before .before .events-length-fault .result ≡ eventsLengthFault (now (a .events)) = c .before .before .before .before .events-length-fault .ensures in
-    let f : c .before .before .event-fault .result ≡ eventFault (now (a .image)) (now (a .events)) = c .before .before .event-fault .ensures in
-    let g = answersLengthFault (now (a .events)) (now (a .answers)) in
-    c .answers-length-fault .ensures ∙ sym (passed _ (eventFault (now (a .image)) (now (a .events)) ∷ g ∷ []) (sym e ∙ c .before .before .before .if1 .left) ∙ other _ g (sym f ∙ c .before .if2 .left))
+    rw (← c .before .before .event-fault .ensures, ← c .before .answers-length-fault .ensures)
+    (c .first-of .ensures ∙ sym (passed (eventsLengthFault (now (a .events))) (c .before .before .event-fault .result ∷ c .before .answers-length-fault .result ∷ []) (sym (c .before .before .before .before .events-length-fault .ensures) ∙ c .before .before .before .if1 .left)))
 
 pub events-fault-spec : {M : Type 1} → statement M
 events-fault-spec =
@@ -37,6 +26,6 @@ events-fault-spec =
     (λ c κs. search needs)
     returns
     (λ c κs. search needs)
-    returns-2
     (λ c κs. search needs)
-    returns-3)
+    (λ c κs. search needs)
+    returns-2)

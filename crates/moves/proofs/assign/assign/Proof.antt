@@ -83,7 +83,7 @@ returns-2 c =
     let f = reading-value _ v (sym (c .before .before .before .before .before .before .before .evaluate .ensures) ∙ c .before .before .before .before .before .v .given .1) in
     let g : evaluated cells (a .value) ≡ got v = subst (λ (q : Cells). evaluated q (a .value) ≡ got v) same f in
     let e : stored m t w (labelA (s .args .r .now)) k (a .destination) v ≡ storing image table m t (w .locks) (jobOf w) (tree h .0) (h .runs) (tree h .1) (a .destination) v =
-        stored-is image table m t w (tree h .0) (h .runs) (tree h .1) (labelA (s .args .r .now)) k (ap labelA (h .here)) (block-here h k ke) (a .destination) v in
+    stored-is image table m t w (tree h .0) (h .runs) (tree h .1) (labelA (s .args .r .now)) k (ap labelA (h .here)) (block-here h k ke) (a .destination) v in
     done (storing image table m t (w .locks) (jobOf w) (tree h .0) (h .runs) (tree h .1) (a .destination) v) Moved
     (assign-got image table m t (w .locks) (jobOf w) (tree h .0) (h .runs) (tree h .1) a (statement-here h (Assign a) (s .pre .1)) v g (destination-lands (h .parts) a (s .pre .1)))
     (c .before .before .store .ensures .0)

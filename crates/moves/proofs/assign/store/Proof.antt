@@ -54,10 +54,11 @@ returns c =
     let x = c .before .before .before .assign-register in
     let f = runs-fields (x .result) (w .locks) _ (x .ensures) in
     let e : running (x .result .locks) (job l (returnsOf (x .result)) (registersOf (x .result))) ≡ running (w .locks) (job l (returnsOf w) (set (registersOf w) k (some (s .args .v)))) =
-        ap (λ (n : ℕ). running n (job l (returnsOf (x .result)) (registersOf (x .result)))) (f .0) ∙ ap (λ (q : Job). running (w .locks) (job l (q .returns) (q .registers))) (f .1) in
-    (c .before .before .go-on .ensures .0,
-     subst (λ (o : Operand). Encodes (c .before .before .go-on .last .0) (stored m t w l (s .args .block .0) o (s .args .v))) (sym (c .before .before .before .before .before .before .to .given .1))
-     (subst (λ q. Encodes (c .before .before .go-on .last .0) (withThread m t q)) e (c .before .before .go-on .ensures .1)))
+    ap (λ (n : ℕ). running n (job l (returnsOf (x .result)) (registersOf (x .result)))) (f .0) ∙ ap (λ (q : Job). running (w .locks) (job l (q .returns) (q .registers))) (f .1) in (
+      c .before .before .go-on .ensures .0,
+      subst (λ (o : Operand). Encodes (c .before .before .go-on .last .0) (stored m t w l (s .args .block .0) o (s .args .v))) (sym (c .before .before .before .before .before .before .to .given .1))
+          (subst (λ q. Encodes (c .before .before .go-on .last .0) (withThread m t q)) e (c .before .before .go-on .ensures .1)),
+    )
 
 returns-2 : tie.Need-returns-2
 returns-2 c =
@@ -70,10 +71,11 @@ returns-2 c =
     let k : ℕ = c .before .before .before .before .before .before .before .before .before .to2 .given .0 .0 in
     let h : k < wordCount = rw (c .before .before .before .before .before .before .before .before .before .to2 .given .1) at (s .pre .6) in
     let e = word-written b m (s .pre .0) (wordCount * s .args .block .0 + k) (s .args .v) (omega (arith, s .pre .5)) (c .before .before .before .before .before .before .write-word .ensures) in
-    let f : machineFrom (c .before .before .before .before .before .before .write-word .last .0) ≡ withWord m (wordCount * s .args .block .0 + k) (s .args .v) = encoded-machine _ _ e in
-    (c .before .before .go-on2 .ensures .0,
-     subst (λ (o : Operand). Encodes (c .before .before .go-on2 .last .0) (stored m t w l (s .args .block .0) o (s .args .v))) (sym (c .before .before .before .before .before .before .before .before .before .to2 .given .1))
-     (subst (λ (q : Machine). Encodes (c .before .before .go-on2 .last .0) (withThread q t (running (w .locks) (job l (returnsOf w) (registersOf w))))) f (c .before .before .go-on2 .ensures .1)))
+    let f : machineFrom (c .before .before .before .before .before .before .write-word .last .0) ≡ withWord m (wordCount * s .args .block .0 + k) (s .args .v) = encoded-machine _ _ e in (
+      c .before .before .go-on2 .ensures .0,
+      subst (λ (o : Operand). Encodes (c .before .before .go-on2 .last .0) (stored m t w l (s .args .block .0) o (s .args .v))) (sym (c .before .before .before .before .before .before .before .before .before .to2 .given .1))
+          (subst (λ (q : Machine). Encodes (c .before .before .go-on2 .last .0) (withThread q t (running (w .locks) (job l (returnsOf w) (registersOf w))))) f (c .before .before .go-on2 .ensures .1)),
+    )
 
 returns-3 : tie.Need-returns-3
 returns-3 c =

@@ -86,7 +86,7 @@ returns-2 c =
     let here : List ℕ = recordAt image (w .label .0) in
     let l : c .before .before .before .before .label-of .result .0 ≡ labelA here = ap (λ q. q .0) (c .before .before .before .before .label-of .ensures) ∙ c .before .before .before .before .before .get16 .ensures ∙ ap labelA (h .here) in
     let f : _ ≡ running (w .locks) (job (labelA here) (returnsOf w) (map some vs ++ drop (length vs) (registersOf w))) =
-        c .before .before .before .transfer .ensures .state ∙ rw (l, size) refl in
+    c .before .before .before .transfer .ensures .state ∙ rw (l, size) refl in
     done (withThread m t (running (w .locks) (job (labelA here) (returnsOf w) (map some vs ++ drop (length vs) (registersOf w))))) Moved
     (transfers image table m t (w .locks) (jobOf w) (tree h .0) (h .runs) (tree h .1) vs (statement-here h Transfer (s .pre .1)) g)
     (c .before .before .moved .ensures .0)

@@ -4,10 +4,10 @@ use Rattle.trials.proofs.limits.exits.Statement.{statement}
 use Rattle.trials.proofs.limits.exits.Tie as tie
 
 abbrev Inv-loop : tie.InvT-loop
-Inv-loop memory₀ lengths label₀ memory label = Unit {0}
+Inv-loop memory₀ lengths i₀ memory i = Unit {0}
 
 abbrev μ-loop : tie.MeasureT-loop
-μ-loop memory₀ lengths label₀ memory label = 514 - label
+μ-loop memory₀ lengths i₀ memory i = 43176 - i
 
 pub exits-spec : {M : Type 1} → statement M
 exits-spec =
@@ -15,12 +15,10 @@ exits-spec =
     (tie.spec
     Inv-loop
     μ-loop
-    (λ c κs. search needs)
-    (λ c. search needs)
     (λ c. search needs)
     (λ c κs. search needs)
     (λ c. search needs)
-    (λ c. search needs)
+    (λ c κs. search needs)
     (λ c. search needs)
     (λ c. search needs)
     (λ c. search needs)

@@ -1,0 +1,41 @@
+-- The three kinds of event.
+use mathlib.Core.Path.{_≡_, refl, sym, ap, _∙_}
+use mathlib.Core.List.{List}
+use Prim.Native.Nat.{ℕ, _+_, _*_, _<_}
+use native.Mathlib.Omega.{arith}
+use lib.ListN.{length, getD, drop, length-drop}
+use lib.Seq.{getD-drop}
+use borrow.Author.Tests.{ne-eqb}
+use Rattle.rules.specs.Sizes.{threadCount, eventSize}
+use Rattle.rules.specs.Events.{Event, step, cut, eventFrom, eventAtOk}
+use Rattle.encoding.specs.Events.{EventRead, arrival, stepping, cutting, event-read}
+use Rattle.sending.specs.Arrivals.{EventAt}
+
+module _ {image events : List ℕ} {i : ℕ} (h : EventAt image events i) where
+  abbrev bytes : List ℕ
+  bytes = drop (eventSize * i) events
+
+  kind : getD bytes 0 0 ≡ getD events (eventSize * i) 0
+  kind = getD-drop (eventSize * i) events 0 0 ∙ ap (λ n. getD events n 0) (omega arith)
+
+  thread : getD bytes 1 0 ≡ getD events (eventSize * i + 1) 0
+  thread = getD-drop (eventSize * i) events 1 0
+
+  -- a step and a cut have a thread 0 to 7
+  pub turn-thread : (getD events (eventSize * i) 0 ≡ 1 → ⊥) → getD events (eventSize * i + 1) 0 < threadCount
+  unfolding eventAtOk
+  turn-thread n = case (event-read image bytes (simp length-drop (omega (arith, h .room))) (h .ok))
+    where
+      case : EventRead bytes → getD events (eventSize * i + 1) 0 < threadCount
+      case (arrival k t e) = absurd (n (sym kind ∙ k))
+      case (stepping k t e) = rw thread at t
+      case (cutting k t e) = rw thread at t
+
+  pub step-is : getD events (eventSize * i) 0 ≡ 2 → eventFrom bytes ≡ step (getD events (eventSize * i + 1) 0)
+  unfolding eventFrom
+  step-is e = let k : getD bytes 0 0 ≡ 2 = kind ∙ e in rw (k, thread) refl
+
+  pub cut-is : (getD events (eventSize * i) 0 ≡ 1 → ⊥) → (getD events (eventSize * i) 0 ≡ 2 → ⊥) → eventFrom bytes ≡ cut (getD events (eventSize * i + 1) 0)
+  unfolding eventFrom
+  cut-is m n =
+      rw (ne-eqb (getD bytes 0 0) 1 (λ e. m (sym kind ∙ e)), ne-eqb (getD bytes 0 0) 2 (λ e. n (sym kind ∙ e)), thread) refl

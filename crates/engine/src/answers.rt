@@ -1,0 +1,55 @@
+// The two bytes of an answer: its code and its detail.
+use fields::write::put8;
+use rules::answer::Answer;
+use rules::sorts::lock_number;
+ghost use mathlib.Core.Path.{_≡_};
+ghost use Prim.Native.Nat.{_+_, _*_, _≤_};
+ghost use lib.ListN.{length};
+ghost use Rattle.rules.specs.Answers.{code, detail, answerBytes};
+ghost use Rattle.fields.specs.Put.{put};
+
+pub const ANSWER: usize = 2;
+
+pub fn code_of(a: Answer) -> u8
+    ensures { λ r. ⌜ r ≡ code a ⌝ }
+{
+    match a {
+        Answer::Taken => 1,
+        Answer::ListFull => 2,
+        Answer::NoWork => 3,
+        Answer::Waiting(_) => 4,
+        Answer::Started => 5,
+        Answer::Moved => 6,
+        Answer::Exited => 7,
+        Answer::Trapped(_) => 8,
+        Answer::WasCut => 9,
+        Answer::NothingToCut => 10,
+    }
+}
+
+pub fn detail_of(a: Answer) -> u8
+    ensures { λ r. ⌜ r ≡ detail a ⌝ }
+{
+    match a {
+        Answer::Taken => 0,
+        Answer::ListFull => 0,
+        Answer::NoWork => 0,
+        Answer::Waiting(lock) => lock_number(lock),
+        Answer::Started => 0,
+        Answer::Moved => 0,
+        Answer::Exited => 0,
+        Answer::Trapped(reason) => reason,
+        Answer::WasCut => 0,
+        Answer::NothingToCut => 0,
+    }
+}
+
+// The answer to the event at an index.
+pub fn write_answer(answers: &mut [u8], i: usize, a: Answer)
+    requires { ⌜ 2 * i + 2 ≤ length (now answers) ⌝ }
+    ensures { λ _. ⌜ now (answers .exit) ≡ put (now (answers .entry)) (2 * i) (answerBytes a) ⌝ }
+{
+    let at = ANSWER * i;
+    put8(answers, at, code_of(a));
+    put8(answers, at + 1, detail_of(a));
+}

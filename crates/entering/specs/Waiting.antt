@@ -1,0 +1,182 @@
+-- Whom a thread waits for, by the lock that its step asks for.
+use mathlib.Core.Path.{_≡_, refl, ap, _∙_, subst}
+use mathlib.Core.Bool.{Bool, true, false, cond}
+use mathlib.Core.Option.{Option, none, some}
+use mathlib.Core.List.{List, [], _∷_}
+use Prim.Native.Nat.{ℕ, suc, _≤_, _<_}
+use native.Mathlib.Omega.{arith}
+use lib.Dec.{leb}
+use lib.ListN.{length, getD, set}
+use Rattle.rules.specs.Sorts
+use Rattle.rules.specs.Sizes.{blockCount, pendingCount}
+use Rattle.rules.specs.Bytes.{has}
+use Rattle.rules.specs.Image.{recordAt, Row, rowAt}
+use Rattle.rules.specs.Statements.{statementOf, reads}
+use Rattle.rules.specs.Machine.{Signal, Job, ThreadState, Machine, idle, running, threadAt, locksOf, first}
+use Rattle.rules.specs.Encoding.{machineFrom}
+use Rattle.rules.specs.Events.{step}
+use Rattle.rules.specs.Effects.{Got, trap, got, then, unless, Cells, readAll, compute, holds, onA, onB, goes, View, go, perform, outcome}
+use Rattle.rules.specs.Steps.{Rules, Reply, Effect, traps, exits, moves, rulesBy, blockAt, resolve, view, actBy, held, react}
+use Rattle.rules.specs.Walk.{asked, holder, awaits}
+use Rattle.rules.specs.declared.sorts.Lock as sorts
+use Rattle.rules.specs.declared.statement.Operand.{Operand}
+use Rattle.rules.specs.declared.statement.Statement.{Statement}
+use Rattle.rules.specs.declared.statement.Statement.the-variants.{Skip, Assign, If, SendDirect, SendBuffered, Call, Return, Transfer, Exit}
+use Rattle.rules.specs.declared.answer.Answer.{Answer}
+use Rattle.rules.specs.declared.answer.Answer.the-variants.{Waiting, Moved}
+use Rattle.turns.specs.Events.{reply, no-tree}
+use Rattle.turns.specs.Running.{effect, traps-by, exits-by, moves-by}
+use Rattle.threads.specs.Threads.{jobOf}
+use Rattle.threads.specs.declared.thread.ThreadState as State
+use Rattle.ready.specs.Ready.{Ready}
+use Rattle.ready.specs.At.{At, tree}
+use Rattle.entering.specs.Entering.{Passes}
+use Rattle.entering.specs.Starting.{FirstOf, start-waiting, start-running}
+use Rattle.entering.specs.declared.passage.Passage.{Passage}
+use Rattle.entering.specs.declared.passage.Passage.the-variants.{Trap, Ask}
+use Rattle.entering.specs.declared.start.First.the-variants as found
+use Rattle.entering.specs.declared.waits.Wanted.{Wanted}
+use Rattle.entering.specs.declared.waits.Wanted.the-variants.{Lock, Nothing}
+use Rattle.entering.specs.declared.waits.Waits.{Waits}
+use Rattle.entering.specs.declared.waits.Waits.the-variants.{For, Nobody}
+
+-- the lock that a passage asks for
+abbrev pub lockOf : Passage → Wanted
+lockOf (Trap k) = Nothing
+lockOf (Ask l) = Lock l
+
+-- the lock that the answer to a step of thread t says is waited for
+abbrev pub waitedFor : List ℕ → List ℕ → Machine → ℕ → Option ℕ
+waitedFor image table s t = asked (react (rulesBy image table) s (step t) .answer)
+
+-- a lock that is wanted is waited for where another thread holds it
+abbrev pub Wants : List ℕ → List ℕ → Machine → ℕ → Wanted → Type 0
+Wants image table s t (Lock l) = (l .0 < blockCount) × (waitedFor image table s t ≡ cond (held (l .0) (set (s .threads) t idle)) (some (l .0)) none)
+Wants image table s t Nothing = waitedFor image table s t ≡ none
+
+abbrev pub waitsOf : Option ℕ → Waits
+waitsOf none = Nobody
+waitsOf (some u) = For (Sorts.thread u)
+
+answered : {r : Reply} (s : Machine) (a : Answer) → r ≡ reply s a → asked (r .answer) ≡ asked a
+answered s a e = ap (λ (q : Reply). asked (q .answer)) e
+
+by-held : (h : Bool) (l : sorts.Lock) → asked (cond h (Waiting l) Moved) ≡ cond h (some (l .0)) none
+by-held true l = refl
+by-held false l = refl
+
+-- ---- direct SEND and CALL
+
+pub wants-passage : (image table : List ℕ) (s : Machine) (t locks : ℕ) (k : Job) (p : Passage) → Passes image table s t locks k p → Wants image table s t (lockOf p)
+wants-passage image table s t locks k (Trap x) h = answered _ _ h
+wants-passage image table s t locks k (Ask l) h = (h .0, answered _ _ (h .1) ∙ by-held (held (l .0) (set (s .threads) t idle)) l)
+
+-- ---- any other statement asks for no lock
+
+abbrev Quiet : Effect → Type 0
+Quiet (traps r) = Unit {0}
+Quiet exits = Unit {0}
+Quiet (moves j ws g none) = Unit {0}
+Quiet (moves j ws g (some b)) = ⊥
+
+abbrev pub Lockless : Statement → Type 0
+Lockless Skip = Unit {0}
+Lockless (Assign a) = Unit {0}
+Lockless (If c) = Unit {0}
+Lockless SendDirect = ⊥
+Lockless SendBuffered = Unit {0}
+Lockless Call = ⊥
+Lockless Return = Unit {0}
+Lockless Transfer = Unit {0}
+Lockless Exit = Unit {0}
+
+module _ (block : ℕ → ℕ) (row : ℕ → Row) (t a b : ℕ) (v : View) where
+  quiet-assign : (g : Got ℕ) (rs : List ℕ) (f : ℕ → Cells) → Quiet (resolve block row t rs a b (then g (λ x. go onA (f x))))
+  quiet-assign (trap r) rs f = tt
+  quiet-assign (got x) rs f = tt
+
+  quiet-if : (h : Bool) (rs : List ℕ) (c : Cells) → Quiet (resolve block row t rs a b (go (cond h onA onB) c))
+  quiet-if true rs c = tt
+  quiet-if false rs c = tt
+
+  quiet-buffered : (full : Bool) (rs vs : List ℕ) → Quiet (resolve block row t rs a b (unless full 4 (got (goes (record { next = onB; cells = v .cells; sent = some vs })))))
+  quiet-buffered true rs vs = tt
+  quiet-buffered false rs vs = tt
+
+  quiet-perform : (S : Statement) (rs vs : List ℕ) → Lockless S → Quiet (resolve block row t rs a b (perform v S vs))
+  unfolding perform
+  quiet-perform Skip rs vs h = tt
+  quiet-perform (Assign x) rs vs h = quiet-assign (compute (x .value) (getD vs 0 0) (getD vs 1 0)) rs _
+  quiet-perform (If c) rs vs h = quiet-if (holds (c .relation) (getD vs 0 0) (getD vs 1 0)) rs (v .cells)
+  quiet-perform SendDirect rs vs h = absurd h
+  quiet-perform SendBuffered rs vs h = quiet-buffered (leb pendingCount (v .pending)) rs vs
+  quiet-perform Call rs vs h = absurd h
+  quiet-perform Return [] vs h = tt
+  quiet-perform Return (r ∷ rs) vs h = tt
+  quiet-perform Transfer rs vs h = tt
+  quiet-perform Exit rs vs h = tt
+
+  quiet-outcome : (S : Statement) (given : List Operand) (rs : List ℕ) → Lockless S → Quiet (resolve block row t rs a b (outcome v S given))
+  unfolding outcome
+  quiet-outcome S given rs h = case (readAll (v .cells) (reads S given))
+    where
+      case : (g : Got (List ℕ)) → Quiet (resolve block row t rs a b (then g (λ vs. perform v S vs)))
+      case (trap r) = tt
+      case (got vs) = quiet-perform S rs vs h
+
+quiet-act : (image table : List ℕ) (t : ℕ) (j : Job) (words : List ℕ) (pending : ℕ) → Lockless (statementOf (recordAt image (j .label))) → Quiet (actBy image table t j words pending)
+unfolding actBy
+quiet-act image table t j words pending h = quiet-outcome (blockAt image) (rowAt table) t _ _ (view j words pending) (statementOf (recordAt image (j .label))) _ (j .returns) h
+
+module _ (R : Rules) (s : Machine) (t l : ℕ) (j : Job) (p : List Signal) (runs : threadAt s t ≡ running l j) (own : first t (s .trees) ≡ some p) where
+  quiet-asks : Quiet (effect R s t l j p runs own) → asked (react R s (step t) .answer) ≡ none
+  quiet-asks h = case (effect R s t l j p runs own) refl h
+    where
+      case : (e : Effect) → effect R s t l j p runs own ≡ e → Quiet e → asked (react R s (step t) .answer) ≡ none
+      case (traps r) e q = answered _ _ (traps-by R s t l j p runs own r e)
+      case exits e q = answered _ _ (exits-by R s t l j p runs own e)
+      case (moves k ws g none) e q = answered _ _ (moves-by R s t l j p runs own k ws g e)
+      case (moves k ws g (some b)) e q = absurd q
+
+pub wants-nothing : {image table b : List ℕ} {t : ℕ} {w : State.ThreadState} {r : List ℕ} → At image table b t w r → Lockless (statementOf r) → Wants image table (machineFrom b) t Nothing
+wants-nothing {image} {table} {b} {t} {w} {r} h q =
+    quiet-asks (rulesBy image table) (machineFrom b) t (w .locks) (jobOf w) (tree h .0) (h .runs) (tree h .1)
+    (quiet-act image table t (jobOf w) _ _ (subst (λ (x : List ℕ). Lockless (statementOf x)) (h .here) q))
+
+-- ---- the start of a job
+
+pub wants-start : {image table b : List ℕ} (h : Ready image table b) (t : ℕ) → threadAt (machineFrom b) t ≡ idle → (i : ℕ) (l : sorts.Lock) → FirstOf image table (machineFrom b) t (found.Pending i l)
+    → Wants image table (machineFrom b) t (Lock l)
+wants-start {image} {table} {b} h t rests i l k = (k .small, case (held (l .0) (set (machineFrom b .threads) t idle)) refl)
+  where
+    case : (q : Bool) → held (l .0) (set (machineFrom b .threads) t idle) ≡ q → waitedFor image table (machineFrom b) t ≡ cond q (some (l .0)) none
+    case true e = answered _ _ (start-waiting h t rests k e)
+    case false e = answered _ _ (start-running h t rests k e)
+
+pub wants-rest : {image table b : List ℕ} → Ready image table b → (t : ℕ) → threadAt (machineFrom b) t ≡ idle → first t (machineFrom b .trees) ≡ none → Wants image table (machineFrom b) t Nothing
+wants-rest {image} {table} {b} h t rests e = answered _ _ (no-tree (rulesBy image table) (machineFrom b) t rests e)
+
+-- ---- the holder
+
+pub holder-few : (l : ℕ) (ws : List ThreadState) → holder l ws ≤ length ws
+unfolding holder
+holder-few l [] = omega arith
+holder-few l (w ∷ ws) = case (has l (locksOf w)) (holder-few l ws)
+  where
+    case : (b : Bool) → holder l ws ≤ length ws → cond b 0 (suc (holder l ws)) ≤ suc (length ws)
+    case true h = omega arith
+    case false h = omega arith
+
+module _ (image table : List ℕ) (s : Machine) (t : ℕ) where
+  pub awaits-none : Wants image table s t Nothing → Nobody ≡ waitsOf (awaits (rulesBy image table) s t)
+  unfolding awaits
+  awaits-none h = rw h refl
+
+  module _ (l : sorts.Lock) (h : Wants image table s t (Lock l)) where
+    pub awaits-holder : held (l .0) (set (s .threads) t idle) ≡ true → For (Sorts.thread (holder (l .0) (s .threads))) ≡ waitsOf (awaits (rulesBy image table) s t)
+    unfolding awaits
+    awaits-holder e = rw (h .1, e) refl
+
+    pub awaits-free : held (l .0) (set (s .threads) t idle) ≡ false → Nobody ≡ waitsOf (awaits (rulesBy image table) s t)
+    unfolding awaits
+    awaits-free e = rw (h .1, e) refl

@@ -1,0 +1,2 @@
+-- What a call that is not refused has been lent.
+pub mod Lent

@@ -1,0 +1,82 @@
+// A buffered SEND: its signal goes to the end of the job's own tree, and the thread goes on with its registers.
+use ending::trapped;
+use fields::read::get16;
+use moves::onward::go_on;
+use operands::Data;
+use operands::read_data;
+use rules::answer::Answer;
+use rules::limits::Tree;
+use rules::sorts::Thread;
+use rules::sorts::block_of;
+use rules::sorts::label_of;
+use threads::thread::ThreadState;
+use trees::list::first_tree;
+use trees::pending::pending;
+use trees::pending::push;
+use trees::signals::Signal;
+ghost use mathlib.Core.Path.{_≡_};
+ghost use Prim.Native.Nat.{_<_};
+ghost use lib.ListN.{length};
+ghost use Rattle.rules.specs.Encoding.{machineFrom};
+ghost use Rattle.rules.specs.Events.{step};
+ghost use Rattle.rules.specs.Statements.{statementOf};
+ghost use Rattle.rules.specs.declared.statement.Statement.the-variants.{SendBuffered};
+ghost use Rattle.encoding.specs.FirstTree.{firstTree};
+ghost use Rattle.trees.specs.Canon.{pendingAt};
+ghost use Rattle.ready.specs.Ready.{Done, replyTo};
+ghost use Rattle.ready.specs.At.{At};
+ghost use Rattle.sending.specs.Buffered.{Given};
+
+// The reason of the trap: 8 signals are pending in the job's own tree.
+pub const FULL: u8 = 4;
+
+// The data have been read, and tree i, the job's own, has room.
+fn buffer(
+    image: &[u8],
+    table: &[u8],
+    state: &mut [u8],
+    t: Thread,
+    w: ThreadState,
+    r: &[u8],
+    i: usize,
+    d: Data,
+) -> Answer
+    requires { ⌜ At (now image) (now table) (now state) (t .0) w (now r) × (statementOf (now r) ≡ SendBuffered) × Given (now state) w (now r) d ⌝ }
+    requires { ⌜ (i ≡ firstTree (t .0) (machineFrom (now state) .trees)) × (length (pendingAt (machineFrom (now state)) i) < 8) ⌝ }
+    ensures { λ a. ⌜ Done (replyTo (now (image .entry)) (now (table .entry)) (now (state .entry)) (step (t .0))) (now (state .exit)) a ⌝ }
+{
+    let values = d.values;
+    push(
+        state,
+        i,
+        Signal {
+            label: label_of(get16(r, 4)),
+            count: d.count,
+            values: values,
+        },
+    );
+    go_on(state, t, w, r, 6)
+}
+
+pub fn send_buffered(
+    image: &[u8],
+    table: &[u8],
+    state: &mut [u8],
+    t: Thread,
+    w: ThreadState,
+    r: &[u8],
+) -> Answer
+    requires { ⌜ At (now image) (now table) (now state) (t .0) w (now r) × (statementOf (now r) ≡ SendBuffered) ⌝ }
+    ensures { λ a. ⌜ Done (replyTo (now (image .entry)) (now (table .entry)) (now (state .entry)) (step (t .0))) (now (state .exit)) a ⌝ }
+{
+    let registers = w.registers;
+    let d = read_data(state, block_of(r[1]), w.present, &registers, r);
+    if d.trap != 0 {
+        return trapped(image, table, state, t, d.trap);
+    }
+    let i = first_tree(state, t);
+    if Tree::PENDING <= pending(state, i) {
+        return trapped(image, table, state, t, FULL);
+    }
+    buffer(image, table, state, t, w, r, i, d)
+}
