@@ -11,7 +11,7 @@ INSTALL = install
 CXX ?= g++
 CXXFLAGS = -std=c++11 -O2 -Wall -Wextra -Werror
 
-.PHONY: all demo bench test prove sorts host header command second compare soak replay install installed clean
+.PHONY: all demo bench test prove sorts host stack header command second compare soak replay install installed clean
 
 all: $(LIBRARY) build/plex build/demo
 
@@ -91,6 +91,14 @@ command: build/plex build/demo build/plex-safe build/demo-safe
 	sh tests/command.sh build/plex build/demo
 	sh tests/command.sh build/plex-safe build/demo-safe
 
+build/stack: tests/stack.c include/plex.h $(LIBRARY) | build
+	$(CC) $(CFLAGS) -Iinclude -pthread -o $@ tests/stack.c $(LIBRARY)
+
+# the stack that each call needs, on the largest case of the trials
+CASE = crates/trials/data/025
+stack: build/stack
+	./build/stack $(CASE).image $(CASE).table $(CASE).words $(CASE).events
+
 second:
 	cd second && CARGO_TARGET_DIR=$(CURDIR)/build/cargo cargo test --offline --quiet
 
@@ -108,7 +116,7 @@ replay: $(LIBRARY) | build
 	$(COMPARE) replay $(SEED)
 
 test: prove
-	$(MAKE) --no-print-directory sorts host command second compare installed
+	$(MAKE) --no-print-directory sorts host stack command second compare installed
 	@tail -n 1 build/ci.log
 
 # ---- installation
