@@ -15,6 +15,7 @@ use Rattle.rules.specs.Steps.{Rules, rulesBy, answers, final}
 use Rattle.rules.specs.Order.{Entry, order, orderBy, notesBy, events, byteOrder}
 use Rattle.rules.specs.Calls.{freshReturn, freshState, runReturn, stateLengthFault, stateFault, eventsLengthFault, eventFault, answersLengthFault}
 use Rattle.fields.specs.Each.{Each}
+use Rattle.one_by_one.specs.Faults.{checked-of, checked-rest}
 use Rattle.one_by_one.specs.Reading.{AllValid}
 use Rattle.one_by_one.specs.Checked.{checked-laws}
 use Rattle.one_by_one.specs.Calls as values
@@ -27,7 +28,6 @@ use Rattle.invariants.specs.StaysWellFormed.{Accepted, accepted-valid, sound-fr
 use Rattle.invariants.specs.StaysSized.{sized-fresh}
 use Rattle.invariants.specs.States.{Ready, fresh-leaves-ready, run-leaves-ready}
 use Rattle.calls.specs.CallList.{Run, returned, stateLeft, accepted, next, lastLeft, Follow, Calls, eventList, eventsOf, answersOf, OneByOneCalls, NoChange}
-use Rattle.calls.specs.Accepted.{checked-of, checked-rest}
 use Rattle.calls.specs.Joined.{eventLists, Good, Joined, joined}
 use Rattle.calls.specs.Ordered.{events-ordered, answers-ordered}
 
@@ -67,7 +67,7 @@ module _ (image table words state : List ℕ) (runs : List Run) (calls : Calls i
 
   checked : Checked image table
   unfolding freshReturn
-  checked = checked-of image table _ (calls .fresh)
+  checked = checked-of image table _ (calls .fresh) .0
 
   start-bytes : start ≡ encode first
   unfolding freshState

@@ -1,11 +1,11 @@
 // The refusals 5, 6 and 10 to 12: of the state, the initial words, and what the walk is handed; and the whole lists of Fresh's and of
 // the walk's.
-use crate::layout::STATE;
-use crate::layout::WORDS;
 use crate::state::well_formed;
 use image::check::first_of;
 use image::check::image_fault;
 use image::check::refuse;
+use rules::layout::STATE;
+use rules::layout::WORDS;
 use rules::sorts::Thread;
 ghost use mathlib.Core.Path.{_≡_};
 ghost use lib.ListN.{length};

@@ -1,6 +1,5 @@
 // What a call tests of the lent state: its length, and whether it is well formed.
 pub mod faults;
-pub mod layout;
 pub mod locks;
 pub mod places;
 pub mod queues;

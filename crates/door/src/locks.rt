@@ -1,8 +1,8 @@
 // The lock sets of the threads, and which threads run.
-use crate::layout::IDLE;
-use crate::layout::THREAD;
-use crate::layout::THREADS;
 use fields::read::get16;
+use rules::layout::THREAD;
+use rules::layout::THREADS;
+use rules::sorts::Label;
 use rules::sorts::Thread;
 ghost use mathlib.Core.Path.{_≡_};
 ghost use mathlib.Core.List.{map};
@@ -22,7 +22,7 @@ pub fn locks_at(s: &[u8], at: usize) -> u16
 {
     let label = get16(s, at);
     let locks = get16(s, at + 2);
-    if label == IDLE { 0 } else { locks }
+    if label == Label::IDLE { 0 } else { locks }
 }
 
 // No lock is in two sets.
@@ -49,7 +49,7 @@ pub fn flag_running(state: &[u8], flags: &mut [u8])
 {
     let mut t = 0;
     while t < Thread::COUNT {
-        flags[t] = (get16(state, THREADS + THREAD * t) != IDLE) as u8;
+        flags[t] = (get16(state, THREADS + THREAD * t) != Label::IDLE) as u8;
         t += 1;
     }
 }

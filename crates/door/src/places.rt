@@ -1,7 +1,4 @@
 // The labels of a running thread: below n, the lock of the block held, the block CMX or the thread's own.
-use crate::layout::IDLE;
-use crate::layout::THREAD;
-use crate::layout::THREADS;
 use crate::registers::running_tidy;
 use fields::read::all_zero;
 use fields::read::get8;
@@ -10,6 +7,8 @@ use image::records::block_at;
 use image::records::index_of;
 use image::table::kind_at;
 use image::table::thread_at;
+use rules::layout::THREAD;
+use rules::layout::THREADS;
 use rules::sorts::Label;
 use rules::sorts::Lock;
 use rules::sorts::Thread;
@@ -70,7 +69,7 @@ pub fn thread_good(image: &[u8], n: usize, table: &[u8], t: Thread, s: &[u8], at
     requires { ⌜ Passed (now image) (now table) × (n ≡ labels (now image)) × (at + threadSize ≤ length (now s)) ⌝ }
     ensures { λ r. ⌜ r ≡ threadGood (now (image .entry)) (now (table .entry)) (t .0) (drop at (now (s .entry))) ⌝ }
 {
-    if get16(s, at) == IDLE {
+    if get16(s, at) == Label::IDLE {
         return all_zero(s, at + 2, THREAD - 2);
     }
     if !running_tidy(s, at) {

@@ -1,6 +1,4 @@
 // The trees of the state, and the queues that they make, in one pass.
-use crate::layout::TREE;
-use crate::layout::TREES;
 use crate::locks::flag_running;
 use crate::signals::tree_good;
 use fields::read::all_zero;
@@ -9,6 +7,8 @@ use fields::read::get16;
 use image::records::block_at;
 use image::records::index_of;
 use image::table::thread_at;
+use rules::layout::TREE;
+use rules::layout::TREES;
 use rules::sorts::Label;
 use rules::sorts::Thread;
 use rules::sorts::label_of;

@@ -1,10 +1,10 @@
 // A tree record: counts and thread number within limits, unused bytes zero, and pending signals of entry 2 or 3.
-use crate::layout::SIGNAL;
 use fields::read::all_zero;
 use fields::read::get8;
 use fields::read::get16;
 use image::records::entry_at;
 use image::records::index_of;
+use rules::layout::SIGNAL;
 use rules::limits::Tree;
 use rules::sorts::Thread;
 use rules::sorts::label_of;

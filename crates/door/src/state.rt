@@ -1,13 +1,13 @@
 // Whether a lent state is well formed.
-use crate::layout::TREE;
-use crate::layout::TREE_COUNT;
-use crate::layout::TREES;
 use crate::locks::locks_apart;
 use crate::places::threads_good;
 use crate::queues::trees_good;
 use fields::read::all_zero;
 use fields::read::get8;
 use image::records::count_labels;
+use rules::layout::TREE;
+use rules::layout::TREE_COUNT;
+use rules::layout::TREES;
 use rules::limits::Tree;
 ghost use mathlib.Core.Path.{_≡_};
 ghost use lib.ListN.{length};

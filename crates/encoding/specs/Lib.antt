@@ -5,6 +5,7 @@ pub mod Tests
 pub mod Runs
 pub mod Numbers
 pub mod Registers
+pub mod Slots
 pub mod Threads
 pub mod Trees
 pub mod Layout

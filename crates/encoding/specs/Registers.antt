@@ -4,7 +4,7 @@ use mathlib.Core.Bool.{Bool, true, false, cond, _||_}
 use mathlib.Core.Option.{Option, none, some}
 use mathlib.Core.List.{List, [], _∷_, map}
 use Prim.Native.Nat.{ℕ, zero, suc, _+_, _*_, _/_, _%_, _^_, _≤_, _<_}
-use native.Mathlib.Nat.{pow-suc}
+use native.Mathlib.Nat.{pow-suc, add-zero, add-suc, suc-add}
 use native.Mathlib.Numerals.{add-one, one-add}
 use native.Mathlib.Omega.{arith}
 use lib.Dec.{eqb}
@@ -13,13 +13,20 @@ use lib.Pow.{shr-shr}
 use lib.Seq.{drop-drop, getD-drop, drop-cons}
 use borrow.Author.Tests.{eqb-true, eqb-false}
 use Rattle.rules.specs.Bytes.{has}
-use Rattle.rules.specs.Encoding.{presence, valueOr0, registersFrom}
+use Rattle.rules.specs.Encoding.{presence, valueOr0, registerOf, registersFrom}
 
 half : (p r : ℕ) → p / 2 ^ suc r ≡ p / 2 ^ r / 2
 half p r = rw (← add-one r) (sym (shr-shr p r 1))
 
 shift : (p r : ℕ) → p / 2 ^ suc r ≡ p / 2 / 2 ^ r
 shift p r = rw (← one-add r) (sym (shr-shr p 1 r))
+
+-- a register by its number
+pub register-at : (present : ℕ) (values : List ℕ) (r n i : ℕ) → i < n → getD (registersFrom present values r n) i none ≡ registerOf present values (r + i)
+unfolding registersFrom
+register-at present values r zero i h = absurd (omega arith)
+register-at present values r (suc n) zero h = rw add-zero
+register-at present values r (suc n) (suc i) h = rw (add-suc, ← suc-add) (register-at present values (suc r) n i (omega arith))
 
 pub length-values : (rs : List (Option ℕ)) → length (map valueOr0 rs) ≡ length rs
 length-values [] = refl

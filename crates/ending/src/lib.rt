@@ -2,18 +2,19 @@
 use image::records::block_at;
 use image::table::thread_at;
 use rules::answer::Answer;
+use rules::sorts::Label;
 use rules::sorts::Thread;
 use rules::sorts::label_number;
 use rules::sorts::thread_of;
 use state::thread_records::read_thread;
-use state::thread_records::write_thread;
+use state::thread_records::write_ended;
 use threads::thread::ThreadState;
 use trees::list::end_tree;
 use trees::list::first_tree;
 use trees::pending::oldest_label;
 use trees::pending::pending;
 ghost use mathlib.Core.Path.{_≡_};
-ghost use Prim.Native.Nat.{ℕ, _<_};
+ghost use Prim.Native.Nat.{_<_};
 ghost use lib.Dec.{eqb};
 ghost use lib.ListN.{length};
 ghost use Rattle.rules.specs.Encoding.{machineFrom};
@@ -46,7 +47,8 @@ pub fn finish(image: &[u8], table: &[u8], state: &mut [u8], t: Thread)
     let i = first_tree(state, t);
     let to = home(image, table, state, i);
     end_tree(state, i, to);
-    write_thread(state, t, ThreadState::idle());
+    let w = read_thread(state, t);
+    write_ended(state, t, w.end());
 }
 
 pub fn trapped(image: &[u8], table: &[u8], state: &mut [u8], t: Thread, reason: u8) -> Answer
@@ -79,7 +81,7 @@ pub fn is_idle(w: ThreadState) -> bool
     ensures { λ r. ⌜ r ≡ eqb (w .label .0) 65535 ⌝ }
 {
     let label = w.label;
-    label_number(label) == ThreadState::IDLE
+    label_number(label) == Label::IDLE
 }
 
 // A cut: on an idle thread there is nothing to cut.

@@ -3,11 +3,11 @@ use mathlib.Core.Path.{_≡_, refl, sym, ap, _∙_}
 use mathlib.Core.List.{List}
 use Prim.Native.Nat.{ℕ, _+_, _*_, _<_}
 use native.Mathlib.Omega.{arith}
-use lib.ListN.{length, getD, drop, length-drop}
+use lib.ListN.{getD, drop, length-drop}
 use lib.Seq.{getD-drop}
 use borrow.Author.Tests.{ne-eqb}
 use Rattle.rules.specs.Sizes.{threadCount, eventSize}
-use Rattle.rules.specs.Events.{Event, step, cut, eventFrom, eventAtOk}
+use Rattle.rules.specs.Events.{step, cut, eventFrom, eventAtOk}
 use Rattle.encoding.specs.Events.{EventRead, arrival, stepping, cutting, event-read}
 use Rattle.sending.specs.Arrivals.{EventAt}
 

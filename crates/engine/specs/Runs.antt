@@ -2,11 +2,11 @@
 use mathlib.Core.Path.{_≡_, refl, sym, ap, _∙_, subst}
 use mathlib.Core.Bool.{true}
 use mathlib.Core.List.{List, [], _∷_, _++_}
-use Prim.Native.Nat.{ℕ, zero, suc, _+_, _*_, _≤_, _<_}
+use Prim.Native.Nat.{ℕ, suc, _+_, _*_, _<_}
 use native.Mathlib.Numerals.{add-one}
 use native.Mathlib.Omega.{arith}
-use lib.ListN.{length, getD, drop, length-append}
-use Rattle.rules.specs.Sizes.{eventSize, answerSize}
+use lib.ListN.{length, drop}
+use Rattle.rules.specs.Sizes.{eventSize}
 use Rattle.rules.specs.Bytes.{blocks, chunks}
 use Rattle.rules.specs.Machine.{Machine}
 use Rattle.rules.specs.Encoding.{encode, machineFrom}

@@ -1,14 +1,13 @@
 // The two bytes of an answer: its code and its detail.
 use fields::write::put8;
 use rules::answer::Answer;
+use rules::layout::ANSWER;
 use rules::sorts::lock_number;
 ghost use mathlib.Core.Path.{_≡_};
 ghost use Prim.Native.Nat.{_+_, _*_, _≤_};
 ghost use lib.ListN.{length};
 ghost use Rattle.rules.specs.Answers.{code, detail, answerBytes};
 ghost use Rattle.fields.specs.Put.{put};
-
-pub const ANSWER: usize = 2;
 
 pub fn code_of(a: Answer) -> u8
     ensures { λ r. ⌜ r ≡ code a ⌝ }

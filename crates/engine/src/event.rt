@@ -2,8 +2,8 @@
 use crate::step::step;
 use ending::cut_job;
 use rules::answer::Answer;
+use rules::layout::EVENT;
 use rules::sorts::thread_of;
-use sending::arriving::EVENT;
 use sending::arriving::arrive;
 ghost use Prim.Native.Nat.{_*_};
 ghost use lib.ListN.{drop};

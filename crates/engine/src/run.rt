@@ -1,7 +1,7 @@
 // A run: every event in order, each with the two bytes of its answer, for which there is space.
 use crate::answers::write_answer;
 use crate::event::event;
-use sending::arriving::EVENT;
+use rules::layout::EVENT;
 ghost use mathlib.Core.Path.{_≡_};
 ghost use Prim.Native.Nat.{_*_};
 ghost use lib.ListN.{length};

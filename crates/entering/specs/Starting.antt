@@ -3,16 +3,16 @@ use mathlib.Core.Path.{_≡_, sym, ap, _∙_, subst}
 use mathlib.Core.Bool.{true, false}
 use mathlib.Core.Option.{none, some}
 use mathlib.Core.List.{List, [], _∷_}
-use Prim.Native.Nat.{ℕ, _<_, _^_}
+use Prim.Native.Nat.{ℕ, _+_, _*_, _<_, _^_}
 use native.Mathlib.Omega.{arith}
 use lib.Bits.{bitOr}
-use lib.ListN.{length, getD, drop, take, set}
+use lib.ListN.{length, getD, drop, set}
 use lib.Seq.{drop-cons}
 use Rattle.rules.specs.Sorts
-use Rattle.rules.specs.Sizes.{blockCount}
+use Rattle.rules.specs.Sizes.{blockCount, threadCount, wordsSize, threadSize}
 use Rattle.rules.specs.Image.{rowAt}
 use Rattle.rules.specs.Machine as law
-use Rattle.rules.specs.Machine.{Signal, Tree, Machine, idle, running, threadAt, first, queue, fill}
+use Rattle.rules.specs.Machine.{Signal, Tree, Machine, idle, running, threadAt, first, queue}
 use Rattle.rules.specs.Encoding.{noSignal, machineFrom}
 use Rattle.rules.specs.WellFormed.{homed, homedAs}
 use Rattle.rules.specs.Events.{step}
@@ -21,7 +21,8 @@ use Rattle.rules.specs.declared.sorts.Lock.{Lock}
 use Rattle.rules.specs.declared.answer.Answer.{Answer}
 use Rattle.rules.specs.declared.answer.Answer.the-variants.{NoWork, Waiting, Started}
 use Rattle.fields.specs.Each.{Each}
-use Rattle.encoding.specs.Encoded.{Encodes}
+use Rattle.encoding.specs.Encoded.{Encodes, Canonical}
+use Rattle.encoding.specs.Slots.{returnsIn}
 use Rattle.encoding.specs.Stores.{withThread}
 use Rattle.encoding.specs.FirstTree.{firstTree, first-some}
 use Rattle.one_by_one.specs.Passed.{passed}
@@ -30,15 +31,17 @@ use Rattle.invariants.specs.Sound.{QueueIn}
 use Rattle.invariants.specs.Queues.{headPending, first-queue}
 use Rattle.invariants.specs.Destinations.{block-below}
 use Rattle.turns.specs.Events.{reply, no-tree, start-waits, start-runs}
-use Rattle.threads.specs.Threads.{job, stateOf, jobOf, Runs}
-use Rattle.threads.specs.declared.thread.ThreadState.{ThreadState}
+use Rattle.threads.specs.Returns.{TidyReturns}
+use Rattle.threads.specs.Whole.{Whole}
+use Rattle.threads.specs.Threads.{stateOf, Says, Runs, idle-fields}
+use Rattle.threads.specs.Records.{rawThread}
+use Rattle.state.specs.Records.{thread-read}
 use Rattle.trees.specs.Canon.{pendingAt}
 use Rattle.trees.specs.Changes.{taken}
 use Rattle.trees.specs.Signals.{signalOf}
 use Rattle.trees.specs.declared.signals.Signal as Value
 use Rattle.ready.specs.Ready.{Ready, replyTo, Done, done}
 use Rattle.ending.specs.Home.{oldest-below}
-use Rattle.entering.specs.Entering.{runs-fields}
 use Rattle.entering.specs.declared.start.First.{First}
 use Rattle.entering.specs.declared.start.First.the-variants.{Pending, Nothing}
 
@@ -107,12 +110,18 @@ module _ {image table b : List ℕ} (h : Ready image table b) (t : ℕ) (rests :
     pub start-running : held (l .0) (set (s .threads) t idle) ≡ false → replyTo image table b (step t) ≡ reply (withThread (taken t i s) t (running (bitOr 0 (2 ^ l .0)) (begin oldest))) Started
     start-running e = rw (k .lock) (start-runs (rulesBy image table) s t oldest (drop 1 (pendingAt s i)) rests first-oldest (rw (k .lock) at e))
 
-    -- the thread as it takes the signal, and as it holds the lock
-    pub started : (b′ : List ℕ) {b″ : List ℕ} {a : Answer} (g : Value.Signal) (x w : ThreadState) → held (l .0) (set (s .threads) t idle) ≡ false → signalOf g ≡ oldest
-        → Runs x 0 (job (g .label .0) [] (fill (take (g .count) (g .values)))) → Runs w (bitOr (x .locks) (2 ^ l .0)) (jobOf x)
+    -- the thread is written as it holds the lock
+    pub started : (b′ : List ℕ) {b″ : List ℕ} {a : Answer} (g : Value.Signal) (w : Whole) → held (l .0) (set (s .threads) t idle) ≡ false → signalOf g ≡ oldest
+        → Runs w (bitOr 0 (2 ^ l .0)) (begin (signalOf g))
         → machineFrom b′ ≡ taken t i s → Encodes b″ (withThread (machineFrom b′) t (stateOf w)) → a ≡ Started → Done (replyTo image table b (step t)) b″ a
-    started b′ {b″} g x w e f p q m z y =
-        let r = runs-fields x 0 _ p in
-        let n : stateOf w ≡ running (bitOr 0 (2 ^ l .0)) (begin oldest) = q .state ∙ rw (r .0, r .1) (ap (λ (o : Signal). running (bitOr 0 (2 ^ l .0)) (begin o)) f) in
+    started b′ {b″} g w e f q m z y =
+        let n : stateOf w ≡ running (bitOr 0 (2 ^ l .0)) (begin oldest) = q .state ∙ ap (λ (o : Signal). running (bitOr 0 (2 ^ l .0)) (begin o)) f in
         let z′ : Encodes b″ (withThread (taken t i s) t (running (bitOr 0 (2 ^ l .0)) (begin oldest))) = rw (n, m) at z in
         done (withThread (taken t i s) t (running (bitOr 0 (2 ^ l .0)) (begin oldest))) Started (start-running e) y z′
+
+-- an idle thread has no return label in its bytes
+pub idle-returns : (b : List ℕ) (t : ℕ) → Canonical b → t < threadCount → threadAt (machineFrom b) t ≡ idle → TidyReturns 0 (returnsIn b t)
+unfolding rawThread
+idle-returns b t canonical l e =
+    let h : Says (rawThread (drop (wordsSize + threadSize * t) b)) idle = rw e at (thread-read b (machineFrom b) canonical t l) in
+    rw (idle-fields (rawThread (drop (wordsSize + threadSize * t) b)) h .1) at (h .tidy .returns)

@@ -1,17 +1,18 @@
 -- Whom a thread waits for, by the lock that its step asks for.
 use mathlib.Core.Path.{_≡_, refl, ap, _∙_, subst}
-use mathlib.Core.Bool.{Bool, true, false, cond}
+use mathlib.Core.Bool.{Bool, true, false, cond, _||_}
 use mathlib.Core.Option.{Option, none, some}
 use mathlib.Core.List.{List, [], _∷_}
 use Prim.Native.Nat.{ℕ, suc, _≤_, _<_}
 use native.Mathlib.Omega.{arith}
-use lib.Dec.{leb}
+use lib.Dec.{eqb, leb}
+use borrow.Author.Tests.{ne-eqb}
 use lib.ListN.{length, getD, set}
 use Rattle.rules.specs.Sorts
 use Rattle.rules.specs.Sizes.{blockCount, pendingCount}
 use Rattle.rules.specs.Bytes.{has}
-use Rattle.rules.specs.Image.{recordAt, Row, rowAt}
-use Rattle.rules.specs.Statements.{statementOf, reads}
+use Rattle.rules.specs.Image.{opcode, recordAt, Row, rowAt}
+use Rattle.rules.specs.Statements.{assignmentOf, conditionOf, statementOf, reads}
 use Rattle.rules.specs.Machine.{Signal, Job, ThreadState, Machine, idle, running, threadAt, locksOf, first}
 use Rattle.rules.specs.Encoding.{machineFrom}
 use Rattle.rules.specs.Events.{step}
@@ -26,6 +27,7 @@ use Rattle.rules.specs.declared.answer.Answer.{Answer}
 use Rattle.rules.specs.declared.answer.Answer.the-variants.{Waiting, Moved}
 use Rattle.turns.specs.Events.{reply, no-tree}
 use Rattle.turns.specs.Running.{effect, traps-by, exits-by, moves-by}
+use Rattle.threads.specs.Whole.{whole}
 use Rattle.threads.specs.Threads.{jobOf}
 use Rattle.threads.specs.declared.thread.ThreadState as State
 use Rattle.ready.specs.Ready.{Ready}
@@ -90,6 +92,31 @@ Lockless Return = Unit {0}
 Lockless Transfer = Unit {0}
 Lockless Exit = Unit {0}
 
+-- of the opcodes 5 is a direct SEND, 7 a CALL, and no other takes a lock
+module _ (r : List ℕ) where
+  pub opcode-send : opcode r ≡ 5 → statementOf r ≡ SendDirect
+  unfolding statementOf
+  opcode-send e = rw e
+
+  pub opcode-call : opcode r ≡ 7 → statementOf r ≡ Call
+  unfolding statementOf
+  opcode-call e = rw e
+
+  pub opcode-other : (opcode r ≡ 5 → ⊥) → (opcode r ≡ 7 → ⊥) → Lockless (statementOf r)
+  unfolding statementOf
+  opcode-other n m =
+      rw (ne-eqb (opcode r) 5 n, ne-eqb (opcode r) 7 m)
+      (case (eqb (opcode r) 1 || eqb (opcode r) 3) (eqb (opcode r) 2) (eqb (opcode r) 4) (eqb (opcode r) 6) (eqb (opcode r) 8) (eqb (opcode r) 9))
+    where
+      case : (a b c d e f : Bool) → Lockless (cond a Skip (cond b (Assign (assignmentOf r)) (cond c (If (conditionOf r)) (cond d SendBuffered (cond e Return (cond f Transfer Exit))))))
+      case true b c d e f = tt
+      case false true c d e f = tt
+      case false false true d e f = tt
+      case false false false true e f = tt
+      case false false false false true f = tt
+      case false false false false false true = tt
+      case false false false false false false = tt
+
 module _ (block : ℕ → ℕ) (row : ℕ → Row) (t a b : ℕ) (v : View) where
   quiet-assign : (g : Got ℕ) (rs : List ℕ) (f : ℕ → Cells) → Quiet (resolve block row t rs a b (then g (λ x. go onA (f x))))
   quiet-assign (trap r) rs f = tt
@@ -140,8 +167,8 @@ module _ (R : Rules) (s : Machine) (t l : ℕ) (j : Job) (p : List Signal) (runs
 
 pub wants-nothing : {image table b : List ℕ} {t : ℕ} {w : State.ThreadState} {r : List ℕ} → At image table b t w r → Lockless (statementOf r) → Wants image table (machineFrom b) t Nothing
 wants-nothing {image} {table} {b} {t} {w} {r} h q =
-    quiet-asks (rulesBy image table) (machineFrom b) t (w .locks) (jobOf w) (tree h .0) (h .runs) (tree h .1)
-    (quiet-act image table t (jobOf w) _ _ (subst (λ (x : List ℕ). Lockless (statementOf x)) (h .here) q))
+    quiet-asks (rulesBy image table) (machineFrom b) t (w .locks) (jobOf (whole b t w)) (tree h .0) (h .runs) (tree h .1)
+    (quiet-act image table t (jobOf (whole b t w)) _ _ (subst (λ (x : List ℕ). Lockless (statementOf x)) (h .here) q))
 
 -- ---- the start of a job
 

@@ -5,37 +5,21 @@ use crate::passage::data_of;
 use crate::passage::passage_to;
 use ending::trapped;
 use fields::read::get16;
+use fields::read::wide;
 use rules::answer::Answer;
-use rules::sorts::Lock;
 use rules::sorts::Thread;
+use rules::sorts::label_number;
 use rules::sorts::label_of;
 use state::locks::held_by_other;
-use state::thread_records::write_thread;
+use state::thread_records::write_called;
+use state::thread_records::write_entered;
 use threads::thread::ThreadState;
 ghost use mathlib.Core.Path.{_≡_};
-ghost use Prim.Native.Nat.{_<_};
-ghost use Rattle.rules.specs.Encoding.{machineFrom};
 ghost use Rattle.rules.specs.Events.{step};
 ghost use Rattle.rules.specs.Statements.{statementOf};
 ghost use Rattle.rules.specs.declared.statement.Statement.the-variants.{SendDirect, Call};
-ghost use Rattle.encoding.specs.Encoded.{Encodes, Canonical};
-ghost use Rattle.threads.specs.Threads.{Running, jobOf};
 ghost use Rattle.ready.specs.Ready.{Done, replyTo};
 ghost use Rattle.ready.specs.At.{At};
-ghost use Rattle.entering.specs.Entering.{entered};
-
-// A thread that is to go on as `next` asks for a lock: it waits, with no change, if another thread holds it, and takes it if not.
-fn enter_block(state: &mut [u8], t: Thread, lock: Lock, next: ThreadState) -> Answer
-    requires { ⌜ Canonical (now state) × (t .0 < 8) × (lock .0 < 16) × Running next ⌝ }
-    ensures { λ a. ⌜ a ≡ entered (machineFrom (now (state .entry))) (t .0) (next .locks) (jobOf next) lock .answer ⌝ }
-    ensures { λ _. ⌜ Encodes (now (state .exit)) (entered (machineFrom (now (state .entry))) (t .0) (next .locks) (jobOf next) lock .state) ⌝ }
-{
-    if held_by_other(state, lock, t) {
-        return Answer::Waiting(lock);
-    }
-    write_thread(state, t, next.hold(lock));
-    Answer::Moved
-}
 
 pub fn send_direct(
     image: &[u8],
@@ -48,13 +32,19 @@ pub fn send_direct(
     requires { ⌜ At (now image) (now table) (now state) (t .0) w (now r) × (statementOf (now r) ≡ SendDirect) ⌝ }
     ensures { λ a. ⌜ Done (replyTo (now (image .entry)) (now (table .entry)) (now (state .entry)) (step (t .0))) (now (state .exit)) a ⌝ }
 {
-    let d = data_of(state, w, r);
+    let mut values = [0u16; 25];
+    let trap = data_of(state, t, w, r, &mut values);
     let to = label_of(get16(r, 4));
-    match passage_to(image, table, t, to, d.trap) {
+    match passage_to(image, table, t, to, trap) {
         Passage::Trap(reason) => trapped(image, table, state, t, reason),
         Passage::Ask(lock) => {
-            let values = d.values;
-            enter_block(state, t, lock, w.enter(to, values, d.count))
+            if held_by_other(state, lock, t) {
+                return Answer::Waiting(lock);
+            }
+            let count = r[8];
+            let next = w.enter(to, count).hold(lock);
+            write_entered(state, t, next, &values, wide(count));
+            Answer::Moved
         }
     }
 }
@@ -70,14 +60,28 @@ pub fn call(
     requires { ⌜ At (now image) (now table) (now state) (t .0) w (now r) × (statementOf (now r) ≡ Call) ⌝ }
     ensures { λ a. ⌜ Done (replyTo (now (image .entry)) (now (table .entry)) (now (state .entry)) (step (t .0))) (now (state .exit)) a ⌝ }
 {
-    let d = data_of(state, w, r);
+    let mut values = [0u16; 25];
+    let trap = data_of(state, t, w, r, &mut values);
     let to = label_of(get16(r, 4));
     let back = label_of(get16(r, 6));
-    match passage_to(image, table, t, to, call_trap(d.trap, w.depth)) {
+    match passage_to(image, table, t, to, call_trap(trap, w.depth)) {
         Passage::Trap(reason) => trapped(image, table, state, t, reason),
         Passage::Ask(lock) => {
-            let values = d.values;
-            enter_block(state, t, lock, w.call(to, back, values, d.count))
+            if held_by_other(state, lock, t) {
+                return Answer::Waiting(lock);
+            }
+            let count = r[8];
+            let next = w.call(to, count).hold(lock);
+            write_called(
+                state,
+                t,
+                next,
+                w.depth,
+                label_number(back),
+                &values,
+                wide(count),
+            );
+            Answer::Moved
         }
     }
 }

@@ -1,9 +1,7 @@
 // What a direct SEND or a CALL comes to before its lock is looked at.
-use fields::read::wide;
 use image::records::block_at;
 use image::table::kind_at;
 use image::table::thread_at;
-use operands::Data;
 use operands::read_data;
 use rules::sorts::Block;
 use rules::sorts::Label;
@@ -16,7 +14,7 @@ use threads::thread::ThreadState;
 ghost use mathlib.Core.Path.{_≡_};
 ghost use mathlib.Core.Bool.{true};
 ghost use Prim.Native.Nat.{_<_, _≤_};
-ghost use lib.ListN.{length};
+ghost use lib.ListN.{length, replicate};
 ghost use Rattle.rules.specs.Sizes.{operandCount};
 ghost use Rattle.rules.specs.Bytes.{allFrom};
 ghost use Rattle.rules.specs.Image.{labels, blockField, operands, rowAt};
@@ -24,6 +22,7 @@ ghost use Rattle.rules.specs.Statements.{dataOf};
 ghost use Rattle.rules.specs.Check.{slotOk, Checked};
 ghost use Rattle.rules.specs.Effects.{readAll};
 ghost use Rattle.rules.specs.Steps.{alien, blockAt};
+ghost use Rattle.encoding.specs.Slots.{registersIn};
 ghost use Rattle.operands.specs.Readings.{Reads};
 ghost use Rattle.operands.specs.Cells.{cellsFrom};
 ghost use Rattle.entering.specs.Passages.{passageTo, callTrap};
@@ -39,23 +38,22 @@ const DEEP: u8 = 3;
 
 const ALIEN: u8 = 5;
 
-// The data of the statement in the record r, which thread w comes to.
-pub fn data_of(state: &[u8], w: ThreadState, r: &[u8]) -> Data
-    requires { ⌜ (length (now state) ≡ 7929) × (length (now r) ≡ 84) × (blockField (now r) < 16) × (operands (now r) ≤ 25) × (allFrom (slotOk (now r)) 0 operandCount ≡ true) ⌝ }
-    ensures { λ d. ⌜ Reads (readAll (cellsFrom (now (state .entry)) (blockField (now (r .entry))) (w .present) (w .registers)) (dataOf (now (r .entry)))) d ⌝ }
+// The data of the statement in the record r, which thread t comes to: the values, and 0 or the reason of the trap that reading them makes.
+pub fn data_of(state: &[u8], t: Thread, w: ThreadState, r: &[u8], values: &mut [u16; 25]) -> u8
+    requires { ⌜ (length (now state) ≡ 7929) × (t .0 < 8) × (length (now r) ≡ 84) × (blockField (now r) < 16) × (operands (now r) ≤ 25) × (allFrom (slotOk (now r)) 0 operandCount ≡ true) × (now values ≡ replicate 25 0) ⌝ }
+    ensures { λ reason. ⌜ Reads (readAll (cellsFrom (now (state .entry)) (blockField (now (r .entry))) (w .present) (registersIn (now (state .entry)) (t .0))) (dataOf (now (r .entry)))) reason (operands (now (r .entry))) (now (values .exit)) ⌝ }
 {
-    let registers = w.registers;
-    read_data(state, block_of(r[1]), w.present, &registers, r)
+    read_data(state, block_of(r[1]), t, w.present, r, values)
 }
 
 // The reason of the trap that a CALL makes before its block is looked at; 0 where it makes none.
-pub fn call_trap(unread: u8, depth: u8) -> u8
+pub fn call_trap(unread: u8, depth: usize) -> u8
     ensures { λ k. ⌜ k ≡ callTrap unread depth ⌝ }
 {
     if unread != 0 {
         return unread;
     }
-    if wide(depth) >= Thread::RETURNS {
+    if Thread::RETURNS <= depth {
         return DEEP;
     }
     0

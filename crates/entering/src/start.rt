@@ -1,11 +1,12 @@
 // A step of an idle thread: the oldest signal of its first tree starts a job, if its block's lock can be taken.
+use fields::read::wide;
 use image::records::block_at;
 use rules::answer::Answer;
 use rules::sorts::Lock;
 use rules::sorts::Thread;
 use rules::sorts::lock_of;
 use state::locks::held_by_other;
-use state::thread_records::write_thread;
+use state::thread_records::write_entered;
 use threads::thread::ThreadState;
 use trees::list::first_tree;
 use trees::list::tree_count;
@@ -52,8 +53,8 @@ pub fn start(image: &[u8], table: &[u8], state: &mut [u8], t: Thread) -> Answer
             let g = oldest(state, i);
             take_oldest(state, i);
             let values = g.values;
-            let w = ThreadState::idle().take(g.label, values, g.count);
-            write_thread(state, t, w.hold(lock));
+            let w = ThreadState::idle().take(g.label, g.count);
+            write_entered(state, t, w.hold(lock), &values, wide(g.count));
             Answer::Started
         }
     }

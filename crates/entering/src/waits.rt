@@ -7,14 +7,12 @@ use crate::start::First;
 use crate::start::first_signal;
 use ending::is_idle;
 use fields::read::get16;
-use image::decode::statement_of;
 use image::records::index_of;
 use image::records::record_of;
 use rules::sorts::Lock;
 use rules::sorts::Thread;
 use rules::sorts::label_of;
 use rules::sorts::thread_of;
-use rules::statement::Statement;
 use state::locks::held_by_other;
 use state::locks::holder;
 use state::thread_records::read_thread;
@@ -28,6 +26,11 @@ ghost use Rattle.rules.specs.Walk.{awaits};
 ghost use Rattle.ready.specs.Ready.{Ready};
 ghost use Rattle.ready.specs.At.{At};
 ghost use Rattle.entering.specs.Waiting.{lockOf, Wants, waitsOf};
+
+// The opcodes of a direct SEND and a CALL.
+const SEND_DIRECT: u8 = 5;
+
+const CALL: u8 = 7;
 
 // The lock that a step asks for, once all its other tests are passed.
 pub enum Wanted {
@@ -62,16 +65,18 @@ fn running_lock(
     requires { ⌜ At (now image) (now table) (now state) (t .0) w (now r) ⌝ }
     ensures { λ a. ⌜ Wants (now (image .entry)) (now (table .entry)) (machineFrom (now (state .entry))) (t .0) a ⌝ }
 {
-    match statement_of(r) {
-        Statement::SendDirect => {
-            let d = data_of(state, w, r);
+    match r[0] {
+        SEND_DIRECT => {
+            let mut values = [0u16; 25];
+            let trap = data_of(state, t, w, r, &mut values);
             let to = label_of(get16(r, 4));
-            lock_asked(passage_to(image, table, t, to, d.trap))
+            lock_asked(passage_to(image, table, t, to, trap))
         }
-        Statement::Call => {
-            let d = data_of(state, w, r);
+        CALL => {
+            let mut values = [0u16; 25];
+            let trap = data_of(state, t, w, r, &mut values);
             let to = label_of(get16(r, 4));
-            lock_asked(passage_to(image, table, t, to, call_trap(d.trap, w.depth)))
+            lock_asked(passage_to(image, table, t, to, call_trap(trap, w.depth)))
         }
         _ => Wanted::Nothing,
     }

@@ -1,5 +1,4 @@
 // The rules of an event.
-use door::layout::SIGNAL;
 use door::signals::signal_tidy;
 use fields::read::all_zero;
 use fields::read::get8;
@@ -7,6 +6,8 @@ use fields::read::get16;
 use image::records::count_labels;
 use image::records::entry_at;
 use image::records::index_of;
+use rules::layout::EVENT;
+use rules::layout::SIGNAL;
 use rules::sorts::Thread;
 use rules::sorts::label_of;
 ghost use mathlib.Core.Path.{_≡_};
@@ -16,9 +17,6 @@ ghost use Rattle.rules.specs.Sizes.{eventSize};
 ghost use Rattle.rules.specs.Bytes.{firstBad};
 ghost use Rattle.rules.specs.Image.{labels};
 ghost use Rattle.rules.specs.Events.{arrivalOk, turnOk, eventAtOk};
-
-// The bytes of an event.
-pub const EVENT: usize = 55;
 
 // Kind 1 is an arrival, 2 a step, 3 a cut.
 const ARRIVAL: u8 = 1;

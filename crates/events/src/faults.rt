@@ -1,9 +1,10 @@
 // The refusals 7 to 9, and the whole list of a Run's.
-use crate::event::EVENT;
 use crate::event::first_bad_event;
 use door::faults::machine_fault;
 use image::check::first_of;
 use image::check::refuse;
+use rules::layout::ANSWER;
+use rules::layout::EVENT;
 ghost use mathlib.Core.Path.{_≡_};
 ghost use Rattle.rules.specs.Check.{firstOf};
 ghost use Rattle.rules.specs.Calls.{eventsLengthFault, eventFault, answersLengthFault, runReturn};
@@ -11,9 +12,6 @@ ghost use Rattle.events.specs.Faults.{eventsFaults};
 
 // At most 1,024 events.
 pub const EVENTS: usize = 1024;
-
-// The bytes of an answer.
-pub const ANSWER: usize = 2;
 
 pub fn events_length_fault(events: &[u8]) -> u32
     ensures { λ r. ⌜ r ≡ eventsLengthFault (now (events .entry)) ⌝ }

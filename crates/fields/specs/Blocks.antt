@@ -7,7 +7,7 @@ use native.Mathlib.Numerals.{add-one}
 use native.Mathlib.Omega.{arith}
 use lib.ListN.{length, getD, take, drop, set, length-append, replicate}
 use lib.Seq.{drop-at, split-at, set-split, take-suc, take-suc-set, length-take-le, drop-drop}
-use Rattle.rules.specs.Bytes.{num16, num32, blocks, pad, chunks, part}
+use Rattle.rules.specs.Bytes.{blocks, pad, chunks, part}
 use Rattle.fields.specs.Each.{Each}
 use Rattle.fields.specs.Put.{put, put-at, put-inside, part-at}
 
@@ -70,10 +70,6 @@ module _ {A : Type 0} (g : List ℕ → A) (n : ℕ) where
   pub fill-step : (out : List A) (k : ℕ) (r : A) (b : List ℕ) → k < length out → take k out ≡ chunks g n k b → r ≡ g (drop (n * k) b)
       → take (k + 1) (set out k r) ≡ chunks g n (k + 1) b
   fill-step out k r b h e er = rw (add-one, chunks-suc) (take-suc-set out k r h ∙ rw (e, er))
-
-pub num32-drop : (at : ℕ) (s : List ℕ) → num32 (drop at s) ≡ num16 (drop at s) + 65536 * num16 (drop (at + 2) s)
-unfolding num32
-num32-drop at s = ap (λ l. num16 (drop at s) + 65536 * num16 l) (drop-drop 2 at s)
 
 module _ {A : Type 0} (d : A) where
   pub length-pad : (n : ℕ) (xs : List A) → length (pad d n xs) ≡ n

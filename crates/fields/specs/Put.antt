@@ -6,7 +6,7 @@ use native.Mathlib.Nat.{add-zero, add-suc, suc-add, zero-add}
 use native.Mathlib.Numerals.{add-one}
 use native.Mathlib.Omega.{arith}
 use lib.ListN.{length, getD, take, drop, set, length-append, length-drop, take-append-drop}
-use lib.Seq.{sets, length-sets, sets-eq, take-at, drop-at, getD-drop, take-suc, length-take-le, take-add, getD-set-other, drop-cons, drop-drop, drop-append-add, getD-append-add}
+use lib.Seq.{sets, length-sets, sets-eq, take-at, drop-at, getD-drop, take-suc, length-take-le, take-add, getD-set-other, drop-drop, drop-append-add, getD-append-add}
 use Rattle.rules.specs.Bytes.{part}
 
 -- s with the bytes a from place i on, in the place of as many of its own
@@ -102,10 +102,6 @@ length-part s i k h = length-take-le k (drop i s) (simp length-drop (omega arith
 pub part-suc : (s : List ℕ) (i k d : ℕ) → i + k < length s → part s i (k + 1) ≡ part s i k ++ (getD s (i + k) d ∷ [])
 unfolding part
 part-suc s i k d h = rw (add-one, take-suc (drop i s) k d (simp length-drop (omega arith)), getD-drop)
-
-pub part-cons : (s : List ℕ) (i k d : ℕ) → i < length s → part s i (suc k) ≡ getD s i d ∷ part s (i + 1) k
-unfolding part
-part-cons s i k d h = rw (drop-cons s i d h, add-one)
 
 pub part-drop : (s : List ℕ) (at i n : ℕ) → part (drop at s) i n ≡ part s (at + i) n
 unfolding part

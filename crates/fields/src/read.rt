@@ -3,6 +3,7 @@ ghost use mathlib.Core.Path.{_≡_};
 ghost use Prim.Native.Nat.{_+_, _*_, _<_, _≤_};
 ghost use lib.ListN.{length, getD, drop};
 ghost use Rattle.rules.specs.Bytes.{part, isZeros, num16, num32, chunks};
+ghost use Rattle.fields.specs.Numbers.{num64};
 
 // A byte as a number that counts or indexes.
 pub fn wide(b: u8) -> usize
@@ -11,7 +12,7 @@ pub fn wide(b: u8) -> usize
     b as usize
 }
 
-// Two bytes make a 16-bit number, and two of those a 32-bit one.
+// Two bytes make a 16-bit number, two of those a 32-bit one, and two of those a 64-bit one.
 pub fn join16(low: u8, high: u8) -> u16
     ensures { λ r. ⌜ r ≡ low + 256 * high ⌝ }
 {
@@ -22,6 +23,12 @@ pub fn join32(low: u16, high: u16) -> u32
     ensures { λ r. ⌜ r ≡ low + 65536 * high ⌝ }
 {
     low as u32 + 65536 * (high as u32)
+}
+
+pub fn join64(low: u32, high: u32) -> u64
+    ensures { λ r. ⌜ r ≡ low + 4294967296 * high ⌝ }
+{
+    low as u64 + 4294967296 * (high as u64)
 }
 
 pub fn get8(s: &[u8], at: usize) -> usize
@@ -45,6 +52,13 @@ pub fn get32(s: &[u8], at: usize) -> u32
     join32(get16(s, at), get16(s, at + 2))
 }
 
+pub fn get64(s: &[u8], at: usize) -> u64
+    requires { ⌜ at + 7 < length (now s) ⌝ }
+    ensures { λ r. ⌜ r ≡ num64 (drop at (now (s .entry))) ⌝ }
+{
+    join64(get32(s, at), get32(s, at + 4))
+}
+
 // The 16-bit numbers from a place on, as many as `out` has room for.
 pub fn get16s(s: &[u8], at: usize, out: &mut [u16])
     requires { ⌜ at + 2 * length (now out) ≤ length (now s) ⌝ }
@@ -57,8 +71,8 @@ pub fn get16s(s: &[u8], at: usize, out: &mut [u16])
     }
 }
 
-// Whether n bytes from a place on are zero. What they have set is gathered without a branch, so that many are taken at a time.
-pub fn all_zero(s: &[u8], at: usize, n: usize) -> bool
+// Whether n bytes from a place on are zero: a few, one by one.
+fn few_zero(s: &[u8], at: usize, n: usize) -> bool
     requires { ⌜ at + n ≤ length (now s) ⌝ }
     ensures { λ r. ⌜ r ≡ isZeros (part (now (s .entry)) at n) ⌝ }
 {
@@ -67,6 +81,23 @@ pub fn all_zero(s: &[u8], at: usize, n: usize) -> bool
     while k < n {
         set = set | s[at + k];
         k += 1;
+    }
+    set == 0
+}
+
+// Any number of bytes: eight at a time. The last eight may share bytes with the eight before them.
+pub fn all_zero(s: &[u8], at: usize, n: usize) -> bool
+    requires { ⌜ at + n ≤ length (now s) ⌝ }
+    ensures { λ r. ⌜ r ≡ isZeros (part (now (s .entry)) at n) ⌝ }
+{
+    if n < 8 {
+        return few_zero(s, at, n);
+    }
+    let mut set = get64(s, at + n - 8);
+    let mut k = 0;
+    while k + 8 <= n {
+        set = set | get64(s, at + k);
+        k += 8;
     }
     set == 0
 }

@@ -52,6 +52,18 @@ pub fn clear(s: &mut [u8], at: usize, n: usize)
     }
 }
 
+// The n bytes of `from` at the place `start` go to the place `at` of s.
+pub fn copy(s: &mut [u8], at: usize, from: &[u8], start: usize, n: usize)
+    requires { ⌜ (at + n ≤ length (now s)) × (start + n ≤ length (now from)) ⌝ }
+    ensures { λ _. ⌜ now (s .exit) ≡ put (now (s .entry)) at (part (now (from .entry)) start n) ⌝ }
+{
+    let mut k = 0;
+    while k < n {
+        s[at + k] = from[start + k];
+        k += 1;
+    }
+}
+
 // The n bytes at a place go, the `more` bytes after them move down, and zeros fill what is free.
 pub fn remove(s: &mut [u8], at: usize, n: usize, more: usize)
     requires { ⌜ at + n + more ≤ length (now s) ⌝ }

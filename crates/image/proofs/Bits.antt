@@ -1,12 +1,12 @@
--- Which bits of a byte are zero.
+-- Which bits of a number are zero.
 use mathlib.Core.Path.{_≡_, refl, ap, _∙_}
 use mathlib.Core.Bool.{Bool, true, false, _&&_}
-use Prim.Native.Nat.{ℕ, _+_, _*_, _/_, _<_}
+use Prim.Native.Nat.{ℕ, _+_, _*_, _/_, _^_, _<_}
 use native.Mathlib.Nat.{mod-eq-of-lt}
 use native.Mathlib.Omega.{arith}
-use lib.Bits.{bitAnd, and-zero-r, and-mask, and-high}
+use lib.Bits.{bitAnd, bitOr, and-zero-r, and-mask, and-high, and-le-l, and-le-r, or-add-and, or-lt}
 use lib.Dec.{eqb, ltb}
-use borrow.Author.Tests.{eqb-true, eqb-false, eq-eqb, ne-eqb, ltb-true, ltb-false}
+use borrow.Author.Tests.{eqb-true, eqb-false, eq-eqb, ne-eqb, ltb-true, ltb-false, lt-ltb, le-ltb}
 
 -- 252 tests that a byte is below 4, 255 that it is 0
 pub below-four : (x : ℕ) → x < 256 → eqb (bitAnd x 252) 0 ≡ ltb x 4
@@ -30,3 +30,12 @@ sum-zero a b = go (eqb a 0) (eqb b 0) refl refl
     go true true e f = rw (eqb-true a 0 e, eqb-true b 0 f)
     go true false e f = ne-eqb (a + 256 * b) 0 (λ z. eqb-false b 0 f (omega arith))
     go false q e f = ne-eqb (a + 256 * b) 0 (λ z. eqb-false a 0 e (omega arith))
+
+-- the bits of two numbers together are below a power of two where both numbers are
+pub or-below : (n a b : ℕ) → ltb (bitOr a b) (2 ^ n) ≡ (ltb a (2 ^ n) && ltb b (2 ^ n))
+or-below n a b = go (ltb a (2 ^ n)) (ltb b (2 ^ n)) refl refl
+  where
+    go : (x y : Bool) → ltb a (2 ^ n) ≡ x → ltb b (2 ^ n) ≡ y → ltb (bitOr a b) (2 ^ n) ≡ (x && y)
+    go true true p q = lt-ltb (bitOr a b) (2 ^ n) (or-lt n a b (ltb-true a (2 ^ n) p) (ltb-true b (2 ^ n) q))
+    go true false p q = le-ltb (bitOr a b) (2 ^ n) (omega (arith, ltb-false b (2 ^ n) q, or-add-and a b, and-le-l a b))
+    go false y p q = le-ltb (bitOr a b) (2 ^ n) (omega (arith, ltb-false a (2 ^ n) p, or-add-and a b, and-le-r a b))

@@ -1,18 +1,20 @@
 -- The test of the places for operands is the test of bits over all their bytes, and the test of the values after it.
 use mathlib.Core.Path.{_≡_, refl, sym, ap, _∙_}
 use mathlib.Core.Bool.{Bool, true, false, cond, _&&_, and-true, and-assoc, or-false}
-use mathlib.Core.List.{List}
+use mathlib.Core.List.{List, _∷_}
 use Prim.Native.Nat.{ℕ, zero, suc, _+_, _*_, _%_, _≤_, _<_, _-_}
 use native.Mathlib.Omega.{arith}
 use lib.Dec.{eqb, ltb}
-use lib.ListN.{getD}
-use lib.Seq.{getD-drop}
+use native.Mathlib.Numerals.{add-one}
+use lib.ListN.{length, getD}
+use lib.Seq.{getD-drop, drop-cons}
 use borrow.Author.Tests.{ltb-true, ltb-false, eqb-true, ne-eqb, lt-ltb, le-ltb}
-use Rattle.rules.specs.Bytes.{num16, allFrom}
+use Rattle.rules.specs.Bytes.{part, isZeros, num16, allFrom}
+use Rattle.fields.specs.Put.{part-none}
 use Rattle.rules.specs.Image.{operands, kind, value}
 use Rattle.rules.specs.Check.{operandOk, slotOk}
 use Rattle.image.specs.Runs.{all-at, all-holds, all-same, all-both, all-split, all-threes}
-use Rattle.image.specs.Operands.{limitsOf, markOf, Marks, bitsOk, placeOk, valueOk}
+use Rattle.image.specs.Operands.{roomOf, markOf, Marks, bitsOk, placeOk, valueOk}
 use Rattle.image.proofs.Bits.{below-four, all-bits, no-bits, sum-zero}
 
 twice : (a b c : Bool) → (a && b && (b && c)) ≡ (a && (b && c))
@@ -92,17 +94,32 @@ kind-small k v = go (ltb k 4) refl
     go true e = refl
     go false e = simp (ne-eqb k 1 (λ z. omega (arith, ltb-false k 4 e)), ne-eqb k 2 (λ z. omega (arith, ltb-false k 4 e)), ne-eqb k 3 (λ z. omega (arith, ltb-false k 4 e)))
 
--- a kind's values are those below its limit
-limit : (k v : ℕ) → k < 4 → v < 65536 → operandOk k v ≡ ltb v (getD limitsOf k 0)
-limit zero v h l = sym (le-ltb v 0 (omega arith))
-limit (suc zero) v h l = sym (lt-ltb v 65536 l)
-limit (suc (suc zero)) v h l = or-false (ltb v 25)
-limit (suc (suc (suc zero))) v h l = refl
-limit (suc (suc (suc (suc k)))) v h l = absurd (omega arith)
+-- a value is below a limit exactly if both with some room are
+with-room : (v limit room : ℕ) → ltb (v + room) (limit + room) ≡ ltb v limit
+with-room v limit room = go (ltb v limit) refl
+  where
+    go : (t : Bool) → ltb v limit ≡ t → ltb (v + room) (limit + room) ≡ t
+    go true e = lt-ltb (v + room) (limit + room) (omega (arith, ltb-true v limit e))
+    go false e = le-ltb (v + room) (limit + room) (omega (arith, ltb-false v limit e))
 
-pub value-limit : (r ls : List ℕ) (k kd v : ℕ) → kd ≡ kind r k → v ≡ value r k → ls ≡ limitsOf → kd < 4 → v < 65536 → valueOk r k ≡ ltb v (getD ls kd 0)
+-- a kind's values are those that are below 65,536 with its room
+fits : (k v : ℕ) → k < 4 → v < 65536 → ltb (v + getD roomOf k 0) 65536 ≡ operandOk k v
+fits zero v h l = le-ltb (v + 65536) 65536 (omega arith)
+fits (suc zero) v h l = lt-ltb (v + 0) 65536 (omega arith)
+fits (suc (suc zero)) v h l = with-room v 25 (65536 - 25) ∙ sym (or-false (ltb v 25))
+fits (suc (suc (suc zero))) v h l = with-room v 16 (65536 - 16)
+fits (suc (suc (suc (suc k)))) v h l = absurd (omega arith)
+
+pub value-fits : (r room : List ℕ) (k kd v : ℕ) → kd ≡ kind r k → v ≡ value r k → room ≡ roomOf → kd < 4 → v < 65536 → ltb (v + getD room kd 0) 65536 ≡ valueOk r k
 unfolding valueOk
-value-limit r ls k kd v e f g h l = rw (← e, ← f, g) (limit kd v h l)
+value-fits r room k kd v e f g h l = rw (← e, ← f, g) (fits kd v h l)
+
+pub room-most : (room : List ℕ) (kd : ℕ) → room ≡ roomOf → kd < 4 → getD room kd 0 ≤ 65536
+room-most room zero e h = rw e (omega arith)
+room-most room (suc zero) e h = rw e (omega arith)
+room-most room (suc (suc zero)) e h = rw e (omega arith)
+room-most room (suc (suc (suc zero))) e h = rw e (omega arith)
+room-most room (suc (suc (suc (suc k)))) e h = absurd (omega arith)
 
 module _ (r : List ℕ) (c : ℕ) (most : c ≤ 25) where
   pub kind-below : allFrom (placeOk r c) 0 25 ≡ true → (k : ℕ) → k < c → kind r k < 4
@@ -132,3 +149,30 @@ module _ (r : List ℕ) (c : ℕ) (most : c ≤ 25) where
       all-same (slotOk r) (λ k. placeOk r c k && value-used k) 0 25 (λ k p q. slot k e)
       ∙ all-both (placeOk r c) value-used 0 25
       ∙ ap (λ b. allFrom (placeOk r c) 0 25 && b) values-used
+
+-- ---- no operands
+
+part-first : (s : List ℕ) (i n : ℕ) → i < length s → part s i (suc n) ≡ getD s i 0 ∷ part s (i + 1) n
+unfolding part
+part-first s i n h = rw (drop-cons s i 0 h, add-one)
+
+zeros-from : (s : List ℕ) (at k n : ℕ) → at + k + n ≤ length s → isZeros (part s (at + k) n) ≡ allFrom (λ i. eqb (getD s (at + i) 0) 0) k n
+unfolding isZeros allFrom
+zeros-from s at k zero h = rw (part-none s (at + k)) refl
+zeros-from s at k (suc n) h =
+    let e : at + k + 1 ≡ at + (k + 1) = omega arith in
+    rw (part-first s (at + k) n (omega arith), e) (ap (λ b. eqb (getD s (at + k) 0) 0 && b) (zeros-from s at (k + 1) n (omega arith)))
+
+empty-slot : (r : List ℕ) (k : ℕ) → operands r ≡ 0
+    → (eqb (getD r (9 + 3 * k) 0) 0 && eqb (getD r (9 + (3 * k + 1)) 0) 0 && eqb (getD r (9 + (3 * k + 2)) 0) 0) ≡ slotOk r k
+unfolding slotOk num16
+empty-slot r k e =
+    let low : 9 + (3 * k + 1) ≡ 10 + 3 * k + 0 = omega arith in
+    let high : 9 + (3 * k + 2) ≡ 10 + 3 * k + 1 = omega arith in
+    rw (e, le-ltb k 0 (omega arith), low, high, getD-drop, getD-drop, sum-zero, and-assoc)
+
+pub no-operands : (r : List ℕ) → length r ≡ 84 → operands r ≡ 0 → isZeros (part r 9 75) ≡ allFrom (slotOk r) 0 25
+no-operands r h e =
+    zeros-from r 9 0 75 (omega arith)
+    ∙ all-threes (λ i. eqb (getD r (9 + i) 0) 0) 0 25
+    ∙ all-same _ (slotOk r) 0 25 (λ k p q. empty-slot r k e)

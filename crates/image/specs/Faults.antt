@@ -7,7 +7,9 @@ use native.Mathlib.Omega.{arith}
 use lib.Dec.{eqb}
 use lib.ListN.{length}
 use borrow.Author.Tests.{eqb-true, eq-eqb, ne-eqb}
-use Rattle.rules.specs.Check.{refusal, firstOf, tableLengthFault}
+use Rattle.rules.specs.Bytes.{allFrom}
+use Rattle.rules.specs.Check.{rowOk, refusal, firstOf, tableLengthFault, tableFault}
+use Rattle.image.specs.Runs.{none-bad}
 
 -- ---- the first refusal of a list
 
@@ -44,3 +46,12 @@ refusal-none false number place h e = absurd (omega arith)
 pub table-length : (table : List ℕ) → tableLengthFault table ≡ 0 → length table ≡ 32
 unfolding tableLengthFault
 table-length table e = eqb-true (length table) 32 (refusal-none (eqb (length table) 32) 2 0 (omega arith) e)
+
+-- number 3 applies exactly where a row is out of range
+pub rows-pass : (table : List ℕ) → allFrom (rowOk table) 0 16 ≡ true → tableFault table ≡ 0
+unfolding tableFault
+rows-pass table e = rw (none-bad (rowOk table) 0 16, e)
+
+pub rows-fail : (table : List ℕ) → allFrom (rowOk table) 0 16 ≡ false → tableFault table ≡ 0 → ⊥
+unfolding tableFault
+rows-fail table e = rw (none-bad (rowOk table) 0 16, e) (λ z. omega arith)

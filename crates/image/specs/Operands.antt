@@ -10,9 +10,9 @@ use Rattle.rules.specs.Bytes.{allFrom}
 use Rattle.rules.specs.Image.{kind, value}
 use Rattle.rules.specs.Check.{operandOk}
 
--- the limits of the values of the kinds 0 to 3
-abbrev pub limitsOf : List ℕ
-limitsOf = 0 ∷ 65536 ∷ 25 ∷ 16 ∷ []
+-- the room from the limits of the kinds 0 to 3 up to 65,536
+abbrev pub roomOf : List ℕ
+roomOf = 65536 ∷ 0 ∷ (65536 - 25) ∷ (65536 - 16) ∷ []
 
 -- the bits that are zero in a byte: of a kind in a place that is used those from 4 on, of a value there none, and all in a place that
 -- is not used

@@ -1,11 +1,13 @@
 -- The laws of tests over runs of numbers.
 use mathlib.Core.Path.{_≡_, refl}
 use mathlib.Core.Logic.{⊎-elim}
-use mathlib.Core.Bool.{Bool, true, false, _&&_, and-assoc}
+use mathlib.Core.Bool.{Bool, true, false, cond, _&&_, and-assoc}
 use Prim.Native.Nat.{ℕ, zero, suc, _+_, _*_, _≤_, _<_}
 use native.Mathlib.Nat.{add-zero, zero-add, suc-add, eq-or-lt-of-le}
 use native.Mathlib.Omega.{arith}
-use Rattle.rules.specs.Bytes.{allFrom}
+use lib.Dec.{eqb}
+use borrow.Author.Tests.{eq-eqb, ne-eqb}
+use Rattle.rules.specs.Bytes.{allFrom, firstBad}
 
 left : (a b : Bool) → (a && b) ≡ true → a ≡ true
 left true b e = refl
@@ -15,7 +17,7 @@ right : (a b : Bool) → (a && b) ≡ true → b ≡ true
 right true b e = e
 right false b e = absurd (let z : _≡_ {A = ℕ} 0 1 = cc in omega arith)
 
-exchange : (a b c d : Bool) → (a && b && (c && d)) ≡ (a && c && (b && d))
+pub exchange : (a b c d : Bool) → (a && b && (c && d)) ≡ (a && c && (b && d))
 exchange true true c d = refl
 exchange true false true d = refl
 exchange true false false d = refl
@@ -59,3 +61,13 @@ all-threes f i (suc n) =
     let two : 3 * i + 1 + 1 ≡ 3 * i + 2 = omega arith in
     let three : 3 * i + 2 + 1 ≡ 3 * (i + 1) = omega arith in
     rw (e, two, three, all-threes f (i + 1) n, and-assoc, and-assoc)
+
+-- a test holds of a run exactly if the search for where it fails comes to the run's end
+pub none-bad : (ok : ℕ → Bool) (i n : ℕ) → eqb (firstBad ok i n) (i + n) ≡ allFrom ok i n
+unfolding firstBad allFrom
+none-bad ok i zero = eq-eqb i (i + 0) (omega arith)
+none-bad ok i (suc n) = go (ok i) (none-bad ok (i + 1) n)
+  where
+    go : (t : Bool) → eqb (firstBad ok (i + 1) n) (i + 1 + n) ≡ allFrom ok (i + 1) n → eqb (cond t (firstBad ok (i + 1) n) i) (i + suc n) ≡ (t && allFrom ok (i + 1) n)
+    go true e = let f : i + suc n ≡ i + 1 + n = omega arith in rw f e
+    go false e = ne-eqb i (i + suc n) (λ z. omega arith)

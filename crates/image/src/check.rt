@@ -1,10 +1,11 @@
 // The image check: the refusals 1 to 4, lowest number first.
-use crate::operands::LIMITS;
 use crate::operands::MARKS;
+use crate::operands::ROOM;
 use crate::records::count_labels;
 use crate::records::record_of;
 use crate::rule::rule_ok;
 use crate::table::first_bad_row;
+use crate::table::rows_ok;
 use rules::limits::Table;
 use rules::sorts::Block;
 ghost use mathlib.Core.Path.{_≡_};
@@ -15,7 +16,7 @@ ghost use Rattle.rules.specs.Sizes.{tableSize};
 ghost use Rattle.rules.specs.Bytes.{firstBad};
 ghost use Rattle.rules.specs.Image.{labels};
 ghost use Rattle.rules.specs.Check.{recordOk, refusal, imageLengthFault, tableLengthFault, tableFault, recordFault, firstOf, imageFaults};
-ghost use Rattle.image.specs.Operands.{Marks, limitsOf};
+ghost use Rattle.image.specs.Operands.{Marks, roomOf};
 
 pub fn refuse(ok: bool, number: u32, place: usize) -> u32
     requires { ⌜ (number < 256) × (place < 65536) ⌝ }
@@ -36,14 +37,14 @@ pub fn first_of(first: u32, second: u32) -> u32
 }
 
 // The first label whose record breaks a rule, or n.
-pub fn first_bad_label(image: &[u8], n: usize, marks: &[u8; 150], limits: &[u32; 4]) -> usize
-    requires { ⌜ (n ≡ labels (now image)) × Marks (now marks) × (now limits ≡ limitsOf) ⌝ }
+pub fn first_bad_label(image: &[u8], n: usize, marks: &[u8; 150], room: &[u32; 4]) -> usize
+    requires { ⌜ (n ≡ labels (now image)) × Marks (now marks) × (now room ≡ roomOf) ⌝ }
     ensures { λ r. ⌜ r ≡ firstBad (recordOk (now (image .entry))) 0 (labels (now (image .entry))) ⌝ }
 {
     let mut l = 0;
     while l < n {
         let r = record_of(image, l);
-        if !rule_ok(image, n, r, marks, limits) {
+        if !rule_ok(image, n, r, marks, room) {
             return l;
         }
         l += 1;
@@ -72,20 +73,20 @@ pub fn table_fault(table: &[u8]) -> u32
     refuse(b == Block::COUNT, 3, b)
 }
 
-pub fn record_fault(image: &[u8], n: usize, marks: &[u8; 150], limits: &[u32; 4]) -> u32
-    requires { ⌜ (n ≡ labels (now image)) × Marks (now marks) × (now limits ≡ limitsOf) ⌝ }
+pub fn record_fault(image: &[u8], n: usize, marks: &[u8; 150], room: &[u32; 4]) -> u32
+    requires { ⌜ (n ≡ labels (now image)) × Marks (now marks) × (now room ≡ roomOf) ⌝ }
     ensures { λ r. ⌜ r ≡ recordFault (now (image .entry)) ⌝ }
 {
-    let l = first_bad_label(image, n, marks, limits);
+    let l = first_bad_label(image, n, marks, room);
     refuse(l == n, 4, l)
 }
 
-// The first of the refusals 1 to 4, or 0.
+// The first of the refusals 1 to 4, or 0. The first bad row is looked for only where there is one.
 pub fn image_fault(image: &[u8], table: &[u8]) -> u32
     ensures { λ r. ⌜ r ≡ firstOf (imageFaults (now (image .entry)) (now (table .entry)) []) ⌝ }
 {
     let marks = MARKS;
-    let limits = LIMITS;
+    let room = ROOM;
     let n = count_labels(image);
     let a = image_length_fault(image, n);
     if a != 0 {
@@ -95,7 +96,8 @@ pub fn image_fault(image: &[u8], table: &[u8]) -> u32
     if b != 0 {
         return b;
     }
-    let c = table_fault(table);
-    let d = record_fault(image, n, &marks, &limits);
-    first_of(c, d)
+    if !rows_ok(table) {
+        return table_fault(table);
+    }
+    record_fault(image, n, &marks, &room)
 }

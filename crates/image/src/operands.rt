@@ -1,5 +1,6 @@
 // The places for operands of a record: an operand in each of the first, as many as the record counts, and zeros in the rest. Bits
 // that must be zero are tested over all bytes at once; after that each value is held to the limit of its kind.
+use fields::read::all_zero;
 use fields::read::get16;
 use fields::read::wide;
 use rules::sorts::Block;
@@ -13,10 +14,16 @@ ghost use Rattle.rules.specs.Sizes.{recordSize, operandCount};
 ghost use Rattle.rules.specs.Bytes.{allFrom};
 ghost use Rattle.rules.specs.Image.{operands};
 ghost use Rattle.rules.specs.Check.{slotOk};
-ghost use Rattle.image.specs.Operands.{Marks, limitsOf, bitsOk, placeOk, valueOk};
+ghost use Rattle.image.specs.Operands.{Marks, roomOf, bitsOk, placeOk, valueOk};
 
-// A value is below the limit of its kind: number, register, shared word.
-pub const LIMITS: [u32; 4] = [0, 65536, Thread::REGISTERS as u32, Block::WORDS as u32];
+// The room from the limit of a kind up to 65,536: a value is below the limit exactly if value and room add up to less than 65,536.
+// Kind 0 allows no value and a number any; then come registers and shared words.
+pub const ROOM: [u32; 4] = [
+    65536,
+    0,
+    65536 - Thread::REGISTERS as u32,
+    65536 - Block::WORDS as u32,
+];
 
 // The bits that are zero in the places' bytes. The last 75 are for places that are not used; before them are three for each place
 // that is: its kind is below 4.
@@ -51,29 +58,33 @@ pub fn places_ok(r: &[u8], marks: &[u8; 150], c: usize) -> bool
     wrong == 0
 }
 
-// Each of c values is below the limit of its kind.
-pub fn values_ok(r: &[u8], limits: &[u32; 4], c: usize) -> bool
-    requires { ⌜ (length (now r) ≡ recordSize) × (c ≤ operandCount) × (now limits ≡ limitsOf) × (allFrom (placeOk (now r) c) 0 operandCount ≡ true) ⌝ }
+// Each of c values is below the limit of its kind. The sums of value and room are gathered without a branch: each is below 65,536
+// exactly if all their bits together are.
+pub fn values_ok(r: &[u8], room: &[u32; 4], c: usize) -> bool
+    requires { ⌜ (length (now r) ≡ recordSize) × (c ≤ operandCount) × (now room ≡ roomOf) × (allFrom (placeOk (now r) c) 0 operandCount ≡ true) ⌝ }
     ensures { λ z. ⌜ z ≡ allFrom (valueOk (now (r .entry))) 0 c ⌝ }
 {
+    let mut seen: u32 = 0;
     let mut k = 0;
     while k < c {
         let kind = wide(r[9 + 3 * k]);
         let value = get16(r, 10 + 3 * k);
-        if limits[kind] <= value as u32 {
-            return false;
-        }
+        seen = seen | (value as u32 + room[kind]);
         k += 1;
     }
-    true
+    seen < 65536
 }
 
-pub fn slots_ok(r: &[u8], marks: &[u8; 150], limits: &[u32; 4], c: usize) -> bool
-    requires { ⌜ (length (now r) ≡ recordSize) × (c ≡ operands (now r)) × (c ≤ operandCount) × Marks (now marks) × (now limits ≡ limitsOf) ⌝ }
+// Where there are no operands all bytes of the places are zero.
+pub fn slots_ok(r: &[u8], marks: &[u8; 150], room: &[u32; 4], c: usize) -> bool
+    requires { ⌜ (length (now r) ≡ recordSize) × (c ≡ operands (now r)) × (c ≤ operandCount) × Marks (now marks) × (now room ≡ roomOf) ⌝ }
     ensures { λ z. ⌜ z ≡ allFrom (slotOk (now (r .entry))) 0 operandCount ⌝ }
 {
+    if c == 0 {
+        return all_zero(r, 9, 75);
+    }
     if places_ok(r, marks, c) {
-        values_ok(r, limits, c)
+        values_ok(r, room, c)
     } else {
         false
     }

@@ -18,7 +18,7 @@ ghost use lib.ListN.{length};
 ghost use Rattle.rules.specs.Sizes.{recordSize, operandCount};
 ghost use Rattle.rules.specs.Image.{labels, recordAt, blockField, entry, operands, labelA, labelB};
 ghost use Rattle.rules.specs.Check.{operatorOk, countOk, labelOk, ruleOk};
-ghost use Rattle.image.specs.Operands.{Marks, limitsOf};
+ghost use Rattle.image.specs.Operands.{Marks, roomOf};
 ghost use Rattle.image.specs.Forms.{formOk};
 
 // A label is below n, and its record is in this block.
@@ -97,16 +97,16 @@ pub fn form_ok(image: &[u8], n: usize, r: &[u8], c: usize) -> bool
 }
 
 // A record meets the rules.
-pub fn rule_ok(image: &[u8], n: usize, r: &[u8], marks: &[u8; 150], limits: &[u32; 4]) -> bool
-    requires { ⌜ (n ≡ labels (now image)) × (length (now r) ≡ recordSize) × Marks (now marks) × (now limits ≡ limitsOf) ⌝ }
+pub fn rule_ok(image: &[u8], n: usize, r: &[u8], marks: &[u8; 150], room: &[u32; 4]) -> bool
+    requires { ⌜ (n ≡ labels (now image)) × (length (now r) ≡ recordSize) × Marks (now marks) × (now room ≡ roomOf) ⌝ }
     ensures { λ z. ⌜ z ≡ ruleOk (now (image .entry)) (now (r .entry)) ⌝ }
 {
     let c = wide(r[8]);
     if Image::OPERANDS < c {
         return false;
     }
-    if !slots_ok(r, marks, limits, c) {
+    if !((wide(r[1]) < Block::COUNT) & (r[2] < 4) & form_ok(image, n, r, c)) {
         return false;
     }
-    (wide(r[1]) < Block::COUNT) & (r[2] < 4) & form_ok(image, n, r, c)
+    slots_ok(r, marks, room, c)
 }

@@ -1,4 +1,5 @@
 // The block table.
+use fields::read::get16;
 use fields::read::wide;
 use rules::limits::Table;
 use rules::sorts::Block;
@@ -10,7 +11,7 @@ ghost use Prim.Native.Nat.{_<_};
 ghost use lib.ListN.{length};
 ghost use Rattle.rules.specs.Sizes.{blockCount, tableSize};
 ghost use Rattle.rules.specs.Sorts.{thread};
-ghost use Rattle.rules.specs.Bytes.{firstBad};
+ghost use Rattle.rules.specs.Bytes.{allFrom, firstBad};
 ghost use Rattle.rules.specs.Image.{rowAt};
 ghost use Rattle.rules.specs.Check.{rowOk};
 
@@ -37,6 +38,20 @@ pub fn row_ok(table: &[u8], b: usize) -> bool
     ensures { λ r. ⌜ r ≡ rowOk (now (table .entry)) b ⌝ }
 {
     (wide(table[Table::ROW * b]) < Thread::COUNT) & (table[Table::ROW * b + 1] < 2)
+}
+
+// Every row is in range. The rows are gathered without a branch: each is in range exactly if all their bits together are.
+pub fn rows_ok(table: &[u8]) -> bool
+    requires { ⌜ length (now table) ≡ tableSize ⌝ }
+    ensures { λ r. ⌜ r ≡ allFrom (rowOk (now (table .entry))) 0 blockCount ⌝ }
+{
+    let mut seen: u16 = 0;
+    let mut b = 0;
+    while b < Block::COUNT {
+        seen = seen | get16(table, Table::ROW * b);
+        b += 1;
+    }
+    (seen % 256 < Thread::COUNT as u16) & (seen / 256 < 2)
 }
 
 // The first block whose row is out of range, or 16.

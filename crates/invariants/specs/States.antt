@@ -2,7 +2,7 @@
 -- same image and table.
 use mathlib.Core.Path.{_≡_, refl}
 use mathlib.Core.Bool.{Bool, true, false, cond, _&&_, _||_}
-use mathlib.Core.List.{List, [], _∷_}
+use mathlib.Core.List.{List}
 use Prim.Native.Nat.{ℕ, _+_, _*_, _-_, _≤_, _<_}
 use native.Mathlib.Omega.{arith}
 use lib.Dec.{eqb, leb}
@@ -11,7 +11,7 @@ use borrow.Author.Tests.{eqb-true}
 use Rattle.rules.specs.Sizes.{registerCount, stateSize, eventSize, eventCount}
 use Rattle.rules.specs.Bytes.{num16, part, isZeros}
 use Rattle.rules.specs.Image.{recordAt, entry}
-use Rattle.rules.specs.Check.{firstOf, imageFaults, Checked}
+use Rattle.rules.specs.Check.{Checked}
 use Rattle.rules.specs.Machine.{Machine, fresh}
 use Rattle.rules.specs.Encoding.{signalFrom, encode, wordsFrom, machineFrom}
 use Rattle.rules.specs.Events.{Event, arrive, step, cut, Valid, eventFrom, arrivalOk, turnOk, eventOk, eventsIn, eventsLengthOk, eventAtOk, eventsFrom}
@@ -19,7 +19,7 @@ use Rattle.rules.specs.Steps.{rulesBy, final}
 use Rattle.rules.specs.WellFormed.{stateTidy, machineOk, wellFormed}
 use Rattle.rules.specs.Calls.{stateLengthFault, stateFault, eventsLengthFault, eventFault, freshReturn, freshState, runReturn, runState}
 use Rattle.fields.specs.Each.{Each}
-use Rattle.one_by_one.specs.Faults.{first-of-zero, refusal-zero, fault-free}
+use Rattle.one_by_one.specs.Faults.{first-of-zero, refusal-zero, fault-free, checked-of}
 use Rattle.encoding.specs.Sized.{Sized}
 use Rattle.encoding.specs.Tests.{both, both-hold}
 use Rattle.encoding.specs.Runs.{length-chunks, each-chunks}
@@ -96,19 +96,6 @@ module _ (image table : List ℕ) where
 pub record Ready (image table state : List ℕ) : Type 0 where
   pub size : stateLengthFault state ≡ 0
   pub formed : stateFault image table state ≡ 0
-
--- the image and the table of an accepted call pass the check, and the call's own refusals do not apply either
-none-apply : (a b c d : ℕ) → a ≡ 0 → b ≡ 0 → c ≡ 0 → d ≡ 0 → firstOf (a ∷ b ∷ c ∷ d ∷ []) ≡ 0
-unfolding firstOf
-none-apply a b c d p q r s = rw (p, q, r, s) refl
-
-checked-of : (image table more : List ℕ) → firstOf (imageFaults image table more) ≡ 0 → Checked image table × (firstOf more ≡ 0)
-checked-of image table more h =
-    let one = first-of-zero _ _ h in
-    let two = first-of-zero _ _ (one .1) in
-    let three = first-of-zero _ _ (two .1) in
-    let four = first-of-zero _ _ (three .1) in
-    (none-apply _ _ _ _ (one .0) (two .0) (three .0) (four .0), four .1)
 
 encoded-ready : (image table : List ℕ) (s : Machine) → wellFormed image table (encode s) ≡ true → Ready image table (encode s)
 unfolding stateLengthFault stateFault

@@ -1,23 +1,22 @@
 -- ASSIGN as the law has it, from the value that is worked out.
-use mathlib.Core.Path.{_≡_, refl, sym, ap, _∙_, subst}
+use mathlib.Core.Path.{_≡_, refl, sym, subst}
 use mathlib.Core.Bool.{Bool, true, false, cond}
 use mathlib.Core.Option.{some}
 use mathlib.Core.List.{List}
-use Prim.Native.Nat.{ℕ, _+_, _*_, _<_}
+use Prim.Native.Nat.{ℕ, _+_, _*_}
 use lib.Dec.{eqb}
 use lib.ListN.{getD, set}
 use borrow.Author.Tests.{eqb-false}
 use Rattle.rules.specs.Sizes.{wordCount}
 use Rattle.rules.specs.Image.{recordAt, labelA, operator}
-use Rattle.rules.specs.Statements.{statementOf, sources, operandAt, operatorOf, valueOf, assignmentOf, dataOf}
+use Rattle.rules.specs.Statements.{statementOf, sources, operandAt, operatorOf, valueOf, assignmentOf}
 use Rattle.rules.specs.Effects.{Got, trap, got, then, Cells, readAll, compute}
 use Rattle.rules.specs.Machine.{Signal, Machine, Job, threadAt, running, first, window}
 use Rattle.rules.specs.Events.{step}
-use Rattle.rules.specs.Steps.{blockAt, rulesBy, finished, react, Reply}
+use Rattle.rules.specs.Steps.{blockAt, rulesBy, finished, react}
 use Rattle.rules.specs.declared.answer.Answer.the-variants.{Moved, Trapped}
 use Rattle.rules.specs.declared.statement.Operand.{Operand}
 use Rattle.rules.specs.declared.statement.Operand.the-variants.{Number, Register, Word}
-use Rattle.rules.specs.declared.statement.Value.{Value}
 use Rattle.rules.specs.declared.statement.Value.the-variants.{Copy, Join}
 use Rattle.rules.specs.declared.statement.Assignment.{Assignment}
 use Rattle.rules.specs.declared.statement.Statement.the-variants.{Assign}
@@ -25,11 +24,10 @@ use Rattle.one_by_one.specs.Invariant.{never}
 use Rattle.one_by_one.specs.Passed.{Parts}
 use Rattle.turns.specs.Events.{withThread, reply}
 use Rattle.turns.specs.Statements.{unread, uncomputed, assigns-register, assigns-word}
-use Rattle.operands.specs.Legal.{Fits}
 use Rattle.operands.specs.Statements.{Lands, assigns, assigns-to, assigns-left, assigns-right}
 use Rattle.operands.specs.Values.{FitAll, evaluated}
 use Rattle.threads.specs.Threads.{jobOf}
-use Rattle.threads.specs.declared.thread.ThreadState.{ThreadState}
+use Rattle.threads.specs.Whole.{Whole}
 use Rattle.moves.specs.Stored.{stored}
 
 -- ---- the operands of a record that breaks no rule
@@ -91,7 +89,7 @@ module _ (image table : List ℕ) (s : Machine) (t l : ℕ) (j : Job) (p : List 
         case (got vs) q z = stores (a .destination) v vs refl k q z
 
 -- what the code stores is what the law stores
-pub stored-is : (image table : List ℕ) (s : Machine) (t : ℕ) (w : ThreadState) (p : List Signal) (runs : threadAt s t ≡ running (w .locks) (jobOf w)) (tree : first t (s .trees) ≡ some p) (l k : ℕ)
+pub stored-is : (image table : List ℕ) (s : Machine) (t : ℕ) (w : Whole) (p : List Signal) (runs : threadAt s t ≡ running (w .locks) (jobOf w)) (tree : first t (s .trees) ≡ some p) (l k : ℕ)
     → l ≡ labelA (recordAt image (w .label .0)) → k ≡ blockAt image (w .label .0) → (d : Operand) (v : ℕ) → stored s t w l k d v ≡ storing image table s t (w .locks) (jobOf w) p runs tree d v
 stored-is image table s t w p runs tree l k e f (Number n) v = refl
 stored-is image table s t w p runs tree l k e f (Register n) v = rw e refl

@@ -1,12 +1,11 @@
 -- Facts of a running thread's record, for the steps.
-use mathlib.Core.Path.{_≡_, refl, sym, ap, _∙_, subst}
+use mathlib.Core.Path.{_≡_, refl, ap, _∙_, subst}
 use mathlib.Core.List.{List, [], _∷_}
-use Prim.Native.Nat.{ℕ, _≤_, _<_}
+use Prim.Native.Nat.{ℕ, _<_}
 use native.Mathlib.Omega.{arith}
 use mathlib.Core.Option.{some}
 use lib.ListN.{length, getD}
 use lib.Seq.{length-take-le}
-use borrow.Author.Tests.{ne-eqb}
 use Rattle.rules.specs.Sizes.{blockCount, idleLabel}
 use Rattle.rules.specs.Image.{labels, recordAt, blockField, labelA, labelB}
 use Rattle.rules.specs.Statements.{statementOf, roleA, roleB, dataOf}
@@ -19,16 +18,18 @@ use Rattle.rules.specs.declared.answer.Answer.the-variants.{Moved}
 use Rattle.rules.specs.declared.statement.Statement.{Statement}
 use Rattle.rules.specs.declared.statement.Statement.the-variants.{Return}
 use Rattle.fields.specs.Each.{Each}
+use Rattle.encoding.specs.Slots.{returnsIn, registersIn}
 use Rattle.invariants.specs.Sound.{PlaceIn, ThreadIn}
 use Rattle.turns.specs.Events.{withThread, reply}
 use Rattle.turns.specs.Statements.{returns-to}
-use Rattle.threads.specs.Threads.{job, jobOf, returnsOf, Runs}
+use Rattle.threads.specs.Whole.{whole}
+use Rattle.threads.specs.Threads.{job, jobOf, returnsOf}
 use Rattle.threads.specs.Returns.{newestOf, olderOf}
 use Rattle.threads.specs.declared.thread.ThreadState.{ThreadState}
 use Rattle.image.specs.Records.{labels-small, getD-any}
 use Rattle.operands.specs.Legal.{Below}
 use Rattle.operands.specs.Cells.{cellsFrom}
-use Rattle.ready.specs.At.{At, below-A, below-B, runs-says}
+use Rattle.ready.specs.At.{At, below-A, below-B}
 
 newest-in : (image table : List ℕ) (t a : ℕ) (l : List ℕ) → PlaceIn image table t a → Each (PlaceIn image table t) l → newest a l < labels image
 newest-in image table t a [] p e = p .below
@@ -70,27 +71,21 @@ module _ {image table b : List ℕ} {t : ℕ} {w : ThreadState} {r : List ℕ} (
   block-here k e = e ∙ getD-any r 1 0 blockCount (omega (arith, h .long)) ∙ ap blockField (h .here)
 
   -- what the statement reads from, as the law has it
-  pub cells-here : (k : ℕ) → k ≡ getD r 1 0 → cellsFrom b k (w .present) (w .registers)
-      ≡ record { registers = jobOf w .registers; words = window (blockAt image (w .label .0)) (machineFrom b .words) }
+  pub cells-here : (k : ℕ) → k ≡ getD r 1 0 → cellsFrom b k (w .present) (registersIn b t)
+      ≡ record { registers = jobOf (whole b t w) .registers; words = window (blockAt image (w .label .0)) (machineFrom b .words) }
   unfolding machineFrom
-  cells-here k e = ap (λ (q : ℕ). cellsFrom b q (w .present) (w .registers)) (block-here k e)
+  cells-here k e = ap (λ (q : ℕ). cellsFrom b q (w .present) (registersIn b t)) (block-here k e)
 
   -- the data of the law's record, read
-  pub data-here : (k : ℕ) (g : Got (List ℕ)) → k ≡ getD r 1 0 → readAll (cellsFrom b k (w .present) (w .registers)) (dataOf r) ≡ g
-      → readAll (record { registers = jobOf w .registers; words = window (blockAt image (w .label .0)) (machineFrom b .words) }) (dataOf (recordAt image (w .label .0))) ≡ g
+  pub data-here : (k : ℕ) (g : Got (List ℕ)) → k ≡ getD r 1 0 → readAll (cellsFrom b k (w .present) (registersIn b t)) (dataOf r) ≡ g
+      → readAll (record { registers = jobOf (whole b t w) .registers; words = window (blockAt image (w .label .0)) (machineFrom b .words) }) (dataOf (recordAt image (w .label .0))) ≡ g
   data-here k g e q =
-      let f : readAll (cellsFrom b k (w .present) (w .registers)) (dataOf (recordAt image (w .label .0))) ≡ g = subst (λ (z : List ℕ). readAll (cellsFrom b k (w .present) (w .registers)) (dataOf z) ≡ g) (h .here) q in
+      let f : readAll (cellsFrom b k (w .present) (registersIn b t)) (dataOf (recordAt image (w .label .0))) ≡ g = subst (λ (z : List ℕ). readAll (cellsFrom b k (w .present) (registersIn b t)) (dataOf z) ≡ g) (h .here) q in
       subst (λ (c : Cells). readAll c (dataOf (recordAt image (w .label .0))) ≡ g) (cells-here k e) f
 
   -- as many return labels as the thread counts
-  pub depth-is : length (returnsOf w) ≡ w .depth
-  depth-is = length-take-le (w .depth) (w .returns) (omega (arith, h .thread .tidy .returns .sized, h .thread .tidy .returns .within))
+  pub depth-is : length (returnsOf (whole b t w)) ≡ w .depth
+  depth-is = length-take-le (w .depth) (returnsIn b t) (omega (arith, h .thread .tidy .returns .sized, h .thread .tidy .returns .within))
 
-  pub newest-small : 0 < w .depth → newestOf (returnsOf w) < idleLabel
-  newest-small l = small _ (newest-below image table t (returnsOf w) (subst (ThreadIn image table t) (h .runs) (h .ready .sound .threads t) .1) (omega (arith, depth-is)))
-
--- the fields of a thread that runs a job
-pub runs-fields : (w : ThreadState) (l : ℕ) (j : Job) → Runs w l j → (w .locks ≡ l) × (jobOf w ≡ j)
-runs-fields w l j h =
-    let e : running (w .locks) (jobOf w) ≡ running l j = sym (runs-says w (ne-eqb (w .label .0) idleLabel (λ q. omega (arith, h .running .label)))) ∙ h .state in
-    (cc, cc)
+  pub newest-small : 0 < w .depth → newestOf (returnsOf (whole b t w)) < idleLabel
+  newest-small l = small _ (newest-below image table t (returnsOf (whole b t w)) (subst (ThreadIn image table t) (h .runs) (h .ready .sound .threads t) .1) (omega (arith, depth-is)))

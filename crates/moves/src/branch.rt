@@ -37,10 +37,9 @@ pub fn branch(
     requires { ⌜ At (now image) (now table) (now state) (t .0) w (now r) × (statementOf (now r) ≡ If c) ⌝ }
     ensures { λ a. ⌜ Done (replyTo (now (image .entry)) (now (table .entry)) (now (state .entry)) (step (t .0))) (now (state .exit)) a ⌝ }
 {
-    let registers = w.registers;
     let left = c.left;
     let right = c.right;
-    let pair = read_pair(state, block_of(r[1]), w.present, &registers, left, right);
+    let pair = read_pair(state, block_of(r[1]), t, w.present, left, right);
     if pair.trap != 0 {
         return trapped(image, table, state, t, pair.trap);
     }

@@ -1,12 +1,15 @@
 // TRANSFER and RETURN: the data values go into registers 0 upward.
-use crate::onward::moved;
 use ending::trapped;
 use fields::read::get16;
+use fields::read::wide;
 use operands::read_data;
 use rules::answer::Answer;
 use rules::sorts::Thread;
 use rules::sorts::block_of;
 use rules::sorts::label_of;
+use state::thread_records::read_return;
+use state::thread_records::write_called;
+use state::thread_records::write_transferred;
 use threads::thread::ThreadState;
 ghost use mathlib.Core.Path.{_≡_};
 ghost use Rattle.rules.specs.Events.{step};
@@ -29,13 +32,14 @@ pub fn transfer(
     requires { ⌜ At (now image) (now table) (now state) (t .0) w (now r) × (statementOf (now r) ≡ Transfer) ⌝ }
     ensures { λ a. ⌜ Done (replyTo (now (image .entry)) (now (table .entry)) (now (state .entry)) (step (t .0))) (now (state .exit)) a ⌝ }
 {
-    let registers = w.registers;
-    let d = read_data(state, block_of(r[1]), w.present, &registers, r);
-    if d.trap != 0 {
-        return trapped(image, table, state, t, d.trap);
+    let mut values = [0u16; Thread::REGISTERS];
+    let trap = read_data(state, block_of(r[1]), t, w.present, r, &mut values);
+    if trap != 0 {
+        return trapped(image, table, state, t, trap);
     }
-    let values = d.values;
-    moved(state, t, w.transfer(label_of(get16(r, 4)), values, d.count))
+    let next = w.transfer(label_of(get16(r, 4)), r[8]);
+    write_transferred(state, t, next, &values, wide(r[8]));
+    Answer::Moved
 }
 
 pub fn give_back(
@@ -49,14 +53,17 @@ pub fn give_back(
     requires { ⌜ At (now image) (now table) (now state) (t .0) w (now r) × (statementOf (now r) ≡ Return) ⌝ }
     ensures { λ a. ⌜ Done (replyTo (now (image .entry)) (now (table .entry)) (now (state .entry)) (step (t .0))) (now (state .exit)) a ⌝ }
 {
-    let registers = w.registers;
-    let d = read_data(state, block_of(r[1]), w.present, &registers, r);
-    if d.trap != 0 {
-        return trapped(image, table, state, t, d.trap);
+    let mut values = [0u16; Thread::REGISTERS];
+    let trap = read_data(state, block_of(r[1]), t, w.present, r, &mut values);
+    if trap != 0 {
+        return trapped(image, table, state, t, trap);
     }
     if w.depth == 0 {
         return trapped(image, table, state, t, NO_RETURN_LABEL);
     }
-    let values = d.values;
-    moved(state, t, w.return_to_caller(values, d.count))
+    let newest = w.depth - 1;
+    let label = label_of(read_return(state, t, newest));
+    let next = w.return_to_caller(label, r[8]);
+    write_called(state, t, next, newest, 0, &values, wide(r[8]));
+    Answer::Moved
 }

@@ -16,27 +16,19 @@ ghost use Rattle.rules.specs.Statements.{statementOf};
 ghost use Rattle.rules.specs.declared.statement.Statement.the-variants.{Skip};
 ghost use Rattle.encoding.specs.Encoded.{Encodes, Canonical};
 ghost use Rattle.encoding.specs.Stores.{withThread};
-ghost use Rattle.threads.specs.Threads.{stateOf, Tidy, Running, job, returnsOf, registersOf};
+ghost use Rattle.threads.specs.Whole.{whole};
+ghost use Rattle.threads.specs.Threads.{Running, job, returnsOf, registersOf};
 ghost use Rattle.ready.specs.Ready.{Done, replyTo};
 ghost use Rattle.ready.specs.At.{At};
 
-// The thread comes back as its step leaves it, and the answer is 6.
-pub fn moved(state: &mut [u8], t: Thread, w: ThreadState) -> Answer
-    requires { ⌜ Canonical (now state) × (t .0 < 8) × Tidy w ⌝ }
-    ensures { λ a. ⌜ a ≡ Answer.Moved ⌝ }
-    ensures { λ _. ⌜ Encodes (now (state .exit)) (withThread (machineFrom (now (state .entry))) (t .0) (stateOf w)) ⌝ }
-{
-    write_thread(state, t, w);
-    Answer::Moved
-}
-
 // The thread goes on at the label in a field of its record, with its registers.
 pub fn go_on(state: &mut [u8], t: Thread, w: ThreadState, r: &[u8], field: usize) -> Answer
-    requires { ⌜ Canonical (now state) × (t .0 < 8) × Running w × (field + 1 < length (now r)) × (num16 (drop field (now r)) < 65535) ⌝ }
+    requires { ⌜ Canonical (now state) × (t .0 < 8) × Running (whole (now state) (t .0) w) × (field + 1 < length (now r)) × (num16 (drop field (now r)) < 65535) ⌝ }
     ensures { λ a. ⌜ a ≡ Answer.Moved ⌝ }
-    ensures { λ _. ⌜ Encodes (now (state .exit)) (withThread (machineFrom (now (state .entry))) (t .0) (running (w .locks) (job (num16 (drop field (now (r .entry)))) (returnsOf w) (registersOf w)))) ⌝ }
+    ensures { λ _. ⌜ Encodes (now (state .exit)) (withThread (machineFrom (now (state .entry))) (t .0) (running (w .locks) (job (num16 (drop field (now (r .entry)))) (returnsOf (whole (now (state .entry)) (t .0) w)) (registersOf (whole (now (state .entry)) (t .0) w))))) ⌝ }
 {
-    moved(state, t, w.move_on(label_of(get16(r, field))))
+    write_thread(state, t, w.move_on(label_of(get16(r, field))));
+    Answer::Moved
 }
 
 pub fn skip(

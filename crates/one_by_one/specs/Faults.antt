@@ -1,14 +1,14 @@
 -- What it says that no refusal applies: of a list of refusals, of one test, and of a test at each of n places.
-use mathlib.Core.Path.{_≡_, refl, ap, _∙_}
+use mathlib.Core.Path.{_≡_, refl, sym, ap, _∙_}
 use mathlib.Core.Bool.{Bool, true, false, cond, _&&_, false≢true}
-use mathlib.Core.List.{List, _∷_}
+use mathlib.Core.List.{List, [], _∷_, _++_}
 use Prim.Native.Nat.{ℕ, zero, suc, _+_, _<_}
 use native.Mathlib.Nat.{zero-add}
 use native.Mathlib.Omega.{arith}
 use lib.Dec.{eqb}
 use borrow.Author.Tests.{eqb-true, eqb-false}
 use Rattle.rules.specs.Bytes.{firstBad}
-use Rattle.rules.specs.Check.{refusal, firstFault, firstOf}
+use Rattle.rules.specs.Check.{refusal, firstFault, firstOf, imageFaults, Checked}
 
 pub and-both : (a b : Bool) → a && b ≡ true → (a ≡ true) × (b ≡ true)
 and-both true b h = (refl, h)
@@ -22,6 +22,31 @@ first-of-zero x xs h = case (eqb x 0) refl h
     case : (b : Bool) → eqb x 0 ≡ b → cond b (firstOf xs) x ≡ 0 → (x ≡ 0) × (firstOf xs ≡ 0)
     case true e k = (eqb-true x 0 e, k)
     case false e k = absurd (eqb-false x 0 e k)
+
+-- the same of the first of two lists, and of the other
+first-of-part : (xs more : List ℕ) → firstOf (xs ++ more) ≡ 0 → firstOf xs ≡ 0
+unfolding firstOf
+first-of-part [] more h = refl
+first-of-part (x ∷ xs) more h =
+    let k : (x ≡ 0) × (firstOf (xs ++ more) ≡ 0) = first-of-zero x (xs ++ more) h in
+    rw (k .0) (first-of-part xs more (k .1))
+
+first-of-rest : (xs more : List ℕ) → firstOf xs ≡ 0 → firstOf (xs ++ more) ≡ firstOf more
+unfolding firstOf
+first-of-rest [] more h = refl
+first-of-rest (x ∷ xs) more h =
+    let k : (x ≡ 0) × (firstOf xs ≡ 0) = first-of-zero x xs h in
+    rw (k .0) (first-of-rest xs more (k .1))
+
+-- a call on a checked image is refused by its own refusals alone
+pub checked-rest : (image table more : List ℕ) → Checked image table → firstOf (imageFaults image table more) ≡ firstOf more
+checked-rest image table more h = first-of-rest (imageFaults image table []) more h
+
+-- the image and the table of a call that is not refused pass the check, whatever refusals it has besides, and none of those applies
+pub checked-of : (image table more : List ℕ) → firstOf (imageFaults image table more) ≡ 0 → Checked image table × (firstOf more ≡ 0)
+checked-of image table more h =
+    let k : Checked image table = first-of-part (imageFaults image table []) more h in
+    (k, sym (checked-rest image table more k) ∙ h)
 
 pub refusal-zero : (ok : Bool) (number place : ℕ) → 0 < number → refusal ok number place ≡ 0 → ok ≡ true
 refusal-zero true number place n h = refl

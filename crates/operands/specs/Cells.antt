@@ -1,10 +1,10 @@
 -- What a statement reads from: a thread's registers, by their presence set and values, and the words of a block in the state's bytes.
 use mathlib.Core.Path.{_≡_, refl, _∙_}
-use mathlib.Core.Bool.{true, false, cond}
-use mathlib.Core.Option.{Option, none, some}
+use mathlib.Core.Bool.{true, false}
+use mathlib.Core.Option.{none}
 use mathlib.Core.List.{List}
-use Prim.Native.Nat.{ℕ, zero, suc, _+_, _*_, _<_}
-use native.Mathlib.Nat.{add-zero, add-suc, suc-add, zero-add}
+use Prim.Native.Nat.{ℕ, _+_, _*_, _<_}
+use native.Mathlib.Nat.{zero-add}
 use native.Mathlib.Omega.{arith}
 use lib.ListN.{getD, drop}
 use Rattle.rules.specs.Sizes.{blockCount, wordCount, registerCount}
@@ -13,17 +13,12 @@ use Rattle.rules.specs.Machine.{window}
 use Rattle.rules.specs.Encoding.{registerOf, registersFrom, wordsFrom}
 use Rattle.rules.specs.Effects.{Cells, read, trap, got}
 use Rattle.rules.specs.declared.statement.Operand.the-variants.{Register}
+use Rattle.encoding.specs.Registers.{register-at}
 use Rattle.encoding.specs.Runs.{chunks-at}
 use Rattle.turns.specs.Same.{window-at}
 
 abbrev pub cellsFrom : List ℕ → ℕ → ℕ → List ℕ → Cells
 cellsFrom state block present registers = record { registers = registersFrom present registers 0 registerCount; words = window block (wordsFrom state) }
-
-register-at : (present : ℕ) (values : List ℕ) (r n i : ℕ) → i < n → getD (registersFrom present values r n) i none ≡ registerOf present values (r + i)
-unfolding registersFrom
-register-at present values r zero i h = absurd (omega arith)
-register-at present values r (suc n) zero h = rw add-zero refl
-register-at present values r (suc n) (suc i) h = rw (add-suc, ← suc-add) (register-at present values (suc r) n i (omega arith))
 
 pub word-read : (state : List ℕ) (block w : ℕ) → block < blockCount → w < wordCount → getD (window block (wordsFrom state)) w 0 ≡ num16 (drop (2 * (wordCount * block + w)) state)
 unfolding wordsFrom

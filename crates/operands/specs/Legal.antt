@@ -1,24 +1,23 @@
 -- What a record that breaks no rule has: its block is one of the table's, its operands are within limits, and each label that it uses
 -- is below n.
-use mathlib.Core.Path.{_≡_, refl, sym, ap, _∙_, subst}
-use mathlib.Core.Bool.{Bool, true, false, cond, _&&_, _||_, false≢true}
+use mathlib.Core.Path.{_≡_, refl, ap, _∙_}
+use mathlib.Core.Bool.{Bool, true, false, cond, _&&_, _||_}
 use mathlib.Core.Logic.{_⊎_, inl, inr}
 use mathlib.Core.List.{List}
-use Prim.Native.Nat.{ℕ, zero, suc, _+_, _*_, _≤_, _<_}
+use Prim.Native.Nat.{ℕ, zero, suc, _+_, _<_}
 use native.Mathlib.Omega.{arith}
-use lib.Dec.{eqb, leb, ltb}
-use borrow.Author.Tests.{eqb-true, ltb-true, leb-true, lt-ltb, le-ltb}
-use Rattle.rules.specs.Sizes.{blockCount, operandCount, registerCount, wordCount}
+use lib.Dec.{eqb, ltb}
+use borrow.Author.Tests.{eqb-true, ltb-true, lt-ltb}
+use Rattle.rules.specs.Sizes.{operandCount, registerCount, wordCount}
 use Rattle.rules.specs.Bytes.{allFrom}
-use Rattle.rules.specs.Image.{labels, recordAt, opcode, blockField, entry, operator, labelA, labelB, operands, kind, value}
-use Rattle.rules.specs.Statements.{operandOf, operandAt, statementOf, roleA, roleB}
-use Rattle.rules.specs.Check.{headOk, operatorOk, countOk, operandOk, slotOk, roleOk, labelOk}
+use Rattle.rules.specs.Image.{labels, recordAt, entry, operands, kind, value}
+use Rattle.rules.specs.Statements.{operandOf, operandAt}
+use Rattle.rules.specs.Check.{operandOk, slotOk, labelOk}
 use Rattle.rules.specs.declared.statement.Operand.{Operand}
 use Rattle.rules.specs.declared.statement.Operand.the-variants.{Number, Register, Word}
 use Rattle.rules.specs.declared.statement.Role.{Role}
 use Rattle.rules.specs.declared.statement.Role.the-variants.{Unused, Inner, Direct, Local, Buffered}
 use Rattle.one_by_one.specs.Faults.{and-both}
-use Rattle.one_by_one.specs.Passed.{Parts}
 
 -- a register 0 to 24, a shared word 0 to 15, or any number
 abbrev pub Fits : Operand → Type 0

@@ -1,7 +1,7 @@
 -- Readings as the code has them.
 use mathlib.Core.Path.{_≡_}
 use mathlib.Core.List.{List}
-use Prim.Native.Nat.{ℕ, _≤_, _<_}
+use Prim.Native.Nat.{ℕ, _≤_}
 use mathlib.Core.Option.{Option, none, some}
 use lib.ListN.{length, take, getD}
 use Rattle.rules.specs.Sizes.{operandCount}
@@ -12,20 +12,19 @@ use Rattle.rules.specs.declared.statement.Operand.the-variants.{Number, Registe
 use Rattle.one_by_one.specs.Invariant.{never}
 use Rattle.operands.specs.declared.Reading.{Reading}
 use Rattle.operands.specs.declared.Reading.the-variants.{Value, Trap}
-use Rattle.operands.specs.declared.Data.{Data}
 
 abbrev pub readingOf : Got ℕ → Reading
 readingOf (trap r) = Trap r
 readingOf (got v) = Value v
 
--- the values that were read, or the reason of the trap, which is never 0
-pub record Reads (g : Got (List ℕ)) (d : Data) : Type 0 where
-  pub few : d .count ≤ operandCount
-  pub values : d .trap ≡ 0 → g ≡ got (take (d .count) (d .values))
-  pub trapped : (d .trap ≡ 0 → ⊥) → g ≡ trap (d .trap)
-  pub sized : length (d .values) ≡ operandCount
+-- the first n of vs are the values that were read, where the reason is 0; any other is the reason of the trap
+pub record Reads (g : Got (List ℕ)) (reason n : ℕ) (vs : List ℕ) : Type 0 where
+  pub few : n ≤ operandCount
+  pub values : reason ≡ 0 → g ≡ got (take n vs)
+  pub trapped : (reason ≡ 0 → ⊥) → g ≡ trap reason
+  pub sized : length vs ≡ operandCount
   -- the others are zero
-  pub zeros : d .trap ≡ 0 → pad 0 operandCount (take (d .count) (d .values)) ≡ d .values
+  pub zeros : reason ≡ 0 → pad 0 operandCount (take n vs) ≡ vs
 
 pub reading-value : (g : Got ℕ) (v : ℕ) → readingOf g ≡ Value v → g ≡ got v
 reading-value (trap r) v e = never (cc)

@@ -1,16 +1,16 @@
 -- What the statement of a record that breaks no rule has: the opcode that it says, operands within limits, and for an assignment a
 -- register or a shared word as its destination.
-use mathlib.Core.Path.{_≡_, refl, sym, ap, _∙_, subst}
+use mathlib.Core.Path.{_≡_, refl, subst}
 use mathlib.Core.Bool.{Bool, true, false, cond, _&&_, _||_, false≢true}
 use mathlib.Core.Logic.{_⊎_, inl, inr}
-use mathlib.Core.List.{List, [], _∷_}
-use Prim.Native.Nat.{ℕ, zero, suc, _+_, _*_, _≤_, _<_}
+use mathlib.Core.List.{List}
+use Prim.Native.Nat.{ℕ, zero, suc, _≤_, _<_}
 use native.Mathlib.Omega.{arith}
 use lib.Dec.{eqb, leb, ltb}
-use borrow.Author.Tests.{eqb-true, ltb-true, leb-true, eq-eqb}
+use borrow.Author.Tests.{eqb-true, ltb-true, leb-true}
 use Rattle.rules.specs.Sizes.{blockCount, operandCount, registerCount, wordCount}
-use Rattle.rules.specs.Image.{opcode, blockField, entry, operator, labelA, labelB, operands, kind, value}
-use Rattle.rules.specs.Statements.{operandOf, operandAt, valueOf, assignmentOf, conditionOf, statementOf}
+use Rattle.rules.specs.Image.{opcode, blockField, entry, operator, operands, kind, value}
+use Rattle.rules.specs.Statements.{operandOf, operandAt, assignmentOf, conditionOf, statementOf}
 use Rattle.rules.specs.Check.{headOk, operatorOk, countOk}
 use Rattle.rules.specs.declared.statement.Operand.{Operand}
 use Rattle.rules.specs.declared.statement.Operand.the-variants.{Number, Register, Word}
@@ -19,7 +19,6 @@ use Rattle.rules.specs.declared.statement.Condition.{Condition}
 use Rattle.rules.specs.declared.statement.Statement.{Statement}
 use Rattle.rules.specs.declared.statement.Statement.the-variants.{Skip, Assign, If, SendDirect, SendBuffered, Call, Return, Transfer, Exit}
 use Rattle.one_by_one.specs.Faults.{and-both}
-use Rattle.one_by_one.specs.Invariant.{never}
 use Rattle.one_by_one.specs.Passed.{Parts}
 use Rattle.operands.specs.Legal.{Fits, slot-fits, or-cases}
 

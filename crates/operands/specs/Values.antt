@@ -1,7 +1,7 @@
 -- Two operands read, and what ASSIGN stores.
-use mathlib.Core.Path.{_≡_, refl, sym, ap, _∙_}
+use mathlib.Core.Path.{_≡_, refl}
 use mathlib.Core.List.{List, [], _∷_}
-use Prim.Native.Nat.{ℕ, _<_}
+use Prim.Native.Nat.{ℕ}
 use lib.ListN.{getD}
 use Rattle.rules.specs.Statements.{sources}
 use Rattle.rules.specs.Effects.{Got, trap, got, then, Cells, read, readAll, join, compute}

@@ -1,23 +1,25 @@
-// The operands of a statement, read from a thread's registers and from the shared words of the statement's own block.
-use fields::read::get16;
+// The operands of a statement, read in place from a state's bytes: a thread's registers, and the shared words of the statement's own block.
 use fields::read::wide;
 use image::decode::operand_at;
 use rules::sorts::Block;
-use rules::sorts::block_number;
+use rules::sorts::Thread;
 use rules::statement::Operand;
 use rules::statement::Operator;
 use rules::statement::Value;
+use state::thread_records::read_register;
+use state::words::read_word;
 ghost use mathlib.Core.Path.{_≡_};
 ghost use mathlib.Core.Bool.{true};
-ghost use mathlib.Core.List.{[], _∷_, List};
+ghost use mathlib.Core.List.{[], _∷_};
 ghost use Prim.Native.Nat.{_<_, _≤_};
-ghost use lib.ListN.{length, take};
+ghost use lib.ListN.{length, replicate};
 ghost use Rattle.rules.specs.Sizes.{operandCount};
 ghost use Rattle.rules.specs.Bytes.{allFrom};
 ghost use Rattle.rules.specs.Image.{operands};
 ghost use Rattle.rules.specs.Statements.{dataOf, sources};
 ghost use Rattle.rules.specs.Check.{slotOk};
 ghost use Rattle.rules.specs.Effects.{got, join, read, readAll};
+ghost use Rattle.encoding.specs.Slots.{registersIn};
 ghost use Rattle.operands.specs.Readings.{readingOf, Reads};
 ghost use Rattle.operands.specs.Legal.{Fits};
 ghost use Rattle.operands.specs.Cells.{cellsFrom};
@@ -32,70 +34,51 @@ pub enum Reading {
 // The reason of a trap: an absent register is read.
 pub const ABSENT: u8 = 1;
 
-// An operand, read. The registers are given by their presence set and their values.
-pub fn read_operand(
-    state: &[u8],
-    block: Block,
-    present: u32,
-    registers: &[u16; 25],
-    p: Operand,
-) -> Reading
-    requires { ⌜ (length (now state) ≡ 7929) × (block .0 < 16) × Fits p ⌝ }
-    ensures { λ r. ⌜ r ≡ readingOf (read (cellsFrom (now (state .entry)) (block .0) present (now (registers .entry))) p) ⌝ }
+// An operand, read. `present` is the set of the thread's registers that are present.
+pub fn read_operand(state: &[u8], block: Block, t: Thread, present: u32, p: Operand) -> Reading
+    requires { ⌜ (length (now state) ≡ 7929) × (block .0 < 16) × (t .0 < 8) × Fits p ⌝ }
+    ensures { λ r. ⌜ r ≡ readingOf (read (cellsFrom (now (state .entry)) (block .0) present (registersIn (now (state .entry)) (t .0))) p) ⌝ }
 {
     match p {
         Operand::Number(v) => Reading::Value(v),
         Operand::Register(r) => {
             if (present >> r) % 2 == 1 {
-                Reading::Value(registers[r as usize])
+                Reading::Value(read_register(state, t, r))
             } else {
                 Reading::Trap(ABSENT)
             }
         }
-        Operand::Word(w) => {
-            Reading::Value(get16(
-                state,
-                2 * (16 * (block_number(block) as usize) + (w as usize)),
-            ))
-        }
+        Operand::Word(w) => Reading::Value(read_word(state, block, w)),
     }
 }
 
-// The data operands of a record, read left to right: as many values as there are, or the reason of the trap that reading them makes.
-pub struct Data {
-    pub values: [u16; 25],
-    pub count: u8,
-    pub trap: u8,
-}
-
-pub fn read_data(state: &[u8], block: Block, present: u32, registers: &[u16; 25], r: &[u8]) -> Data
-    requires { ⌜ (length (now state) ≡ 7929) × (block .0 < 16) × (length (now r) ≡ 84) × (operands (now r) ≤ 25) × (allFrom (slotOk (now r)) 0 operandCount ≡ true) ⌝ }
-    ensures { λ d. ⌜ Reads (readAll (cellsFrom (now (state .entry)) (block .0) present (now (registers .entry))) (dataOf (now (r .entry)))) d ⌝ }
+// The data operands of a record, read left to right: their values are stored from place 0 on, and the answer is 0, or the reason of the
+// trap that reading them makes.
+pub fn read_data(
+    state: &[u8],
+    block: Block,
+    t: Thread,
+    present: u32,
+    r: &[u8],
+    values: &mut [u16; 25],
+) -> u8
+    requires { ⌜ (length (now state) ≡ 7929) × (block .0 < 16) × (t .0 < 8) × (length (now r) ≡ 84) × (operands (now r) ≤ 25) × (allFrom (slotOk (now r)) 0 operandCount ≡ true) × (now values ≡ replicate 25 0) ⌝ }
+    ensures { λ reason. ⌜ Reads (readAll (cellsFrom (now (state .entry)) (block .0) present (registersIn (now (state .entry)) (t .0))) (dataOf (now (r .entry)))) reason (operands (now (r .entry))) (now (values .exit)) ⌝ }
 {
-    let count = r[8];
-    let n = wide(count);
-    let mut values = [0u16; 25];
+    let n = wide(r[8]);
     let mut k = 0;
     while k < n {
-        match read_operand(state, block, present, registers, operand_at(r, k)) {
+        match read_operand(state, block, t, present, operand_at(r, k)) {
             Reading::Value(v) => {
                 values[k] = v;
             }
             Reading::Trap(reason) => {
-                return Data {
-                    values: values,
-                    count: count,
-                    trap: reason,
-                };
+                return reason;
             }
         }
         k += 1;
     }
-    Data {
-        values: values,
-        count: count,
-        trap: 0,
-    }
+    0
 }
 
 // Two operands, read left to right: their values, or the reason of the trap that reading them makes.
@@ -108,21 +91,21 @@ pub struct Pair {
 pub fn read_pair(
     state: &[u8],
     block: Block,
+    t: Thread,
     present: u32,
-    registers: &[u16; 25],
     p: Operand,
     q: Operand,
 ) -> Pair
-    requires { ⌜ (length (now state) ≡ 7929) × (block .0 < 16) × Fits p × Fits q ⌝ }
-    ensures { λ d. ⌜ ReadsPair (readAll (cellsFrom (now (state .entry)) (block .0) present (now (registers .entry))) (p ∷ q ∷ [])) d ⌝ }
+    requires { ⌜ (length (now state) ≡ 7929) × (block .0 < 16) × (t .0 < 8) × Fits p × Fits q ⌝ }
+    ensures { λ d. ⌜ ReadsPair (readAll (cellsFrom (now (state .entry)) (block .0) present (registersIn (now (state .entry)) (t .0))) (p ∷ q ∷ [])) d ⌝ }
 {
-    match read_operand(state, block, present, registers, p) {
+    match read_operand(state, block, t, present, p) {
         Reading::Trap(reason) => Pair {
             left: 0,
             right: 0,
             trap: reason,
         },
-        Reading::Value(left) => match read_operand(state, block, present, registers, q) {
+        Reading::Value(left) => match read_operand(state, block, t, present, q) {
             Reading::Trap(reason) => Pair {
                 left: 0,
                 right: 0,
@@ -151,20 +134,14 @@ pub fn joined(o: Operator, p: u16, q: u16) -> u16
 }
 
 // What ASSIGN stores, or the reason of the trap that working it out makes.
-pub fn evaluate(
-    state: &[u8],
-    block: Block,
-    present: u32,
-    registers: &[u16; 25],
-    v: Value,
-) -> Reading
-    requires { ⌜ (length (now state) ≡ 7929) × (block .0 < 16) × FitAll (sources v) ⌝ }
-    ensures { λ r. ⌜ r ≡ readingOf (evaluated (cellsFrom (now (state .entry)) (block .0) present (now (registers .entry))) v) ⌝ }
+pub fn evaluate(state: &[u8], block: Block, t: Thread, present: u32, v: Value) -> Reading
+    requires { ⌜ (length (now state) ≡ 7929) × (block .0 < 16) × (t .0 < 8) × FitAll (sources v) ⌝ }
+    ensures { λ r. ⌜ r ≡ readingOf (evaluated (cellsFrom (now (state .entry)) (block .0) present (registersIn (now (state .entry)) (t .0))) v) ⌝ }
 {
     match v {
-        Value::Copy(p) => read_operand(state, block, present, registers, p),
+        Value::Copy(p) => read_operand(state, block, t, present, p),
         Value::Join(o, p, q) => {
-            let pair = read_pair(state, block, present, registers, p, q);
+            let pair = read_pair(state, block, t, present, p, q);
             if pair.trap != 0 {
                 Reading::Trap(pair.trap)
             } else {

@@ -1,15 +1,15 @@
 -- What a call that is not refused has been lent, and what a refused one leaves.
 use mathlib.Core.Path.{_≡_, refl, sym}
-use mathlib.Core.Bool.{Bool, true, _&&_}
-use mathlib.Core.List.{List, [], _∷_}
+use mathlib.Core.Bool.{true}
+use mathlib.Core.List.{List, _∷_}
 use Prim.Native.Nat.{ℕ, _*_, _<_}
 use native.Mathlib.Omega.{arith}
-use lib.Dec.{eqb, leb, ltb}
+use lib.Dec.{eqb, leb}
 use lib.ListN.{length}
 use borrow.Author.Tests.{eqb-true, ne-eqb, ltb-true}
 use Rattle.rules.specs.Sizes.{wordsSize, stateSize, eventSize, answerSize, eventCount, threadCount}
 use Rattle.rules.specs.Bytes.{blocks}
-use Rattle.rules.specs.Check.{Checked, firstOf, imageFaults}
+use Rattle.rules.specs.Check.{firstOf, imageFaults}
 use Rattle.rules.specs.Machine.{fresh}
 use Rattle.rules.specs.Encoding.{encode, wordsFrom, machineFrom}
 use Rattle.rules.specs.WellFormed.{stateTidy, machineOk, wellFormed}
@@ -18,7 +18,7 @@ use Rattle.rules.specs.Events.{eventsIn, eventsFrom, eventsLengthOk, eventAtOk}
 use Rattle.rules.specs.Steps.{rulesBy, answers, final}
 use Rattle.rules.specs.Walk.{walkFrom, metBytes, metCount}
 use Rattle.rules.specs.Calls.{stateLengthFault, stateFault, eventsLengthFault, eventFault, answersLengthFault, wordsLengthFault, threadFault, metLengthFault, freshReturn, freshState, runReturn, runState, runAnswers, walkFault, walkReturn, walkMet}
-use Rattle.one_by_one.specs.Faults.{and-both, first-of-zero, refusal-zero, fault-free}
+use Rattle.one_by_one.specs.Faults.{and-both, first-of-zero, refusal-zero, fault-free, checked-of}
 use Rattle.encoding.specs.Sized.{Sized}
 use Rattle.encoding.specs.Numbers.{AreBytes}
 use Rattle.encoding.specs.Machines.{machine-forth, machine-sized}
@@ -27,25 +27,12 @@ use Rattle.invariants.specs.Sound.{sound-of}
 use Rattle.ready.specs.Ready.{Ready}
 use Rattle.engine.specs.Runs.{Events}
 
--- the image and the table of a call that is not refused pass the check
-none-apply : (a b c d : ℕ) → a ≡ 0 → b ≡ 0 → c ≡ 0 → d ≡ 0 → firstOf (a ∷ b ∷ c ∷ d ∷ []) ≡ 0
-unfolding firstOf
-none-apply a b c d p q r s = rw (p, q, r, s) refl
-
-checked : (image table more : List ℕ) → firstOf (imageFaults image table more) ≡ 0 → Checked image table × (firstOf more ≡ 0)
-checked image table more h =
-    let one = first-of-zero _ _ h in
-    let two = first-of-zero _ _ (one .1) in
-    let three = first-of-zero _ _ (two .1) in
-    let four = first-of-zero _ _ (three .1) in
-    (none-apply _ _ _ _ (one .0) (two .0) (three .0) (four .0), four .1)
-
--- and its state is one that an event can be carried out on
+-- the state of a call that is not refused is one that an event can be carried out on
 machine-lent : (image table state more : List ℕ) → AreBytes state → firstOf (imageFaults image table (stateLengthFault state ∷ stateFault image table state ∷ more)) ≡ 0
     → Ready image table state × (firstOf more ≡ 0)
 unfolding stateLengthFault stateFault wellFormed
 machine-lent image table state more bytes h =
-    let four = checked image table _ h in
+    let four = checked-of image table _ h in
     let five = first-of-zero _ _ (four .1) in
     let six = first-of-zero _ _ (five .1) in
     let size : length state ≡ stateSize = eqb-true (length state) stateSize (refusal-zero _ 5 0 (omega arith) (five .0)) in
@@ -74,7 +61,7 @@ module _ (image table words state : List ℕ) where
     pub fresh-lengths : (length words ≡ wordsSize) × (length state ≡ stateSize)
     unfolding freshReturn stateLengthFault wordsLengthFault
     fresh-lengths =
-        let five = first-of-zero _ _ (checked image table _ h .1) in
+        let five = first-of-zero _ _ (checked-of image table _ h .1) in
         let ten = first-of-zero _ _ (five .1) in
         (eqb-true (length words) wordsSize (refusal-zero _ 10 0 (omega arith) (ten .0)), eqb-true (length state) stateSize (refusal-zero _ 5 0 (omega arith) (five .0)))
 
@@ -130,7 +117,7 @@ module _ (image table state : List ℕ) (t : ℕ) (met : List ℕ) where
     pub walk-thread : t < threadCount
     unfolding walkFault threadFault
     walk-thread =
-        let five = first-of-zero _ _ (checked image table _ h .1) in
+        let five = first-of-zero _ _ (checked-of image table _ h .1) in
         let six = first-of-zero _ _ (five .1) in
         let eleven = first-of-zero _ _ (six .1) in
         ltb-true t threadCount (refusal-zero _ 11 0 (omega arith) (eleven .0))

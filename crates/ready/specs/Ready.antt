@@ -1,11 +1,10 @@
 -- A state that an event can be carried out on: the image and the table have passed the check, and the bytes are those of a well-formed
 -- machine. Every accepted event leaves such a state.
-use mathlib.Core.Path.{_≡_, refl, sym, ap, _∙_, subst}
+use mathlib.Core.Path.{_≡_, sym, ap, _∙_}
 use mathlib.Core.List.{List}
 use Prim.Native.Nat.{ℕ, _*_, _+_, _<_}
-use lib.ListN.{length, drop}
+use lib.ListN.{drop}
 use Rattle.rules.specs.Sizes.{threadCount, wordsSize, threadSize}
-use Rattle.rules.specs.Bytes.{le16}
 use Rattle.rules.specs.Check.{Checked}
 use Rattle.rules.specs.Machine.{Machine, threadAt}
 use Rattle.rules.specs.Encoding.{machineFrom}
@@ -14,11 +13,12 @@ use Rattle.rules.specs.Steps.{rulesBy, Reply, react}
 use Rattle.rules.specs.declared.answer.Answer.{Answer}
 use Rattle.fields.specs.Put.{put}
 use Rattle.encoding.specs.Encoded.{Encodes, Canonical, encoded-machine, encoded-canonical}
-use Rattle.encoding.specs.Stores.{withThread, withWord}
+use Rattle.encoding.specs.Stores.{withThread}
 use Rattle.invariants.specs.Sound.{Sound}
 use Rattle.invariants.specs.StaysWellFormed.{Accepted, sound-react}
 use Rattle.threads.specs.Threads.{stateOf, Tidy, Says}
-use Rattle.threads.specs.Records.{rawThread, rawBytes}
+use Rattle.threads.specs.Whole.{Whole, whole}
+use Rattle.threads.specs.Records.{headOf, rawThread, rawBytes, whole-read}
 use Rattle.threads.specs.declared.thread.ThreadState.{ThreadState}
 use Rattle.state.specs.Records.{thread-read, thread-written}
 
@@ -53,8 +53,8 @@ module _ {image table b : List ℕ} (h : Ready image table b) where
   }
 
   -- thread t, read and written
-  pub says : (t : ℕ) {w : ThreadState} → t < threadCount → w ≡ rawThread (drop (wordsSize + threadSize * t) b) → Says w (threadAt (machineFrom b) t)
-  says t l e = rw e (thread-read b (machineFrom b) (h .canonical) t l)
+  pub says : (t : ℕ) {w : ThreadState} → t < threadCount → w ≡ headOf (rawThread (drop (wordsSize + threadSize * t) b)) → Says (whole b t w) (threadAt (machineFrom b) t)
+  says t l e = rw (e, whole-read b t) (thread-read b (machineFrom b) (h .canonical) t l)
 
-  pub written : (t : ℕ) (w : ThreadState) {b′ : List ℕ} → t < threadCount → Tidy w → b′ ≡ put b (wordsSize + threadSize * t) (rawBytes w) → Encodes b′ (withThread (machineFrom b) t (stateOf w))
+  pub written : (t : ℕ) (w : Whole) {b′ : List ℕ} → t < threadCount → Tidy w → b′ ≡ put b (wordsSize + threadSize * t) (rawBytes w) → Encodes b′ (withThread (machineFrom b) t (stateOf w))
   written t w l z e = thread-written b (machineFrom b) (h .canonical) t w l z e

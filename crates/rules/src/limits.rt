@@ -1,5 +1,6 @@
 // The limits of document 01, each at the thing that it limits.
 use crate::sorts::Block;
+use crate::sorts::Label;
 use crate::sorts::Thread;
 
 pub struct Image {}
@@ -18,6 +19,11 @@ impl Table {
     pub const ROW: usize = 2;
 
     pub const BYTES: usize = 32;
+}
+
+// The label of an idle thread.
+impl Label {
+    pub const IDLE: u16 = 65535;
 }
 
 impl Thread {

@@ -21,8 +21,8 @@ pub enum Value {
 }
 
 pub struct Assignment {
-    pub destination: Operand,
     pub value: Value,
+    pub destination: Operand,
 }
 
 pub enum Relation {

@@ -3,6 +3,7 @@ use fields::read::get16;
 use image::records::block_at;
 use image::table::thread_at;
 use rules::answer::Answer;
+use rules::layout::EVENT;
 use rules::limits::Tree;
 use rules::sorts::label_of;
 use trees::list::append;
@@ -14,9 +15,7 @@ ghost use Rattle.rules.specs.Events.{eventFrom};
 ghost use Rattle.ready.specs.Ready.{Ready, Done, replyTo};
 ghost use Rattle.sending.specs.Arrivals.{EventAt};
 
-// An event, and its signal after kind and thread.
-pub const EVENT: usize = 55;
-
+// An event's signal stands after its kind and thread.
 const SIGNAL_AT: usize = 2;
 
 // The arrival at an index of the events.

@@ -2,7 +2,6 @@
 use ending::trapped;
 use fields::read::get16;
 use moves::onward::go_on;
-use operands::Data;
 use operands::read_data;
 use rules::answer::Answer;
 use rules::limits::Tree;
@@ -39,23 +38,23 @@ fn buffer(
     w: ThreadState,
     r: &[u8],
     i: usize,
-    d: Data,
+    values: [u16; Thread::REGISTERS],
 ) -> Answer
-    requires { ⌜ At (now image) (now table) (now state) (t .0) w (now r) × (statementOf (now r) ≡ SendBuffered) × Given (now state) w (now r) d ⌝ }
+    requires { ⌜ At (now image) (now table) (now state) (t .0) w (now r) × (statementOf (now r) ≡ SendBuffered) × Given (now state) (t .0) w (now r) values ⌝ }
     requires { ⌜ (i ≡ firstTree (t .0) (machineFrom (now state) .trees)) × (length (pendingAt (machineFrom (now state)) i) < 8) ⌝ }
     ensures { λ a. ⌜ Done (replyTo (now (image .entry)) (now (table .entry)) (now (state .entry)) (step (t .0))) (now (state .exit)) a ⌝ }
 {
-    let values = d.values;
+    let a = go_on(state, t, w, r, 6);
     push(
         state,
         i,
         Signal {
             label: label_of(get16(r, 4)),
-            count: d.count,
+            count: r[8],
             values: values,
         },
     );
-    go_on(state, t, w, r, 6)
+    a
 }
 
 pub fn send_buffered(
@@ -69,14 +68,14 @@ pub fn send_buffered(
     requires { ⌜ At (now image) (now table) (now state) (t .0) w (now r) × (statementOf (now r) ≡ SendBuffered) ⌝ }
     ensures { λ a. ⌜ Done (replyTo (now (image .entry)) (now (table .entry)) (now (state .entry)) (step (t .0))) (now (state .exit)) a ⌝ }
 {
-    let registers = w.registers;
-    let d = read_data(state, block_of(r[1]), w.present, &registers, r);
-    if d.trap != 0 {
-        return trapped(image, table, state, t, d.trap);
+    let mut values = [0u16; Thread::REGISTERS];
+    let trap = read_data(state, block_of(r[1]), t, w.present, r, &mut values);
+    if trap != 0 {
+        return trapped(image, table, state, t, trap);
     }
     let i = first_tree(state, t);
     if Tree::PENDING <= pending(state, i) {
         return trapped(image, table, state, t, FULL);
     }
-    buffer(image, table, state, t, w, r, i, d)
+    buffer(image, table, state, t, w, r, i, values)
 }

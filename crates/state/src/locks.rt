@@ -1,11 +1,12 @@
 // The locks that threads hold: of each thread record only the lock set is read.
 use fields::read::get16;
 use fields::read::wide;
+use rules::layout::THREAD;
+use rules::layout::THREADS;
 use rules::sorts::Lock;
 use rules::sorts::Thread;
 use rules::sorts::lock_number;
 use rules::sorts::thread_number;
-use threads::thread::ThreadState;
 ghost use mathlib.Core.Path.{_≡_};
 ghost use Prim.Native.Nat.{_+_, _*_, _<_};
 ghost use lib.ListN.{length, set};
@@ -24,7 +25,7 @@ fn passed(state: &[u8], lock: Lock, out: usize, i: usize) -> bool
     if i == out {
         return true;
     }
-    let locks = get16(state, ThreadState::AT + ThreadState::SIZE * i + 2);
+    let locks = get16(state, THREADS + THREAD * i + 2);
     (locks >> lock_number(lock)) % 2 != 1
 }
 

@@ -1,6 +1,6 @@
 pub mod Bits
 pub mod Registers
 pub mod Returns
-pub mod Pass
+pub mod Whole
 pub mod Threads
 pub mod Records

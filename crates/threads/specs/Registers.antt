@@ -4,7 +4,7 @@ use mathlib.Core.Bool.{true, _||_}
 use mathlib.Core.Option.{Option, none, some}
 use mathlib.Core.List.{List, [], _∷_, _++_, map}
 use Prim.Native.Nat.{ℕ, zero, suc, _+_, _-_, _^_, _≤_, _<_}
-use native.Mathlib.Nat.{add-zero, add-suc, suc-add, zero-add}
+use native.Mathlib.Nat.{zero-add}
 use native.Mathlib.Decide.{decLt, ℕ-discrete}
 use native.Mathlib.Omega.{arith}
 use lib.Bits.{bitOr, or-lt}
@@ -16,14 +16,8 @@ use Rattle.rules.specs.Sizes.{registerCount}
 use Rattle.rules.specs.Bytes.{has}
 use Rattle.rules.specs.Machine.{fill}
 use Rattle.rules.specs.Encoding.{registerOf, registersFrom}
-use Rattle.encoding.specs.Registers.{length-registers}
+use Rattle.encoding.specs.Registers.{length-registers, register-at}
 use Rattle.threads.specs.Bits.{has-set, has-other, has-none, has-low, has-high, has-or-low, has-or-high}
-
-pub register-at : (present : ℕ) (values : List ℕ) (r n i : ℕ) → i < n → getD (registersFrom present values r n) i none ≡ registerOf present values (r + i)
-unfolding registersFrom
-register-at present values r zero i h = absurd (omega arith)
-register-at present values r (suc n) zero h = rw add-zero
-register-at present values r (suc n) (suc i) h = rw (add-suc, ← suc-add) (register-at present values (suc r) n i (omega arith))
 
 -- absent registers are zero
 abbrev pub AbsentZero : ℕ → List ℕ → Type 0

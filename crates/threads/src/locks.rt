@@ -3,27 +3,18 @@ use crate::thread::ThreadState;
 use rules::sorts::Lock;
 use rules::sorts::lock_number;
 ghost use mathlib.Core.Path.{_≡_};
-ghost use Prim.Native.Nat.{_^_, _<_};
-ghost use lib.Bits.{bitOr};
+ghost use Prim.Native.Nat.{_<_};
 ghost use lib.Count.{ones, trailingZeros};
-ghost use Rattle.rules.specs.Bytes.{has};
-ghost use Rattle.threads.specs.Threads.{Running, Runs, jobOf};
+ghost use Rattle.threads.specs.Threads.{holding};
 
 impl ThreadState {
     // One lock more is held.
     pub fn hold(mut self, lock: Lock) -> Self
-        requires { ⌜ Running self × (lock .0 < 16) ⌝ }
-        ensures { λ r. ⌜ Runs r (bitOr (self .locks) (2 ^ lock .0)) (jobOf self) ⌝ }
+        requires { ⌜ lock .0 < 16 ⌝ }
+        ensures { λ r. ⌜ r ≡ holding self (lock .0) ⌝ }
     {
         self.locks = self.locks | (1u16 << lock_number(lock));
         self
-    }
-
-    pub fn holds(self, lock: Lock) -> bool
-        requires { ⌜ lock .0 < 16 ⌝ }
-        ensures { λ r. ⌜ r ≡ has (lock .0) (self .locks) ⌝ }
-    {
-        (self.locks >> lock_number(lock)) % 2 == 1
     }
 
     // The number of locks held.

@@ -1,9 +1,4 @@
 // The pending signals of tree i, oldest first.
-use crate::layout::OLDEST;
-use crate::layout::PENDING;
-use crate::layout::SIGNAL;
-use crate::layout::TREE;
-use crate::layout::TREES;
 use crate::signals::Signal;
 use crate::signals::read_signal;
 use crate::signals::write_signal;
@@ -11,6 +6,11 @@ use fields::read::get8;
 use fields::read::get16;
 use fields::write::put8;
 use fields::write::remove;
+use rules::layout::OLDEST;
+use rules::layout::PENDING;
+use rules::layout::SIGNAL;
+use rules::layout::TREE;
+use rules::layout::TREES;
 use rules::sorts::Label;
 use rules::sorts::label_of;
 ghost use mathlib.Core.Path.{_≡_};

@@ -1,14 +1,14 @@
 -- What an arrival, a cut, and a step of an idle thread come to.
-use mathlib.Core.Path.{_≡_, refl, sym, ap, _∙_}
-use mathlib.Core.Bool.{Bool, true, false, cond}
-use mathlib.Core.Option.{Option, none, some}
-use mathlib.Core.List.{List, [], _∷_, _++_}
+use mathlib.Core.Path.{_≡_, refl, _∙_}
+use mathlib.Core.Bool.{true, false, cond}
+use mathlib.Core.Option.{none, some}
+use mathlib.Core.List.{List, _∷_}
 use Prim.Native.Nat.{ℕ, _^_}
 use lib.Bits.{bitOr}
-use lib.ListN.{length, set}
+use lib.ListN.{set}
 use Rattle.rules.specs.Sorts
-use Rattle.rules.specs.Machine.{Signal, Tree, Job, ThreadState, idle, running, Machine, threadAt, locksOf, first, put, treeThreads}
-use Rattle.rules.specs.Events.{Event, arrive, step, cut}
+use Rattle.rules.specs.Machine.{Signal, Job, ThreadState, idle, running, Machine, threadAt, first, put, treeThreads}
+use Rattle.rules.specs.Events.{arrive, step, cut}
 use Rattle.rules.specs.Steps.{Rules, Reply, Move, begin, home, founded, planArrive, planIdle, planStep, planCut, plan, held, blocked, finished, grown, attempt, carry, react}
 use Rattle.rules.specs.declared.answer.Answer.{Answer}
 use Rattle.rules.specs.declared.answer.Answer.the-variants.{Taken, ListFull, NoWork, Waiting, Started, WasCut, NothingToCut}

@@ -1,15 +1,15 @@
 -- What a step of a running thread comes to, from the effect of its statement.
-use mathlib.Core.Path.{_≡_, refl, sym, ap, _∙_}
-use mathlib.Core.Bool.{Bool, true, false, cond}
+use mathlib.Core.Path.{_≡_, refl, _∙_}
+use mathlib.Core.Bool.{true, false}
 use mathlib.Core.Option.{Option, none, some}
-use mathlib.Core.List.{List, [], _∷_, _++_, append-nil}
+use mathlib.Core.List.{List, _++_, append-nil}
 use Prim.Native.Nat.{ℕ, _^_}
 use lib.Bits.{bitOr}
 use lib.ListN.{length, set}
 use Rattle.rules.specs.Sorts
-use Rattle.rules.specs.Machine.{Signal, Tree, Job, ThreadState, idle, running, Machine, threadAt, first, put, window, keep}
+use Rattle.rules.specs.Machine.{Signal, Job, idle, running, Machine, threadAt, first, put, window, keep}
 use Rattle.rules.specs.Events.{step}
-use Rattle.rules.specs.Steps.{Rules, Effect, traps, exits, moves, Reply, Move, added, planRunning, planStep, plan, held, blocked, finished, attempt, carry, react}
+use Rattle.rules.specs.Steps.{Rules, Effect, traps, exits, moves, added, planRunning, planStep, plan, held, blocked, finished, attempt, carry, react}
 use Rattle.rules.specs.declared.answer.Answer.the-variants.{Waiting, Moved, Exited, Trapped}
 use Rattle.turns.specs.Same.{keep-window, put-same}
 use Rattle.turns.specs.Events.{withThread, reply}

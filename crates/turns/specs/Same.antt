@@ -1,15 +1,14 @@
 -- Stores that change nothing: a block's own words, a tree's own signals.
-use mathlib.Core.Path.{_≡_, refl, sym, ap, ap₂, _∙_}
-use mathlib.Core.Logic.{_≢_}
-use mathlib.Core.Option.{Option, none, some}
+use mathlib.Core.Path.{_≡_, refl, sym, ap, _∙_}
+use mathlib.Core.Option.{some}
 use mathlib.Core.List.{List, [], _∷_}
-use Prim.Native.Nat.{ℕ, zero, suc, _+_, _*_, _<_, _≤_}
+use Prim.Native.Nat.{ℕ, zero, suc, _+_, _*_, _<_}
 use native.Mathlib.Decide.{ℕ-discrete}
 use native.Mathlib.Omega.{arith}
-use lib.ListN.{length, getD, set}
-use lib.Seq.{set-getD, getD-set-other, set-comm}
+use lib.ListN.{getD, set}
+use lib.Seq.{set-getD, set-comm}
 use Rattle.rules.specs.Sizes.{wordCount}
-use Rattle.rules.specs.Machine.{Signal, Tree, first, put, refit, cells, stores, window, keep}
+use Rattle.rules.specs.Machine.{Signal, Tree, first, put, cells, stores, window, keep}
 use Rattle.one_by_one.specs.Trees.{first-here, first-there, put-here, put-there}
 
 -- ---- words

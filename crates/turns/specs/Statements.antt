@@ -1,5 +1,5 @@
 -- What a step of a running thread comes to, statement by statement, from the values that the statement read.
-use mathlib.Core.Path.{_≡_, refl, sym, ap, _∙_}
+use mathlib.Core.Path.{_≡_, refl, _∙_}
 use mathlib.Core.Bool.{Bool, true, false, cond}
 use mathlib.Core.Option.{Option, none, some}
 use mathlib.Core.List.{List, [], _∷_, _++_, append-nil}
@@ -9,13 +9,12 @@ use lib.Dec.{leb}
 use lib.ListN.{length, getD, set}
 use Rattle.rules.specs.Sorts
 use Rattle.rules.specs.Sizes.{wordCount, returnCount, pendingCount}
-use Rattle.rules.specs.Image.{recordAt, labelA, labelB, Row, rowAt}
+use Rattle.rules.specs.Image.{recordAt, labelA, labelB, rowAt}
 use Rattle.rules.specs.Statements.{statementOf, dataOf, reads}
-use Rattle.rules.specs.Effects.{Got, trap, got, Cells, readAll, compute, holds, store, filled, overlaid, perform, outcome}
-use Rattle.rules.specs.Machine.{Signal, Tree, Job, ThreadState, idle, running, Machine, threadAt, fill, first, put, window, keep}
+use Rattle.rules.specs.Effects.{trap, got, Cells, readAll, compute, holds, overlaid, perform, outcome}
+use Rattle.rules.specs.Machine.{Signal, Job, idle, running, Machine, threadAt, fill, first, put, window}
 use Rattle.rules.specs.Events.{step}
-use Rattle.rules.specs.Steps.{Rules, Effect, traps, exits, moves, Reply, newest, older, alien, blockAt, view, actBy, rulesBy, held, finished, react}
-use Rattle.rules.specs.declared.statement.Operand.{Operand}
+use Rattle.rules.specs.Steps.{Rules, Effect, moves, newest, older, alien, blockAt, actBy, rulesBy, held, finished, react}
 use Rattle.rules.specs.declared.statement.Operand.the-variants.{Register, Word}
 use Rattle.rules.specs.declared.statement.Assignment.{Assignment}
 use Rattle.rules.specs.declared.statement.Condition.{Condition}

@@ -1,6 +1,6 @@
 -- The walk along any relation "waits for" that stays among n threads: no thread is written twice; each thread written after the first is the one that the
 -- one before it waits for; a ring closed exactly if the last one waits for a thread already written, and otherwise the last one does not wait.
-use mathlib.Core.Path.{_≡_, refl, sym}
+use mathlib.Core.Path.{_≡_, refl}
 use mathlib.Core.Logic.{_⊎_, inl, inr, ite}
 use mathlib.Core.Bool.{Bool, true, false}
 use mathlib.Core.Option.{Option, none, some, Option·elim}

@@ -1,6 +1,7 @@
 use mathlib.Core.Path.{_≡_, refl, subst}
 use mathlib.Core.List.{List}
-use Prim.Native.Nat.{ℕ, _<_}
+use Prim.Native.Nat.{ℕ, _≤_, _<_}
+use native.Mathlib.Omega.{arith}
 use borrow.Author.Needs.{needs}
 use lib.ListN.{length}
 use Rattle.rules.specs.Machine.{Machine}
@@ -9,7 +10,7 @@ use Rattle.rules.specs.Steps.{rulesBy, finished}
 use Rattle.encoding.specs.Encoded.{Encodes}
 use Rattle.encoding.specs.Stores.{withThread}
 use Rattle.encoding.specs.FirstTree.{firstTree}
-use Rattle.threads.specs.Threads.{stateOf}
+use Rattle.threads.specs.Threads.{stateOf, emptied, idleThread, idle-thread}
 use Rattle.state.specs.Records.{thread-written}
 use Rattle.ready.specs.Ready.{Ready}
 use Rattle.ready.specs.At.{Busy}
@@ -36,25 +37,27 @@ end-tree-requires c κs =
     let s = c .before .before .before .before .before .before .before .before in
     (s .pre .0 .canonical, rw (c .before .before .before .first-tree .ensures) (inside (s .args .t .0) (s .pre .0) (s .pre .2)))
 
-write-thread-requires : tie.Need-write-thread-requires
-write-thread-requires c κs =
-    let s = c .before .before .before .before .before .before .before .before .before .before .before .before .before in
-    (c .before .before .before .before .end-tree .ensures .0 .long, s .pre .1)
+read-thread-requires : tie.Need-read-thread-requires
+read-thread-requires c κs = (c .before .before .before .end-tree .ensures .0 .long, c .before .before .before .before .before .before .before .before .before .before .before .before .pre .1)
+
+write-ended-requires : tie.Need-write-ended-requires
+write-ended-requires c κs =
+    let none : c .end .result .depth ≤ 8 = rw (c .end .ensures) (omega arith) in
+    (c .before .before .before .before .before .before .end-tree .ensures .0 .long, c .before .before .before .before .before .before .before .before .before .before .before .before .before .before .before .pre .1, none)
 
 returns : tie.Need-returns
 returns c =
-    let s = c .before .before .before .before .before .before .before .before .before .before .before .before .before .before .before .before in
-    let i = c .before .before .before .before .before .before .before .before .before .before .before .first-tree in
-    let e = c .before .before .before .before .before .before .before .end-tree in
-    let home = c .before .before .before .before .before .before .before .before .before .home in
+    let s = c .before .before .before .before .before .before .before .before .before .before .before .before .before .before .before .before .before .before in
+    let i = c .before .before .before .before .before .before .before .before .before .before .before .before .before .first-tree in
+    let e = c .before .before .before .before .before .before .before .before .before .end-tree in
+    let home = c .before .before .before .before .before .before .before .before .before .before .before .home in
     let m = machineFrom (s .args .state .now) in
     let t = s .args .t .0 in
-    let w = c .before .before .before .idle in
     let l : i .result < length (m .trees) = rw (i .ensures) (inside (s .args .t .0) (s .pre .0) (s .pre .2)) in
-    let k = thread-written _ _ (e .ensures .0) t (w .result) (s .pre .1) (w .ensures .tidy) (c .before .before .write-thread .ensures) in
-    let f : withThread (machineFrom (e .last .0)) t (stateOf (w .result)) ≡ finished (rulesBy (s .args .image .now) (s .args .table .now)) t m =
-    rw (w .ensures .state, e .ensures .1 t (i .ensures)) (finished-is (s .args .image .now) (s .args .table .now) m t (home .result .0) (i .result) (i .ensures) l (home .ensures)) in
-    subst (λ (q : Machine). Encodes (c .before .before .write-thread .last .0) q) f k
+    let k = thread-written _ _ (e .ensures .0) t (emptied idleThread) (s .pre .1) (idle-thread .tidy) (rw (c .before .before .before .end .ensures) at (c .before .before .write-ended .ensures)) in
+    let f : withThread (machineFrom (e .last .0)) t (stateOf (emptied idleThread)) ≡ finished (rulesBy (s .args .image .now) (s .args .table .now)) t m =
+    rw (idle-thread .state, e .ensures .1 t (i .ensures)) (finished-is (s .args .image .now) (s .args .table .now) m t (home .result .0) (i .result) (i .ensures) l (home .ensures)) in
+    subst (λ (q : Machine). Encodes (c .before .before .write-ended .last .0) q) f k
 
 pub finish-spec : {M : Type 1} → statement M
-finish-spec = tie.close (tie.spec first-tree-requires home-requires end-tree-requires (λ c κs. search needs) write-thread-requires (λ c. search needs) returns)
+finish-spec = tie.close (tie.spec first-tree-requires home-requires end-tree-requires read-thread-requires (λ c κs. search needs) write-ended-requires (λ c. search needs) returns)

@@ -7,6 +7,7 @@ use Rattle.rules.specs.Steps.{rulesBy, finished}
 use Rattle.rules.specs.Encoding.{machineFrom}
 use Rattle.rules.specs.declared.answer.Answer.the-variants.{Exited}
 use Rattle.rules.specs.declared.statement.Statement.the-variants.{Exit}
+use Rattle.threads.specs.Whole.{whole}
 use Rattle.threads.specs.Threads.{jobOf}
 use Rattle.turns.specs.Statements.{leaves}
 use Rattle.ready.specs.Ready.{done}
@@ -18,7 +19,7 @@ finish-requires : tie.Need-finish-requires
 finish-requires c κs =
     let s = c .before .before .before .before .before in
     let h = s .pre .0 in
-    (h .ready, h .inside, (s .args .w .locks, jobOf (s .args .w), h .runs))
+    (h .ready, h .inside, (s .args .w .locks, jobOf (whole (s .args .state .now) (s .args .t .0) (s .args .w)), h .runs))
 
 returns : tie.Need-returns
 returns c =
@@ -29,7 +30,7 @@ returns c =
     let m = machineFrom (s .args .state .now) in
     let w = s .args .w in
     done (finished (rulesBy image table) (s .args .t .0) m) Exited
-    (leaves image table m (s .args .t .0) (w .locks) (jobOf w) (tree h .0) (h .runs) (tree h .1) (subst (λ (q : List ℕ). statementOf q ≡ Exit) (h .here) (s .pre .1)))
+    (leaves image table m (s .args .t .0) (w .locks) (jobOf (whole (s .args .state .now) (s .args .t .0) w)) (tree h .0) (h .runs) (tree h .1) (subst (λ (q : List ℕ). statementOf q ≡ Exit) (h .here) (s .pre .1)))
     refl
     (c .before .before .finish .ensures)
 

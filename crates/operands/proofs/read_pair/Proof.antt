@@ -4,6 +4,7 @@ use native.Mathlib.Omega.{arith}
 use borrow.Author.Needs.{needs}
 use Rattle.rules.specs.Effects.{Cells, read, trap, got}
 use Rattle.operands.specs.Readings.{reading-value, reading-trap, read-reason}
+use Rattle.encoding.specs.Slots.{registersIn}
 use Rattle.operands.specs.Cells.{cellsFrom}
 use Rattle.operands.specs.Values.{pair-trap, pair-second, pair-both}
 use Rattle.operands.proofs.read_pair.Statement.{statement}
@@ -12,7 +13,7 @@ use Rattle.operands.proofs.read_pair.Tie as tie
 returns : tie.Need-returns
 returns c =
     let a = c .before .before .before .before .before .args in
-    let cells : Cells = cellsFrom (a .state .now) (a .block .0) (a .present) (a .registers .now) in
+    let cells : Cells = cellsFrom (a .state .now) (a .block .0) (a .present) (registersIn (a .state .now) (a .t .0)) in
     let x : ℕ = c .before .reason .given .0 .0 in
     let f : read cells (a .p) ≡ trap x = reading-trap _ x (sym (c .before .before .before .read-operand .ensures) ∙ c .before .reason .given .1) in
     let one : x ≡ 1 = read-reason cells (a .p) x f in
@@ -21,7 +22,7 @@ returns c =
 returns-2 : tie.Need-returns-2
 returns-2 c =
     let a = c .before .before .before .before .before .before .before .before .before .args in
-    let cells : Cells = cellsFrom (a .state .now) (a .block .0) (a .present) (a .registers .now) in
+    let cells : Cells = cellsFrom (a .state .now) (a .block .0) (a .present) (registersIn (a .state .now) (a .t .0)) in
     let v : ℕ = c .before .before .before .before .before .left .given .0 .0 in
     let e : read cells (a .p) ≡ got v = reading-value _ v (sym (c .before .before .before .before .before .before .before .read-operand .ensures) ∙ c .before .before .before .before .before .left .given .1) in
     let x : ℕ = c .before .reason2 .given .0 .0 in
@@ -32,7 +33,7 @@ returns-2 c =
 returns-3 : tie.Need-returns-3
 returns-3 c =
     let a = c .before .before .before .before .before .before .before .before .before .args in
-    let cells : Cells = cellsFrom (a .state .now) (a .block .0) (a .present) (a .registers .now) in
+    let cells : Cells = cellsFrom (a .state .now) (a .block .0) (a .present) (registersIn (a .state .now) (a .t .0)) in
     let v : ℕ = c .before .before .before .before .before .left .given .0 .0 in
     let e : read cells (a .p) ≡ got v = reading-value _ v (sym (c .before .before .before .before .before .before .before .read-operand .ensures) ∙ c .before .before .before .before .before .left .given .1) in
     let u : ℕ = c .before .right .given .0 .0 in

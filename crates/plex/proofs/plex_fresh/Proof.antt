@@ -1,6 +1,4 @@
 use mathlib.Core.Path.{_≡_, sym, _∙_}
-use mathlib.Core.List.{List}
-use Prim.Native.Nat.{ℕ}
 use borrow.Author.Needs.{needs}
 use Rattle.rules.specs.Calls.{freshReturn}
 use Rattle.plex.specs.Lent.{fresh-refused, fresh-lengths, fresh-state}

@@ -1,16 +1,10 @@
-use mathlib.Core.Path.{_≡_, sym, ap, _∙_}
-use Prim.Native.Nat.{ℕ}
+use mathlib.Core.Path.{sym, ap, _∙_}
 use native.Mathlib.Omega.{arith}
 use borrow.Author.Needs.{needs}
 use Rattle.rules.specs.declared.sorts.Thread.{Thread}
 use Rattle.plex.specs.Lent.{walk-refused, walk-return, walk-met, walk-thread, walk-lent}
 use Rattle.plex.proofs.plex_walk.Statement.{statement}
 use Rattle.plex.proofs.plex_walk.Tie as tie
-use Rattle.plex.proofs.plex_walk.Reads as reads
-use Rattle.plex.proofs.plex_walk.Lts as lts
-use Rattle.door.proofs.faults.walk_fault.Reads as walk-fault-reads
-use Rattle.rules.proofs.sorts.thread_of.Reads as thread-of-reads
-use Rattle.waits.proofs.walk.Reads as walk-reads
 
 walk-fault-requires : tie.Need-walk-fault-requires
 walk-fault-requires c κs = search needs

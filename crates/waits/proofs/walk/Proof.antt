@@ -8,10 +8,6 @@ use Rattle.rules.specs.Walk.{awaits, walkFrom}
 use Rattle.waits.specs.Walking.{from-none}
 use Rattle.waits.proofs.walk.Statement.{statement}
 use Rattle.waits.proofs.walk.Tie as tie
-use Rattle.waits.proofs.walk.Reads as reads
-use Rattle.waits.proofs.walk.Lts as lts
-use Rattle.waits.proofs.blank.Reads as blank-reads
-use Rattle.waits.proofs.walk_on.Reads as walk-on-reads
 
 blank-requires : tie.Need-blank-requires
 blank-requires c κs = search needs

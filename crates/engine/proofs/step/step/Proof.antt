@@ -5,6 +5,7 @@ use borrow.Author.Needs.{needs}
 use borrow.Author.Tests.{eqb-false}
 use Rattle.rules.specs.Image.{labels, recordAt}
 use Rattle.image.specs.Records.{labels-small}
+use Rattle.threads.specs.Whole.{whole}
 use Rattle.ready.specs.Ready.{says}
 use Rattle.ready.specs.At.{idle-says, label-inside, at}
 use Rattle.engine.proofs.step.step.Statement.{statement}
@@ -18,14 +19,14 @@ start-requires c κs =
     let s = c .before .before .before .before .before .before .before .before in
     let w = c .before .before .before .read-thread in
     let x = says (s .pre .0) (s .args .t .0) (s .pre .1) (w .ensures) in
-    (s .pre .0, s .pre .1, sym (x .state) ∙ idle-says (w .result) (sym (c .before .before .is-idle .ensures) ∙ c .before .if1 .taken))
+    (s .pre .0, s .pre .1, sym (x .state) ∙ idle-says (whole (s .args .state .now) (s .args .t .0) (w .result)) (sym (c .before .before .is-idle .ensures) ∙ c .before .if1 .taken))
 
 record-of-requires : tie.Need-record-of-requires
 record-of-requires c κs =
     let s = c .before .before .before .before .before .before .before .before .before in
     let w = c .before .before .before .before .read-thread in
     let n = eqb-false (w .result .label .0) 65535 (sym (c .before .before .before .is-idle .ensures) ∙ c .before .before .if1 .left) in
-    rw (c .index-of .ensures) (label-inside (s .pre .0) (s .args .t .0) (w .result) (says (s .pre .0) (s .args .t .0) (s .pre .1) (w .ensures)) n)
+    rw (c .index-of .ensures) (label-inside (s .pre .0) (s .args .t .0) (whole (s .args .state .now) (s .args .t .0) (w .result)) (says (s .pre .0) (s .args .t .0) (s .pre .1) (w .ensures)) n)
 
 carry-out-requires : tie.Need-carry-out-requires
 carry-out-requires c κs =
@@ -34,7 +35,7 @@ carry-out-requires c κs =
     let w = c .before .before .before .before .before .before .read-thread in
     let x = says (s .pre .0) (s .args .t .0) (s .pre .1) (w .ensures) in
     let n = eqb-false (w .result .label .0) 65535 (sym (c .before .before .before .before .before .is-idle .ensures) ∙ c .before .before .before .before .if1 .left) in
-    let l : w .result .label .0 < labels image = label-inside (s .pre .0) (s .args .t .0) (w .result) x n in
+    let l : w .result .label .0 < labels image = label-inside (s .pre .0) (s .args .t .0) (whole (s .args .state .now) (s .args .t .0) (w .result)) x n in
     at (s .pre .0) (s .args .t .0) (w .result) (s .pre .1) x n (omega (arith, labels-small image)) (c .before .record-of .ensures .0 ∙ ap (recordAt image) (c .before .before .index-of .ensures)) (c .before .record-of .ensures .1)
 
 pub step-spec : {M : Type 1} → statement M

@@ -1,5 +1,4 @@
 use native.Mathlib.Omega.{arith}
-use borrow.Author.Needs.{needs}
 use borrow.Author.Tests.{ne-eqb, le-leb, lt-leb}
 use Rattle.entering.specs.Passages.{callTrap}
 use Rattle.entering.proofs.passage.call_trap.Statement.{statement}
@@ -11,11 +10,11 @@ returns c = rw (ne-eqb (c .before .args .unread) 0 (c .if1 .taken))
 
 returns-2 : tie.Need-returns-2
 unfolding callTrap
-returns-2 c = rw (c .before .before .if1 .left, le-leb 8 (c .before .before .before .args .depth) (omega (arith, c .if2 .taken, c .before .wide .ensures .0)))
+returns-2 c = rw (c .before .if1 .left, le-leb 8 (c .before .before .args .depth) (omega arith))
 
 returns-3 : tie.Need-returns-3
 unfolding callTrap
-returns-3 c = rw (c .before .before .if1 .left, lt-leb 8 (c .before .before .before .args .depth) (omega (arith, c .if2 .left, c .before .wide .ensures .0)))
+returns-3 c = rw (c .before .if1 .left, lt-leb 8 (c .before .before .args .depth) (omega arith))
 
 pub call-trap-spec : {M : Type 1} → statement M
-call-trap-spec = tie.close (tie.spec returns (λ c κs. search needs) returns-2 returns-3)
+call-trap-spec = tie.close (tie.spec returns returns-2 returns-3)

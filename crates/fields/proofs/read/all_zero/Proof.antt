@@ -1,32 +1,35 @@
-use Prim.Native.Nat.{_-_}
+use Prim.Native.Nat.{_+_, _-_}
 use native.Mathlib.Omega.{arith}
 use denote.Ref.{now}
-use Rattle.fields.specs.Tests.{Gathered, gathered-none, gathered-next, gathered-all}
+use Rattle.fields.specs.Tests.{Gathered, lastEight, eight-none, gathered-none, gathered-eight, gathered-ends}
 use Rattle.fields.proofs.read.all_zero.Statement.{statement}
 use Rattle.fields.proofs.read.all_zero.Tie as tie
 
 abbrev Inv-loop : tie.InvT-loop
-Inv-loop s at n set₀ k₀ set k = Gathered s at n set k
+Inv-loop s at n set₀ k₀ set k = Gathered s at n (lastEight s at n) set k
 
 abbrev μ-loop : tie.MeasureT-loop
 μ-loop s at n set₀ k₀ set k = n - k
 
+returns : tie.Need-returns Inv-loop μ-loop
+returns c = c .few-zero .ensures
+
 loop-holds : tie.Need-loop-holds Inv-loop μ-loop
 loop-holds c =
-    let a = c .args in
-    gathered-none (now (a .s)) (a .at) (a .n)
+    let a = c .before .before .before .args in
+    gathered-none (now (a .s)) (a .at) (a .n) (lastEight (now (a .s)) (a .at) (a .n)) (c .get64 .result) (eight-none (now (a .s)) (a .at + a .n - 8) (c .get64 .ensures))
 
 loop-again : tie.Need-loop-again Inv-loop μ-loop
 loop-again c =
-    let a = c .before .before .before .args in
+    let a = c .before .before .before .before .before .before .args in
     let l = c .before .before .loop in
-    gathered-next (now (a .s)) (a .at) (a .n) (l .set) (l .k) (l .inv) (c .before .loop-test .taken) (c .before .before .before .pre)
+    gathered-eight (now (a .s)) (a .at) (a .n) (lastEight (now (a .s)) (a .at) (a .n)) (l .set) (l .k) (l .inv) (c .get642 .result) (omega arith) (c .get642 .ensures)
 
-returns : tie.Need-returns Inv-loop μ-loop
-returns c =
-    let a = c .before .before .args in
+returns-2 : tie.Need-returns-2 Inv-loop μ-loop
+returns-2 c =
+    let a = c .before .before .before .before .before .args in
     let l = c .before .loop in
-    gathered-all (now (a .s)) (a .at) (a .n) (l .set) (l .k) (l .inv) (c .loop-test .left)
+    gathered-ends (now (a .s)) (a .at) (a .n) (l .set) (l .k) (omega arith) (omega arith) (l .inv)
 
 pub all-zero-spec : {M : Type 1} → statement M
 all-zero-spec =
@@ -34,10 +37,16 @@ all-zero-spec =
     (tie.spec
     Inv-loop
     μ-loop
+    (λ c κs. omega arith)
+    returns
+    (λ c. omega arith)
+    (λ c. omega arith)
+    (λ c κs. omega arith)
     loop-holds
     (λ c. omega arith)
     (λ c. omega arith)
+    (λ c κs. omega arith)
     (λ c. omega arith)
     (λ c. omega arith)
     loop-again
-    returns)
+    returns-2)

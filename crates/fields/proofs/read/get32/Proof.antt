@@ -1,6 +1,6 @@
 use mathlib.Core.Path.{_∙_}
 use borrow.Author.Needs.{needs}
-use Rattle.fields.specs.Blocks.{num32-drop}
+use Rattle.fields.specs.Numbers.{num32-drop}
 use Rattle.fields.proofs.read.get32.Statement.{statement}
 use Rattle.fields.proofs.read.get32.Tie as tie
 

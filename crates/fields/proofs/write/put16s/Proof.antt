@@ -1,10 +1,10 @@
-use mathlib.Core.Path.{_≡_, refl, sym, _∙_}
+use mathlib.Core.Path.{_≡_, refl, _∙_}
 use Prim.Native.Nat.{_≤_, _<_, _-_}
 use native.Mathlib.Omega.{arith}
 use denote.Ref.{now}
-use lib.ListN.{length, take, drop, length-set}
+use lib.ListN.{length, take}
 use lib.Seq.{take-all, length-take-le}
-use Rattle.fields.specs.Put.{put, put-then, length-put}
+use Rattle.fields.specs.Put.{put, put-then}
 use Rattle.rules.specs.Bytes.{le16, blocks}
 use Rattle.fields.specs.Blocks.{blocks-take, length-blocks}
 use Rattle.fields.proofs.write.put16s.Statement.{statement}

@@ -7,10 +7,10 @@ use Rattle.image.proofs.check.first_bad_label.Statement.{statement}
 use Rattle.image.proofs.check.first_bad_label.Tie as tie
 
 abbrev Inv-loop : tie.InvT-loop
-Inv-loop image n marks limits l₀ l = Searching (recordOk image) n l
+Inv-loop image n marks room l₀ l = Searching (recordOk image) n l
 
 abbrev μ-loop : tie.MeasureT-loop
-μ-loop image n marks limits l₀ l = n - l
+μ-loop image n marks room l₀ l = n - l
 
 loop-holds : tie.Need-loop-holds Inv-loop μ-loop
 loop-holds c = begin _ _

@@ -1,16 +1,16 @@
-use mathlib.Core.Path.{_≡_, ap, _∙_, subst}
+use mathlib.Core.Path.{subst}
 use mathlib.Core.List.{List}
 use Prim.Native.Nat.{ℕ}
 use native.Mathlib.Omega.{arith}
 use borrow.Author.Needs.{needs}
 use Rattle.rules.specs.Image.{recordAt, labelA}
-use Rattle.rules.specs.Machine as law
-use Rattle.rules.specs.Machine.{Machine, running}
+use Rattle.rules.specs.Machine.{running}
 use Rattle.rules.specs.Encoding.{machineFrom}
 use Rattle.rules.specs.declared.answer.Answer.the-variants.{Moved}
 use Rattle.rules.specs.declared.statement.Statement.the-variants.{Skip}
 use Rattle.encoding.specs.Encoded.{Encodes}
 use Rattle.encoding.specs.Stores.{withThread}
+use Rattle.threads.specs.Whole.{whole}
 use Rattle.threads.specs.Threads.{job, jobOf, returnsOf, registersOf}
 use Rattle.turns.specs.Statements.{skips}
 use Rattle.ready.specs.Ready.{done}
@@ -33,10 +33,11 @@ returns c =
     let b = s .args .state .now in
     let t = s .args .t .0 in
     let w = s .args .w in
-    done (withThread (machineFrom b) t (running (w .locks) (job (labelA (recordAt image (w .label .0))) (returnsOf w) (registersOf w)))) Moved
-    (skips image (s .args .table .now) (machineFrom b) t (w .locks) (jobOf w) (tree h .0) (h .runs) (tree h .1) (statement-here h Skip (s .pre .1)))
+    let full = whole b t w in
+    done (withThread (machineFrom b) t (running (w .locks) (job (labelA (recordAt image (w .label .0))) (returnsOf full) (registersOf full)))) Moved
+    (skips image (s .args .table .now) (machineFrom b) t (w .locks) (jobOf full) (tree h .0) (h .runs) (tree h .1) (statement-here h Skip (s .pre .1)))
     (c .before .before .go-on .ensures .0)
-    (subst (λ (q : List ℕ). Encodes (c .before .before .go-on .last .0) (withThread (machineFrom b) t (running (w .locks) (job (labelA q) (returnsOf w) (registersOf w))))) (h .here) (c .before .before .go-on .ensures .1))
+    (subst (λ (q : List ℕ). Encodes (c .before .before .go-on .last .0) (withThread (machineFrom b) t (running (w .locks) (job (labelA q) (returnsOf full) (registersOf full))))) (h .here) (c .before .before .go-on .ensures .1))
 
 pub skip-spec : {M : Type 1} → statement M
 skip-spec = tie.close (tie.spec go-on-requires (λ c. search needs) returns)

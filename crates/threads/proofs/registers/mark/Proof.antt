@@ -9,4 +9,4 @@ returns : tie.Need-returns
 returns c = let h : 2 ^ c .args .register < 4294967296 = omega (arith, pow-lt (c .pre)) in rw (one-mul, mod-eq-of-lt h)
 
 pub mark-spec : {M : Type 1} → statement M
-mark-spec = tie.close (tie.spec (λ c. omega arith) (λ c. omega arith) returns)
+mark-spec = tie.close (tie.spec (λ c. omega arith) returns)
