@@ -2,7 +2,7 @@
 use mathlib.Core.Path.{_≡_, refl, sym, ap, _∙_}
 use mathlib.Core.Bool.{Bool, true, false, cond, _&&_, not, and-assoc, and-true, and-false}
 use mathlib.Core.List.{List, [], _∷_, _++_}
-use Prim.Native.Nat.{ℕ, zero, suc, _+_, _*_, _-_, _≤_, _<_}
+use Prim.Native.Nat.{ℕ, zero, suc, _+_, _*_, _-_, _/_, _%_, _≤_, _<_}
 use native.Mathlib.Omega.{arith}
 use native.Mathlib.Nat.{add-zero, mul-zero, mul-le-mul-right}
 use lib.Bits.{bitOr, or-add-and, and-le-l, and-le-r}
@@ -67,25 +67,26 @@ pub eight-none : (s : List ℕ) (at : ℕ) {v : ℕ} → v ≡ num64 (drop at s)
 unfolding part
 eight-none s at e = rw e (num64-none (drop at s))
 
--- A loop that gathers what n bytes from a place on have set: nothing exactly if the first k are zero, and the test z holds.
-abbrev pub Gathered : List ℕ → ℕ → ℕ → Bool → ℕ → ℕ → Type 0
-Gathered s at n z set k = (k ≤ n) × (eqb set 0 ≡ (z && isZeros (part s at k)))
+-- A loop that gathers what n bytes from a place on have set: nothing exactly if the first k are zero.
+abbrev pub Gathered : List ℕ → ℕ → ℕ → ℕ → ℕ → Type 0
+Gathered s at n set k = (k ≤ n) × (eqb set 0 ≡ isZeros (part s at k))
 
-module _ (s : List ℕ) (at n : ℕ) (z : Bool) where
-  pub gathered-none : (set : ℕ) → eqb set 0 ≡ z → Gathered s at n z set 0
+module _ (s : List ℕ) (at n : ℕ) where
+  pub gathered-none : Gathered s at n 0 0
   unfolding isZeros part
-  gathered-none set e = (omega arith, e ∙ sym (and-true z))
+  gathered-none = (omega arith, refl)
 
-  module _ (set k : ℕ) (inv : Gathered s at n z set k) where
-    gathered-next : (m v : ℕ) → k + m ≤ n → eqb v 0 ≡ isZeros (part s (at + k) m) → Gathered s at n z (bitOr set v) (k + m)
-    gathered-next m v h e = (h, or-none set v ∙ rw (inv .1, e, zeros-cut s at k m) (and-assoc z _ _))
-
-    pub gathered-byte : k < n → Gathered s at n z (bitOr set (getD s (at + k) 0)) (k + 1)
+  module _ (set k : ℕ) (inv : Gathered s at n set k) where
+    pub gathered-byte : k < n → Gathered s at n (bitOr set (getD s (at + k) 0)) (k + 1)
     unfolding part
-    gathered-byte h = gathered-next 1 (getD s (at + k) 0) (omega arith) (rw (getD-drop (at + k) s 0 0, add-zero) at (byte-none (drop (at + k) s)))
+    gathered-byte h =
+        let e : eqb (getD s (at + k) 0) 0 ≡ isZeros (part s (at + k) 1) = rw (getD-drop (at + k) s 0 0, add-zero) at (byte-none (drop (at + k) s)) in
+        (omega arith, or-none set (getD s (at + k) 0) ∙ rw (inv .1, e, zeros-cut s at k 1) refl)
 
-    pub gathered-eight : (v : ℕ) → k + 8 ≤ n → v ≡ num64 (drop (at + k) s) → Gathered s at n z (bitOr set v) (k + 8)
-    gathered-eight v h e = gathered-next 8 v h (eight-none s (at + k) e)
+    pub gathered-all : n ≤ k → eqb set 0 ≡ isZeros (part s at n)
+    gathered-all h =
+        let e : k ≡ n = omega arith in
+        rw e at (inv .1)
 
 -- two runs that meet or share bytes cover one run
 zeros-cover : (s : List ℕ) (at a j r : ℕ) → (isZeros (part s (at + a) (j + r)) && isZeros (part s at (a + j))) ≡ isZeros (part s at (a + (j + r)))
@@ -96,24 +97,50 @@ zeros-cover s at a j r = rw (zeros-cut s at a (j + r), zeros-cut s at a j, zeros
     go false true z = and-false z
     go x false z = sym (and-false x)
 
-abbrev pub lastEight : List ℕ → ℕ → ℕ → Bool
-lastEight s at n = isZeros (part s (at + n - 8) 8)
+abbrev pub lastSixteen : List ℕ → ℕ → ℕ → Bool
+lastSixteen s at n = isZeros (part s (at + n - 16) 16)
 
-module _ (s : List ℕ) (at n set k : ℕ) where
-  pub gathered-all : n ≤ k → Gathered s at n true set k → eqb set 0 ≡ isZeros (part s at n)
-  gathered-all h inv =
-      let e : k ≡ n = omega arith in
-      rw e at (inv .1)
+pub last-none : (s : List ℕ) (at n : ℕ) {v w : ℕ} → 16 ≤ n → v ≡ num64 (drop (at + n - 16) s) → w ≡ num64 (drop (at + n - 8) s) → eqb (bitOr v w) 0 ≡ lastSixteen s at n
+last-none s at n {v} {w} h e f =
+    let there : at + n - 16 + 8 ≡ at + n - 8 = omega arith in
+    or-none v w ∙ rw (eight-none s (at + n - 16) e, eight-none s (at + n - 8) f, zeros-cut s (at + n - 16) 8 8, there) refl
 
-  -- fewer than eight are left, and the last eight are gathered
-  pub gathered-ends : 8 ≤ n → n < k + 8 → Gathered s at n (lastEight s at n) set k → eqb set 0 ≡ isZeros (part s at n)
-  gathered-ends l h inv =
-      let j : ℕ = k + 8 - n in
-      let whole : n - 8 + (j + (8 - j)) ≡ n = omega arith in
-      let last : j + (8 - j) ≡ 8 = omega arith in
-      let begun : n - 8 + j ≡ k = omega arith in
-      let there : at + (n - 8) ≡ at + n - 8 = omega arith in
-      inv .1 ∙ rw (whole, last, begun, there) at (zeros-cover s at (n - 8) j (8 - j))
+-- A loop that gathers eight bytes of each of two halves at a time: nothing exactly if the first k bytes of both are zero, and the test z
+-- holds.
+abbrev pub Halved : List ℕ → ℕ → ℕ → Bool → ℕ → ℕ → Type 0
+Halved s at half z set k = (k ≤ half) × (k % 8 ≡ 0) × (eqb set 0 ≡ (z && (isZeros (part s at k) && isZeros (part s (at + half) k))))
+
+module _ (s : List ℕ) (at half : ℕ) (z : Bool) where
+  pub halved-none : (set : ℕ) → eqb set 0 ≡ z → Halved s at half z set 0
+  unfolding isZeros part
+  halved-none set e = (omega arith, refl, e ∙ sym (and-true z))
+
+  pub halved-eight : (set k v w : ℕ) → Halved s at half z set k → k + 8 ≤ half → v ≡ num64 (drop (at + k) s) → w ≡ num64 (drop (at + half + k) s) → Halved s at half z (bitOr (bitOr set v) w) (k + 8)
+  halved-eight set k v w inv h e f = (
+    h,
+    omega (arith, inv .1),
+    or-none (bitOr set v) w
+        ∙ rw (or-none set v, inv .2, eight-none s (at + k) e, eight-none s (at + half + k) f, zeros-cut s at k 8, zeros-cut s (at + half) k 8)
+        (go z (isZeros (part s at k)) (isZeros (part s (at + half) k)) (isZeros (part s (at + k) 8)) (isZeros (part s (at + half + k) 8))),
+  )
+    where
+      go : (z a b x y : Bool) → (((z && (a && b)) && x) && y) ≡ (z && ((a && x) && (b && y)))
+      go false a b x y = refl
+      go true false b x y = refl
+      go true true true x y = refl
+      go true true false x y = sym (and-false x)
+
+-- both halves are gathered, and fewer than sixteen bytes are left, which the last sixteen have
+pub halved-all : (s : List ℕ) (at n half set k : ℕ) → 16 ≤ n → half ≡ n / 16 * 8 → half ≤ k → Halved s at half (lastSixteen s at n) set k → eqb set 0 ≡ isZeros (part s at n)
+halved-all s at n half set k l e h inv =
+    let j : ℕ = half + half + 16 - n in
+    let done : k ≡ half = omega (arith, inv .0) in
+    let both : (isZeros (part s at half) && isZeros (part s (at + half) half)) ≡ isZeros (part s at (half + half)) = sym (zeros-cut s at half half) in
+    let whole : n - 16 + (j + (16 - j)) ≡ n = omega arith in
+    let last : j + (16 - j) ≡ 16 = omega arith in
+    let begun : n - 16 + j ≡ half + half = omega arith in
+    let there : at + (n - 16) ≡ at + n - 16 = omega arith in
+    inv .2 ∙ rw (done, both) refl ∙ rw (whole, last, begun, there) at (zeros-cover s at (n - 16) j (16 - j))
 
 pub zeros-are : (l : List ℕ) → isZeros l ≡ true → l ≡ replicate (length l) 0
 unfolding isZeros

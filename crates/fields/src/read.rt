@@ -85,18 +85,19 @@ fn few_zero(s: &[u8], at: usize, n: usize) -> bool
     set == 0
 }
 
-// Any number of bytes: eight at a time. The last eight may share bytes with the eight before them.
+// Any number of bytes: from sixteen on, eight of each half at a time. The last sixteen may share bytes with the halves.
 pub fn all_zero(s: &[u8], at: usize, n: usize) -> bool
     requires { ⌜ at + n ≤ length (now s) ⌝ }
     ensures { λ r. ⌜ r ≡ isZeros (part (now (s .entry)) at n) ⌝ }
 {
-    if n < 8 {
+    if n < 16 {
         return few_zero(s, at, n);
     }
-    let mut set = get64(s, at + n - 8);
+    let half = n / 16 * 8;
+    let mut set = get64(s, at + n - 16) | get64(s, at + n - 8);
     let mut k = 0;
-    while k + 8 <= n {
-        set = set | get64(s, at + k);
+    while k < half {
+        set = set | get64(s, at + k) | get64(s, at + half + k);
         k += 8;
     }
     set == 0
