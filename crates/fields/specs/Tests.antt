@@ -88,8 +88,11 @@ module _ (s : List ℕ) (at n : ℕ) where
         let e : k ≡ n = omega arith in
         rw e at (inv .1)
 
+pub sixteen-none : (s : List ℕ) (at : ℕ) {v w : ℕ} → v ≡ num64 (drop at s) → w ≡ num64 (drop (at + 8) s) → eqb (bitOr v w) 0 ≡ isZeros (part s at 16)
+sixteen-none s at {v} {w} e f = or-none v w ∙ rw (eight-none s at e, eight-none s (at + 8) f, zeros-cut s at 8 8) refl
+
 -- two runs that meet or share bytes cover one run
-zeros-cover : (s : List ℕ) (at a j r : ℕ) → (isZeros (part s (at + a) (j + r)) && isZeros (part s at (a + j))) ≡ isZeros (part s at (a + (j + r)))
+pub zeros-cover : (s : List ℕ) (at a j r : ℕ) → (isZeros (part s (at + a) (j + r)) && isZeros (part s at (a + j))) ≡ isZeros (part s at (a + (j + r)))
 zeros-cover s at a j r = rw (zeros-cut s at a (j + r), zeros-cut s at a j, zeros-cut s (at + a) j r) (go (isZeros (part s at a)) (isZeros (part s (at + a) j)) (isZeros (part s (at + a + j) r)))
   where
     go : (x y z : Bool) → ((y && z) && (x && y)) ≡ (x && (y && z))
@@ -103,7 +106,7 @@ lastSixteen s at n = isZeros (part s (at + n - 16) 16)
 pub last-none : (s : List ℕ) (at n : ℕ) {v w : ℕ} → 16 ≤ n → v ≡ num64 (drop (at + n - 16) s) → w ≡ num64 (drop (at + n - 8) s) → eqb (bitOr v w) 0 ≡ lastSixteen s at n
 last-none s at n {v} {w} h e f =
     let there : at + n - 16 + 8 ≡ at + n - 8 = omega arith in
-    or-none v w ∙ rw (eight-none s (at + n - 16) e, eight-none s (at + n - 8) f, zeros-cut s (at + n - 16) 8 8, there) refl
+    sixteen-none s (at + n - 16) e (rw there f)
 
 -- A loop that gathers eight bytes of each of two halves at a time: nothing exactly if the first k bytes of both are zero, and the test z
 -- holds.

@@ -1,17 +1,19 @@
 -- The rules of a record, cut as the check goes through them.
-use mathlib.Core.Path.{_≡_, refl, sym}
-use mathlib.Core.Bool.{Bool, true, false, cond, _&&_, _||_, and-assoc, and-true, and-false}
+use mathlib.Core.Path.{_≡_, refl, sym, _∙_}
+use mathlib.Core.Bool.{Bool, true, false, cond, _&&_, _||_, and-assoc, and-true, and-false, or-false, false≢true}
 use mathlib.Core.List.{List}
-use Prim.Native.Nat.{ℕ, zero, suc, _<_}
+use Prim.Native.Nat.{ℕ, zero, suc, _≤_, _<_}
+use native.Mathlib.Decide.{decLt}
 use native.Mathlib.Omega.{arith}
 use lib.Dec.{eqb, leb, ltb}
-use borrow.Author.Tests.{lt-leb, ne-eqb}
+use borrow.Author.Tests.{le-leb, lt-leb, ne-eqb}
 use Rattle.rules.specs.Bytes.{allFrom}
 use Rattle.rules.specs.Image.{opcode, blockField, entry, operator, operands, kind, labelA, labelB}
 use Rattle.rules.specs.Statements.{statementOf, roleA, roleB}
 use Rattle.rules.specs.declared.statement.Statement.{Statement}
 use Rattle.rules.specs.Check.{operatorOk, countOk, headOk, slotOk, labelOk, ruleOk}
-use Rattle.image.specs.Forms.{formOk}
+use Rattle.image.specs.Operands.{slotsOk}
+use Rattle.image.specs.Forms.{formOk, outlineOk}
 
 -- below n, in the block and of the entry
 pub within : (below same direct : Bool) → (below && same && (below && direct)) ≡ (below && same && direct)
@@ -52,25 +54,41 @@ many op o c h =
     simp (ne-eqb c 2 (λ z. omega arith), ne-eqb c 3 (λ z. omega arith), ne-eqb c 0 (λ z. omega arith), lt-leb c 25 h)
     (choose (eqb op 2) (eqb op 4) (leb 5 op && leb op 9) (eqb o 1) (ltb 1 o))
 
-dropped : (a b e o d x l₁ l₂ : Bool) → (a && b && e && o && false && d && x && l₁ && l₂) ≡ false
-dropped true true true true d x l₁ l₂ = refl
-dropped true true true false d x l₁ l₂ = refl
-dropped true true false o d x l₁ l₂ = refl
-dropped true false e o d x l₁ l₂ = refl
-dropped false b e o d x l₁ l₂ = refl
+dropped : (a b o d l₁ l₂ : Bool) → (b && (a && o && false && d && l₁ && l₂)) ≡ false
+dropped true b true d l₁ l₂ = and-false b
+dropped true b false d l₁ l₂ = and-false b
+dropped false b o d l₁ l₂ = and-false b
 
 moved : (a b e o c d x l₁ l₂ : Bool) → (a && b && e && o && c && d && x && l₁ && l₂) ≡ (x && (b && e && (a && o && c && d && l₁ && l₂)))
 moved true b e o c d true l₁ l₂ = simp (and-assoc, and-true)
 moved false b e o c d true l₁ l₂ = sym (and-false (b && e))
 moved a b e o c d false l₁ l₂ = simp and-false
 
-module _ (image r : List ℕ) where
-  pub too-many : 25 < operands r → ruleOk image r ≡ false
-  unfolding ruleOk headOk
-  too-many h = rw (many (opcode r) (operator r) (operands r) h) (dropped (leb 1 (opcode r) && leb (opcode r) 10) (ltb (blockField r) 16) (ltb (entry r) 4) (operatorOk (opcode r) (operator r)) (cond (eqb (opcode r) 2) (leb 2 (kind r 0)) true) (allFrom (slotOk r) 0 25) (labelOk image (roleA (statementOf r)) (blockField r) (labelA r)) (labelOk image (roleB (statementOf r)) (blockField r) (labelB r)))
+-- the operators of ASSIGN, and how many operands each has
+pub assign-copy : (o c : ℕ) (b : Bool) → o ≡ 1 → (eqb c 2 && b) ≡ (operatorOk 2 o && countOk 2 o c && b)
+assign-copy o c b e = rw (e, or-false) refl
 
-  pub rule : ruleOk image r ≡ (allFrom (slotOk r) 0 25 && (ltb (blockField r) 16 && ltb (entry r) 4 && formOk image r))
-  unfolding ruleOk headOk formOk
+pub assign-join : (o c : ℕ) (b : Bool) → (o ≡ 1 → ⊥) → ((leb 2 o && leb o 4) && eqb c 3 && b) ≡ (operatorOk 2 o && countOk 2 o c && b)
+assign-join zero c b n = refl
+assign-join (suc o) c b n =
+    rw (le-leb 2 (suc o) (omega arith), le-leb 1 (suc o) (omega arith), ne-eqb (suc o) 1 n) refl
+
+module _ (image r : List ℕ) where
+  pub too-many : 25 < operands r → outlineOk image r ≡ false
+  unfolding outlineOk formOk
+  too-many h =
+      rw (many (opcode r) (operator r) (operands r) h)
+      (dropped (leb 1 (opcode r) && leb (opcode r) 10) (ltb (blockField r) 16 && ltb (entry r) 4) (operatorOk (opcode r) (operator r)) (cond (eqb (opcode r) 2) (leb 2 (kind r 0)) true) (labelOk image (roleA (statementOf r)) (blockField r) (labelA r)) (labelOk image (roleB (statementOf r)) (blockField r) (labelB r)))
+
+  pub few : outlineOk image r ≡ true → operands r ≤ 25
+  few e = go (decLt 25 (operands r))
+    where
+      go : Dec (25 < operands r) → operands r ≤ 25
+      go (yes h) = absurd (false≢true (sym (too-many h) ∙ e))
+      go (no h) = omega arith
+
+  pub rule : ruleOk image r ≡ (slotsOk r && outlineOk image r)
+  unfolding ruleOk headOk formOk outlineOk
   rule = moved (leb 1 (opcode r) && leb (opcode r) 10) (ltb (blockField r) 16) (ltb (entry r) 4) (operatorOk (opcode r) (operator r)) (countOk (opcode r) (operator r) (operands r)) (cond (eqb (opcode r) 2) (leb 2 (kind r 0)) true) (allFrom (slotOk r) 0 25) (labelOk image (roleA (statementOf r)) (blockField r) (labelA r)) (labelOk image (roleB (statementOf r)) (blockField r) (labelB r))
 
   -- what the opcode asks for, once the opcode is known

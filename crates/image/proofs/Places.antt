@@ -4,6 +4,7 @@ use mathlib.Core.Bool.{Bool, true, false, cond, _&&_, and-true, and-assoc, or-fa
 use mathlib.Core.List.{List, _∷_}
 use Prim.Native.Nat.{ℕ, zero, suc, _+_, _*_, _%_, _≤_, _<_, _-_}
 use native.Mathlib.Omega.{arith}
+use lib.Bits.{bitOr}
 use lib.Dec.{eqb, ltb}
 use native.Mathlib.Numerals.{add-one}
 use lib.ListN.{length, getD}
@@ -13,9 +14,9 @@ use Rattle.rules.specs.Bytes.{part, isZeros, num16, allFrom}
 use Rattle.fields.specs.Put.{part-none}
 use Rattle.rules.specs.Image.{operands, kind, value}
 use Rattle.rules.specs.Check.{operandOk, slotOk}
-use Rattle.image.specs.Runs.{all-at, all-holds, all-same, all-both, all-split, all-threes}
+use Rattle.image.specs.Runs.{exchange, all-at, all-holds, all-same, all-both, all-split, all-threes}
 use Rattle.image.specs.Operands.{roomOf, markOf, Marks, bitsOk, placeOk, valueOk}
-use Rattle.image.proofs.Bits.{below-four, all-bits, no-bits, sum-zero}
+use Rattle.image.proofs.Bits.{below-four, all-bits, no-bits, or-below, sum-zero}
 
 twice : (a b c : Bool) → (a && b && (b && c)) ≡ (a && (b && c))
 twice true true c = refl
@@ -150,7 +151,23 @@ module _ (r : List ℕ) (c : ℕ) (most : c ≤ 25) where
       ∙ all-both (placeOk r c) value-used 0 25
       ∙ ap (λ b. allFrom (placeOk r c) 0 25 && b) values-used
 
--- ---- no operands
+-- ---- few operands
+
+-- a kind below 4 and a value that is short with its room
+pub value-few : (r room : List ℕ) (k kd v : ℕ) → kd ≡ kind r k → v ≡ value r k → room ≡ roomOf → v < 65536 → (ltb kd 4 && ltb (v + getD room (kd % 4) 0) 65536) ≡ valueOk r k
+unfolding valueOk
+value-few r room k kd v e f g l = rw (← e, ← f, g) (go (ltb kd 4) refl)
+  where
+    go : (t : Bool) → ltb kd 4 ≡ t → (t && ltb (v + getD roomOf (kd % 4) 0) 65536) ≡ operandOk kd v
+    go true h =
+        let small : kd < 4 = ltb-true kd 4 h in
+        let same : kd % 4 ≡ kd = omega arith in
+        rw same (fits kd v small l)
+    go false h = sym (kind-small kd v ∙ rw h refl)
+
+-- kinds and values gathered one operand further
+pub few-next : (kinds seen kd x : ℕ) (b : Bool) → (ltb kd 4 && ltb x 65536) ≡ b → (ltb (bitOr kinds kd) 4 && ltb (bitOr seen x) 65536) ≡ ((ltb kinds 4 && ltb seen 65536) && b)
+few-next kinds seen kd x b e = rw (or-below 2 kinds kd, or-below 16 seen x, ← e) (exchange (ltb kinds 4) (ltb kd 4) (ltb seen 65536) (ltb x 65536))
 
 part-first : (s : List ℕ) (i n : ℕ) → i < length s → part s i (suc n) ≡ getD s i 0 ∷ part s (i + 1) n
 unfolding part
@@ -163,16 +180,27 @@ zeros-from s at k (suc n) h =
     let e : at + k + 1 ≡ at + (k + 1) = omega arith in
     rw (part-first s (at + k) n (omega arith), e) (ap (λ b. eqb (getD s (at + k) 0) 0 && b) (zeros-from s at (k + 1) n (omega arith)))
 
-empty-slot : (r : List ℕ) (k : ℕ) → operands r ≡ 0
+unused-slot : (r : List ℕ) (k : ℕ) → operands r ≤ k
     → (eqb (getD r (9 + 3 * k) 0) 0 && eqb (getD r (9 + (3 * k + 1)) 0) 0 && eqb (getD r (9 + (3 * k + 2)) 0) 0) ≡ slotOk r k
 unfolding slotOk num16
-empty-slot r k e =
+unused-slot r k h =
     let low : 9 + (3 * k + 1) ≡ 10 + 3 * k + 0 = omega arith in
     let high : 9 + (3 * k + 2) ≡ 10 + 3 * k + 1 = omega arith in
-    rw (e, le-ltb k 0 (omega arith), low, high, getD-drop, getD-drop, sum-zero, and-assoc)
+    rw (le-ltb k (operands r) h, low, high, getD-drop, getD-drop, sum-zero, and-assoc)
 
-pub no-operands : (r : List ℕ) → length r ≡ 84 → operands r ≡ 0 → isZeros (part r 9 75) ≡ allFrom (slotOk r) 0 25
-no-operands r h e =
-    zeros-from r 9 0 75 (omega arith)
-    ∙ all-threes (λ i. eqb (getD r (9 + i) 0) 0) 0 25
-    ∙ all-same _ (slotOk r) 0 25 (λ k p q. empty-slot r k e)
+used-slot : (r : List ℕ) (k : ℕ) → k < operands r → valueOk r k ≡ slotOk r k
+unfolding slotOk valueOk
+used-slot r k h = rw (lt-ltb k (operands r) h) refl
+
+pub few-slots : (r : List ℕ) (c : ℕ) → length r ≡ 84 → c ≡ operands r → c ≤ 25 → (allFrom (valueOk r) 0 c && isZeros (part r (9 + 3 * c) (75 - 3 * c))) ≡ allFrom (slotOk r) 0 25
+few-slots r c h e most =
+    let used : allFrom (valueOk r) 0 c ≡ allFrom (slotOk r) 0 c = all-same (valueOk r) (slotOk r) 0 c (λ k p q. used-slot r k (omega arith)) in
+    let size : 75 - 3 * c ≡ 3 * (25 - c) = omega arith in
+    let rest : isZeros (part r (9 + 3 * c) (75 - 3 * c)) ≡ allFrom (slotOk r) c (25 - c) =
+    rw size
+    (zeros-from r 9 (3 * c) (3 * (25 - c)) (omega arith)
+    ∙ all-threes (λ i. eqb (getD r (9 + i) 0) 0) c (25 - c)
+    ∙ all-same _ (slotOk r) c (25 - c) (λ k p q. unused-slot r k (omega arith))) in
+    let whole : c + (25 - c) ≡ 25 = omega arith in
+    let begun : 0 + c ≡ c = omega arith in
+    rw (used, rest) (sym (rw (whole, begun) at (all-split (slotOk r) 0 c (25 - c))))

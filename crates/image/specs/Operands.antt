@@ -8,7 +8,8 @@ use lib.Dec.{eqb, ltb}
 use lib.ListN.{getD}
 use Rattle.rules.specs.Bytes.{allFrom}
 use Rattle.rules.specs.Image.{kind, value}
-use Rattle.rules.specs.Check.{operandOk}
+use Rattle.rules.specs.Sizes.{operandCount}
+use Rattle.rules.specs.Check.{operandOk, slotOk}
 
 -- the room from the limits of the kinds 0 to 3 up to 65,536
 abbrev pub roomOf : List ℕ
@@ -33,3 +34,7 @@ placeOk r c k = cond (ltb k c) (ltb (kind r k) 4) (eqb (kind r k) 0 && eqb (valu
 -- the operand in place k
 unfoldable pub valueOk : List ℕ → ℕ → Bool
 valueOk r k = operandOk (kind r k) (value r k)
+
+-- all places for operands of a record
+abbrev pub slotsOk : List ℕ → Bool
+slotsOk r = allFrom (slotOk r) 0 operandCount

@@ -1,22 +1,26 @@
 // The image check: the refusals 1 to 4, lowest number first.
+use crate::operands::FEW;
 use crate::operands::MARKS;
 use crate::operands::ROOM;
+use crate::operands::few_ok;
+use crate::operands::slots_ok;
 use crate::records::count_labels;
 use crate::records::record_of;
-use crate::rule::rule_ok;
+use crate::rule::outline_ok;
 use crate::table::first_bad_row;
 use crate::table::rows_ok;
+use fields::read::wide;
 use rules::limits::Table;
 use rules::sorts::Block;
 ghost use mathlib.Core.Path.{_≡_};
 ghost use mathlib.Core.List.{[], _∷_};
-ghost use Prim.Native.Nat.{_<_};
+ghost use Prim.Native.Nat.{_-_, _<_, _≤_};
 ghost use lib.ListN.{length};
 ghost use Rattle.rules.specs.Sizes.{tableSize};
 ghost use Rattle.rules.specs.Bytes.{firstBad};
 ghost use Rattle.rules.specs.Image.{labels};
-ghost use Rattle.rules.specs.Check.{recordOk, refusal, imageLengthFault, tableLengthFault, tableFault, recordFault, firstOf, imageFaults};
-ghost use Rattle.image.specs.Operands.{Marks, roomOf};
+ghost use Rattle.rules.specs.Check.{refusal, imageLengthFault, tableLengthFault, tableFault, recordFault, firstOf, imageFaults};
+ghost use Rattle.image.specs.Forms.{outlineAt, slotsAt, FewIn};
 
 pub fn refuse(ok: bool, number: u32, place: usize) -> u32
     requires { ⌜ (number < 256) × (place < 65536) ⌝ }
@@ -36,15 +40,54 @@ pub fn first_of(first: u32, second: u32) -> u32
     if first != 0 { first } else { second }
 }
 
-// The first label whose record breaks a rule, or n.
-pub fn first_bad_label(image: &[u8], n: usize, marks: &[u8; 150], room: &[u32; 4]) -> usize
-    requires { ⌜ (n ≡ labels (now image)) × Marks (now marks) × (now room ≡ roomOf) ⌝ }
-    ensures { λ r. ⌜ r ≡ firstBad (recordOk (now (image .entry))) 0 (labels (now (image .entry))) ⌝ }
+// The first label whose record's outline breaks a rule, or n.
+pub fn first_bad_outline(image: &[u8], n: usize) -> usize
+    requires { ⌜ n ≡ labels (now image) ⌝ }
+    ensures { λ r. ⌜ r ≡ firstBad (outlineAt (now (image .entry))) 0 n ⌝ }
 {
     let mut l = 0;
     while l < n {
         let r = record_of(image, l);
-        if !rule_ok(image, n, r, marks, room) {
+        if !outline_ok(image, n, r) {
+            return l;
+        }
+        l += 1;
+    }
+    l
+}
+
+// The first of m labels, from one on, whose record's operands break a rule, or m.
+pub fn first_bad_slots(image: &[u8], from: usize, m: usize) -> usize
+    requires { ⌜ (from ≤ m) × (m ≤ labels (now image)) × FewIn (now image) m ⌝ }
+    ensures { λ r. ⌜ r ≡ firstBad (slotsAt (now (image .entry))) from (m - from) ⌝ }
+{
+    let marks = MARKS;
+    let room = ROOM;
+    let mut l = from;
+    while l < m {
+        let r = record_of(image, l);
+        if !slots_ok(r, &marks, &room, wide(r[8])) {
+            return l;
+        }
+        l += 1;
+    }
+    l
+}
+
+// The same from label 0 on. The marks are laid out only where a record has more than a few operands.
+pub fn first_bad_operand(image: &[u8], m: usize) -> usize
+    requires { ⌜ (m ≤ labels (now image)) × FewIn (now image) m ⌝ }
+    ensures { λ r. ⌜ r ≡ firstBad (slotsAt (now (image .entry))) 0 m ⌝ }
+{
+    let room = ROOM;
+    let mut l: usize = 0;
+    while l < m {
+        let r = record_of(image, l);
+        let c = wide(r[8]);
+        if FEW < c {
+            return first_bad_slots(image, l, m);
+        }
+        if !few_ok(r, &room, c) {
             return l;
         }
         l += 1;
@@ -73,11 +116,12 @@ pub fn table_fault(table: &[u8]) -> u32
     refuse(b == Block::COUNT, 3, b)
 }
 
-pub fn record_fault(image: &[u8], n: usize, marks: &[u8; 150], room: &[u32; 4]) -> u32
-    requires { ⌜ (n ≡ labels (now image)) × Marks (now marks) × (now room ≡ roomOf) ⌝ }
+pub fn record_fault(image: &[u8], n: usize) -> u32
+    requires { ⌜ n ≡ labels (now image) ⌝ }
     ensures { λ r. ⌜ r ≡ recordFault (now (image .entry)) ⌝ }
 {
-    let l = first_bad_label(image, n, marks, room);
+    let m = first_bad_outline(image, n);
+    let l = first_bad_operand(image, m);
     refuse(l == n, 4, l)
 }
 
@@ -85,8 +129,6 @@ pub fn record_fault(image: &[u8], n: usize, marks: &[u8; 150], room: &[u32; 4]) 
 pub fn image_fault(image: &[u8], table: &[u8]) -> u32
     ensures { λ r. ⌜ r ≡ firstOf (imageFaults (now (image .entry)) (now (table .entry)) []) ⌝ }
 {
-    let marks = MARKS;
-    let room = ROOM;
     let n = count_labels(image);
     let a = image_length_fault(image, n);
     if a != 0 {
@@ -99,5 +141,5 @@ pub fn image_fault(image: &[u8], table: &[u8]) -> u32
     if !rows_ok(table) {
         return table_fault(table);
     }
-    record_fault(image, n, &marks, &room)
+    record_fault(image, n)
 }

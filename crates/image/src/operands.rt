@@ -2,19 +2,19 @@
 // that must be zero are tested over all bytes at once; after that each value is held to the limit of its kind.
 use fields::read::all_zero;
 use fields::read::get16;
+use fields::read::get64;
 use fields::read::wide;
 use rules::sorts::Block;
 use rules::sorts::Thread;
 ghost use mathlib.Core.Path.{_≡_};
 ghost use mathlib.Core.Bool.{true};
-ghost use Prim.Native.Nat.{_≤_, _-_};
+ghost use Prim.Native.Nat.{_+_, _*_, _-_, _≤_};
 ghost use lib.Dec.{eqb};
 ghost use lib.ListN.{length};
 ghost use Rattle.rules.specs.Sizes.{recordSize, operandCount};
-ghost use Rattle.rules.specs.Bytes.{allFrom};
+ghost use Rattle.rules.specs.Bytes.{allFrom, part, isZeros};
 ghost use Rattle.rules.specs.Image.{operands};
-ghost use Rattle.rules.specs.Check.{slotOk};
-ghost use Rattle.image.specs.Operands.{Marks, roomOf, bitsOk, placeOk, valueOk};
+ghost use Rattle.image.specs.Operands.{Marks, roomOf, bitsOk, placeOk, valueOk, slotsOk};
 
 // The room from the limit of a kind up to 65,536: a value is below the limit exactly if value and room add up to less than 65,536.
 // Kind 0 allows no value and a number any; then come registers and shared words.
@@ -75,14 +75,48 @@ pub fn values_ok(r: &[u8], room: &[u32; 4], c: usize) -> bool
     seen < 65536
 }
 
-// Where there are no operands all bytes of the places are zero.
+// A record with few operands: their kinds and their values are gathered at once.
+pub const FEW: usize = 5;
+
+pub fn few_values_ok(r: &[u8], room: &[u32; 4], c: usize) -> bool
+    requires { ⌜ (length (now r) ≡ recordSize) × (c ≤ operandCount) × (now room ≡ roomOf) ⌝ }
+    ensures { λ z. ⌜ z ≡ allFrom (valueOk (now (r .entry))) 0 c ⌝ }
+{
+    let mut kinds: u8 = 0;
+    let mut seen: u32 = 0;
+    let mut k = 0;
+    while k < c {
+        let kind = r[9 + 3 * k];
+        let value = get16(r, 10 + 3 * k);
+        kinds = kinds | kind;
+        seen = seen | (value as u32 + room[wide(kind % 4)]);
+        k += 1;
+    }
+    (kinds < 4) & (seen < 65536)
+}
+
+// What is left after few operands is zero: sixteen bytes, and all from byte 24 on.
+pub fn rest_zero(r: &[u8], c: usize) -> bool
+    requires { ⌜ (length (now r) ≡ recordSize) × (c ≤ 5) ⌝ }
+    ensures { λ z. ⌜ z ≡ isZeros (part (now (r .entry)) (9 + 3 * c) (75 - 3 * c)) ⌝ }
+{
+    let start = 9 + 3 * c;
+    let next = get64(r, start) | get64(r, start + 8);
+    all_zero(r, 24, 60) & (next == 0)
+}
+
+pub fn few_ok(r: &[u8], room: &[u32; 4], c: usize) -> bool
+    requires { ⌜ (length (now r) ≡ recordSize) × (c ≡ operands (now r)) × (c ≤ 5) × (now room ≡ roomOf) ⌝ }
+    ensures { λ z. ⌜ z ≡ slotsOk (now (r .entry)) ⌝ }
+{
+    few_values_ok(r, room, c) & rest_zero(r, c)
+}
+
+// Any number of operands.
 pub fn slots_ok(r: &[u8], marks: &[u8; 150], room: &[u32; 4], c: usize) -> bool
     requires { ⌜ (length (now r) ≡ recordSize) × (c ≡ operands (now r)) × (c ≤ operandCount) × Marks (now marks) × (now room ≡ roomOf) ⌝ }
-    ensures { λ z. ⌜ z ≡ allFrom (slotOk (now (r .entry))) 0 operandCount ⌝ }
+    ensures { λ z. ⌜ z ≡ slotsOk (now (r .entry)) ⌝ }
 {
-    if c == 0 {
-        return all_zero(r, 9, 75);
-    }
     if places_ok(r, marks, c) {
         values_ok(r, room, c)
     } else {

@@ -1,5 +1,4 @@
 // The rules of a record.
-use crate::operands::slots_ok;
 use crate::records::block_at;
 use crate::records::entry_at;
 use fields::read::get16;
@@ -17,9 +16,8 @@ ghost use lib.Dec.{eqb, leb, ltb};
 ghost use lib.ListN.{length};
 ghost use Rattle.rules.specs.Sizes.{recordSize, operandCount};
 ghost use Rattle.rules.specs.Image.{labels, recordAt, blockField, entry, operands, labelA, labelB};
-ghost use Rattle.rules.specs.Check.{operatorOk, countOk, labelOk, ruleOk};
-ghost use Rattle.image.specs.Operands.{Marks, roomOf};
-ghost use Rattle.image.specs.Forms.{formOk};
+ghost use Rattle.rules.specs.Check.{operatorOk, countOk, labelOk};
+ghost use Rattle.image.specs.Forms.{formOk, outlineOk};
 
 // A label is below n, and its record is in this block.
 pub fn in_block(image: &[u8], n: usize, own: Block, v: u16) -> bool
@@ -73,7 +71,11 @@ pub fn labels_ok(image: &[u8], n: usize, r: &[u8], a: Role, b: Role) -> bool
 pub fn assign_ok(o: u8, c: usize, kind: u8) -> bool
     ensures { λ z. ⌜ z ≡ (operatorOk 2 o && countOk 2 o c && leb 2 kind) ⌝ }
 {
-    ((1 <= o) & (o <= 4)) & (((o == 1) & (c == 2)) | ((1 < o) & (c == 3))) & (2 <= kind)
+    if o == 1 {
+        (c == 2) & (2 <= kind)
+    } else {
+        ((2 <= o) & (o <= 4)) & (c == 3) & (2 <= kind)
+    }
 }
 
 // What the opcode asks of the operator, the operand count, the destination and the labels.
@@ -96,17 +98,14 @@ pub fn form_ok(image: &[u8], n: usize, r: &[u8], c: usize) -> bool
     }
 }
 
-// A record meets the rules.
-pub fn rule_ok(image: &[u8], n: usize, r: &[u8], marks: &[u8; 150], room: &[u32; 4]) -> bool
-    requires { ⌜ (n ≡ labels (now image)) × (length (now r) ≡ recordSize) × Marks (now marks) × (now room ≡ roomOf) ⌝ }
-    ensures { λ z. ⌜ z ≡ ruleOk (now (image .entry)) (now (r .entry)) ⌝ }
+// All that the rules ask of a record but for the places of its operands.
+pub fn outline_ok(image: &[u8], n: usize, r: &[u8]) -> bool
+    requires { ⌜ (n ≡ labels (now image)) × (length (now r) ≡ recordSize) ⌝ }
+    ensures { λ z. ⌜ z ≡ outlineOk (now (image .entry)) (now (r .entry)) ⌝ }
 {
     let c = wide(r[8]);
     if Image::OPERANDS < c {
         return false;
     }
-    if !((wide(r[1]) < Block::COUNT) & (r[2] < 4) & form_ok(image, n, r, c)) {
-        return false;
-    }
-    slots_ok(r, marks, room, c)
+    (wide(r[1]) < Block::COUNT) & (r[2] < 4) & form_ok(image, n, r, c)
 }

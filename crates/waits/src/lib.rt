@@ -59,10 +59,11 @@ fn walk_on(image: &[u8], table: &[u8], state: &[u8], met: &mut [u8], n: usize, t
 
 // Every byte is unused.
 fn blank(met: &mut [u8])
+    requires { ⌜ length (now met) ≡ 8 ⌝ }
     ensures { λ _. ⌜ now (met .exit) ≡ replicate (length (now (met .entry))) 255 ⌝ }
 {
     let mut i: usize = 0;
-    while i < met.len() {
+    while i < Thread::COUNT {
         met[i] = UNUSED;
         i += 1;
     }
