@@ -120,7 +120,7 @@ int main(int argc, char **argv)
         print_row(row, &best);
         points[row->plot][counts[row->plot]++] = best;
     }
-    printf("Run is timed by the event, with all that a call does at its door; the others by the "
+    printf("Run is timed by the event, with all tests that a call begins with; the others by the "
            "call.\n");
     int failed = 0;
     for (enum bench_plots plot = 0; argc > 1 && plot < PLOTS; plot++)
