@@ -3,7 +3,7 @@ use mathlib.Core.Path.{_≡_, ap, _∙_}
 use mathlib.Core.List.{List}
 use Prim.Native.Nat.{ℕ}
 use lib.ListN.{length, getD}
-use Rattle.rules.specs.Sizes.{treesAt, stateSize}
+use Rattle.rules.specs.Sizes.{treeCountPlace, stateSize}
 use Rattle.rules.specs.Machine.{Machine}
 use Rattle.rules.specs.Encoding.{encode, machineFrom}
 use Rattle.encoding.specs.Sized.{Sized}
@@ -16,7 +16,7 @@ pub record Encodes (b : List ℕ) (s : Machine) : Type 0 where
   pub same : b ≡ encode s
   pub sized : Sized s
   pub long : length b ≡ stateSize
-  pub count : getD b treesAt 0 ≡ length (s .trees)
+  pub count : getD b treeCountPlace 0 ≡ length (s .trees)
 
 -- b are the bytes of the machine that they say
 abbrev pub Canonical : List ℕ → Type 0

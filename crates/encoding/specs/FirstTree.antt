@@ -10,7 +10,7 @@ use native.Mathlib.Omega.{arith}
 use lib.Dec.{eqb}
 use lib.ListN.{length, getD, take, drop, set}
 use borrow.Author.Tests.{eq-eqb, ne-eqb}
-use Rattle.rules.specs.Sizes.{treeCount, treeSize, treesAt}
+use Rattle.rules.specs.Sizes.{treeCount, treeSize, treesPlace}
 use Rattle.rules.specs.Bytes.{firstBad}
 use Rattle.rules.specs.Machine.{Signal, Tree, Machine, first, refit, put}
 use Rattle.rules.specs.Encoding.{noTree, encode}
@@ -90,7 +90,7 @@ module _ (t : ℕ) where
 
 -- tree i of these bytes is on another thread
 unfoldable pub elsewhere : List ℕ → ℕ → ℕ → Bool
-elsewhere b t i = not (eqb (getD b (treesAt + 1 + treeSize * i) 0) t)
+elsewhere b t i = not (eqb (getD b (treesPlace + treeSize * i) 0) t)
 
 -- a test that is that of the trees from i on
 search : (t : ℕ) (ok : ℕ → Bool) (l : List Tree) (i : ℕ) → ((j : ℕ) → j < length l → ok (i + j) ≡ not (eqb (getD l j noTree .thread) t)) → firstBad ok i (length l) ≡ i + firstTree t l

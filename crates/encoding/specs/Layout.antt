@@ -4,7 +4,7 @@ use mathlib.Core.List.{List, [], _∷_, _++_, append-assoc, append-nil}
 use Prim.Native.Nat.{ℕ, suc, _+_, _*_, _≤_, _<_}
 use native.Mathlib.Omega.{arith}
 use lib.ListN.{length, getD, drop, length-append}
-use Rattle.rules.specs.Sizes.{threadCount, treeCount, wordsSize, threadSize, treeSize, treesAt}
+use Rattle.rules.specs.Sizes.{threadCount, treeCount, wordsSize, threadSize, treeSize, treeCountPlace, treesPlace}
 use Rattle.rules.specs.Bytes.{le16, blocks, pad}
 use Rattle.rules.specs.Machine.{Machine, idle, threadAt}
 use Rattle.rules.specs.Encoding.{noTree, threadBytes, treeBytes, encode}
@@ -17,7 +17,7 @@ use Rattle.encoding.specs.Lengths.{length-thread, length-tree, length-wo
 unfoldable pub header : Machine → List ℕ
 header s = blocks le16 (pad 0 256 (s .words)) ++ blocks threadBytes (pad idle 8 (s .threads))
 
-pub length-header : (s : Machine) → length (header s) ≡ treesAt
+pub length-header : (s : Machine) → length (header s) ≡ treeCountPlace
 unfolding header
 length-header s = simp length-append (omega (arith, length-words s, length-threads s))
 
@@ -34,11 +34,11 @@ encode-header s =
 pub encode-slots : (s : Machine) → encode s ≡ (header s ++ (length (s .trees) ∷ [])) ++ (slots s ++ [])
 encode-slots s = encode-header s ∙ rw append-nil (sym (append-assoc (header s) (length (s .trees) ∷ []) (slots s)))
 
-pub length-before : (s : Machine) → length (header s ++ (length (s .trees) ∷ [])) ≡ treesAt + 1
+pub length-before : (s : Machine) → length (header s ++ (length (s .trees) ∷ [])) ≡ treesPlace
 length-before s = simp length-append (omega (arith, length-header s))
 
 -- the tree count
-pub count-back : (s : Machine) → getD (encode s) treesAt 0 ≡ length (s .trees)
+pub count-back : (s : Machine) → getD (encode s) treeCountPlace 0 ≡ length (s .trees)
 count-back s = rw encode-header (getD-after (header s) (length (s .trees) ∷ slots s) 1112 0 0 (omega (arith, length-header s)))
 
 -- what follows from thread t's record on, and from tree i's
@@ -52,7 +52,7 @@ thread-on s t at n h e =
       rw (pad-full idle 8 (s .threads) n) (block-drop threadBytes 75 length-thread idle words after (s .threads) at t (omega (arith, length-words s)) (omega arith)),
     )
 
-pub tree-on : (s : Machine) (i at : ℕ) → length (s .trees) ≤ treeCount → i < length (s .trees) → at ≡ treesAt + 1 + treeSize * i
+pub tree-on : (s : Machine) (i at : ℕ) → length (s .trees) ≤ treeCount → i < length (s .trees) → at ≡ treesPlace + treeSize * i
     → (r : List ℕ) × (drop at (encode s) ≡ treeBytes (getD (s .trees) i noTree) ++ r)
 unfolding slots
 tree-on s i at n h e =

@@ -8,7 +8,7 @@ use lib.Dec.{leb}
 use lib.ListN.{length, getD, drop, replicate, length-drop}
 use lib.Seq.{drop-at, drop-drop, take-all}
 use borrow.Author.Tests.{leb-true, le-leb}
-use Rattle.rules.specs.Sizes.{threadCount, treeCount, wordsSize, threadSize, treeSize, treesAt, stateSize}
+use Rattle.rules.specs.Sizes.{threadCount, treeCount, wordsSize, threadSize, treeSize, treeCountPlace, treesPlace, stateSize}
 use Rattle.rules.specs.Bytes.{num16, le16, part, isZeros, blocks, pad, chunks, allFrom}
 use Rattle.rules.specs.Machine.{Machine, idle, threadAt}
 use Rattle.rules.specs.Encoding.{noTree, threadBytes, threadFrom, treeBytes, treeFrom, encode, wordsFrom, machineFrom}
@@ -37,7 +37,7 @@ module _ (s : Machine) (z : Sized s) where
       rw (drop-at (blocks le16 (pad 0 256 (s .words))) (blocks threadBytes (pad idle 8 (s .threads)) ++ after) 512 (length-words s), pad-full idle 8 (s .threads) (z .threads), ← z .threads)
       (chunks-blocks threadBytes threadFrom threadSize length-thread SizedThread thread-back (s .threads) after (z .eachThread))
 
-  trees-back : chunks treeFrom treeSize (getD (encode s) treesAt 0) (drop (treesAt + 1) (encode s)) ≡ s .trees
+  trees-back : chunks treeFrom treeSize (getD (encode s) treeCountPlace 0) (drop treesPlace (encode s)) ≡ s .trees
   unfolding slots
   trees-back =
       let n = length (s .trees) in
@@ -53,9 +53,9 @@ module _ (s : Machine) (z : Sized s) where
 
 pub record StateRead (state : List ℕ) : Type 0 where
   pub threads : (t : ℕ) → t < threadCount → threadTidy (drop (threadSize * t) (drop wordsSize state)) ≡ true
-  pub few : getD state treesAt 0 ≤ treeCount
-  pub each : (i : ℕ) → i < getD state treesAt 0 → treeTidy (drop (treeSize * i) (drop (treesAt + 1) state)) ≡ true
-  pub zeros : part (drop (treesAt + 1) state) (treeSize * getD state treesAt 0) (treeSize * (treeCount - getD state treesAt 0)) ≡ replicate (treeSize * (treeCount - getD state treesAt 0)) 0
+  pub few : getD state treeCountPlace 0 ≤ treeCount
+  pub each : (i : ℕ) → i < getD state treeCountPlace 0 → treeTidy (drop (treeSize * i) (drop treesPlace state)) ≡ true
+  pub zeros : part (drop treesPlace state) (treeSize * getD state treeCountPlace 0) (treeSize * (treeCount - getD state treeCountPlace 0)) ≡ replicate (treeSize * (treeCount - getD state treeCountPlace 0)) 0
 
 pub state-read : (state : List ℕ) → length state ≡ stateSize → stateTidy state ≡ true → StateRead state
 unfolding stateTidy threadAtTidy treeAtTidy
@@ -118,7 +118,7 @@ module _ (s : Machine) (z : Sized s) where
       let d = tree-on s i (1113 + 426 * i) (z .trees) h refl in
       rw (d .1) (tree-tidy (getD (s .trees) i noTree) (each-at SizedTree (s .trees) i noTree (z .eachTree) h) (d .0))
 
-  tail-zeros : isZeros (part (encode s) (treesAt + 1 + treeSize * length (s .trees)) (treeSize * (treeCount - length (s .trees)))) ≡ true
+  tail-zeros : isZeros (part (encode s) (treesPlace + treeSize * length (s .trees)) (treeSize * (treeCount - length (s .trees)))) ≡ true
   unfolding slots
   tail-zeros =
       let n = length (s .trees) in

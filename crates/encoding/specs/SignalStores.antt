@@ -6,7 +6,7 @@ use native.Mathlib.Nat.{add-zero}
 use native.Mathlib.Omega.{arith}
 use lib.ListN.{length, getD, drop, set, replicate, length-append, length-replicate, length-drop}
 use lib.Seq.{take-at, drop-drop, getD-drop}
-use Rattle.rules.specs.Sizes.{treeCount, pendingCount, signalSize, treeSize, treesAt}
+use Rattle.rules.specs.Sizes.{treeCount, pendingCount, signalSize, treeSize, treesPlace}
 use Rattle.rules.specs.Bytes.{part, blocks, pad}
 use Rattle.rules.specs.Machine.{Signal, Tree, Machine}
 use Rattle.rules.specs.Encoding.{noSignal, noTree, signalBytes, signalFrom, treeBytes, treeFrom, encode}
@@ -61,7 +61,7 @@ move-bytes x t = refl
 
 module _ (s : Machine) (i : ℕ) {b : List ℕ} (e : b ≡ encode s) (l : length (s .trees) ≤ treeCount) (h : i < length (s .trees)) where
   pub signal-push : {b₁ b₂ : List ℕ} (k at : ℕ) (g : Signal) → k ≡ length (getD (s .trees) i noTree .pending) → length (getD (s .trees) i noTree .pending) < pendingCount
-      → at ≡ treesAt + 1 + treeSize * i → b₁ ≡ put b (at + 2 + signalSize * k) (signalBytes g) → b₂ ≡ put b₁ (at + 1) ((k + 1) ∷ [])
+      → at ≡ treesPlace + treeSize * i → b₁ ≡ put b (at + 2 + signalSize * k) (signalBytes g) → b₂ ≡ put b₁ (at + 1) ((k + 1) ∷ [])
       → b₂ ≡ encode (withTrees s (set (s .trees) i (pushed (getD (s .trees) i noTree) g)))
   signal-push {b₁} {b₂} k at g ek few ea e₁ e₂ =
       let x = getD (s .trees) i noTree in
@@ -70,7 +70,7 @@ module _ (s : Machine) (i : ℕ) {b : List ℕ} (e : b ≡ encode s) (l : length
       f₂ ∙ rw (push-bytes x k g few ek) (tree-close s i l h (pushed x g))
 
   pub signal-take : {b₁ b₂ : List ℕ} (k at : ℕ) → k ≡ length (getD (s .trees) i noTree .pending) → 0 < length (getD (s .trees) i noTree .pending)
-      → length (getD (s .trees) i noTree .pending) ≤ pendingCount → at ≡ treesAt + 1 + treeSize * i
+      → length (getD (s .trees) i noTree .pending) ≤ pendingCount → at ≡ treesPlace + treeSize * i
       → b₁ ≡ put b (at + 2) (part b (at + 2 + signalSize) (signalSize * (k - 1)) ++ replicate signalSize 0) → b₂ ≡ put b₁ (at + 1) ((k - 1) ∷ [])
       → b₂ ≡ encode (withTrees s (set (s .trees) i (rest (getD (s .trees) i noTree))))
   signal-take {b₁} {b₂} k at ek some few ea e₁ e₂ =
@@ -83,14 +83,14 @@ module _ (s : Machine) (i : ℕ) {b : List ℕ} (e : b ≡ encode s) (l : length
       let f₂ = tree-put s i l h (put (treeBytes x) 2 a) (at + 1) 1 ((k - 1) ∷ []) f₁ e₂ (length-put _ _ _ ∙ length-tree x) (omega arith) (omega arith) in
       f₂ ∙ rw (take-bytes x k some few ek) (tree-close s i l h (rest x))
 
-  pub tree-move : {b₁ : List ℕ} (t at : ℕ) → at ≡ treesAt + 1 + treeSize * i → b₁ ≡ put b at (t ∷ []) → b₁ ≡ encode (withTrees s (set (s .trees) i (moved (getD (s .trees) i noTree) t)))
+  pub tree-move : {b₁ : List ℕ} (t at : ℕ) → at ≡ treesPlace + treeSize * i → b₁ ≡ put b at (t ∷ []) → b₁ ≡ encode (withTrees s (set (s .trees) i (moved (getD (s .trees) i noTree) t)))
   tree-move t at ea e₁ =
       let x = getD (s .trees) i noTree in
       tree-put s i l h (treeBytes x) at 0 (t ∷ []) (e ∙ tree-open s i l h) e₁ (length-tree x) (omega arith) (omega arith) ∙ rw (move-bytes x t) (tree-close s i l h (moved x t))
 
 -- ---- what is read of tree i, along equations
 
-module _ (s : Machine) (i : ℕ) {b : List ℕ} (e : b ≡ encode s) (l : length (s .trees) ≤ treeCount) (h : i < length (s .trees)) (at : ℕ) (ea : at ≡ treesAt + 1 + treeSize * i) where
+module _ (s : Machine) (i : ℕ) {b : List ℕ} (e : b ≡ encode s) (l : length (s .trees) ≤ treeCount) (h : i < length (s .trees)) (at : ℕ) (ea : at ≡ treesPlace + treeSize * i) where
   pub thread-byte-is : getD b at 0 ≡ getD (s .trees) i noTree .thread
   thread-byte-is =
       let d = tree-on s i at l h ea in

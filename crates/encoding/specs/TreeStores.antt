@@ -5,7 +5,7 @@ use Prim.Native.Nat.{ℕ, suc, _+_, _*_, _-_, _≤_, _<_}
 use native.Mathlib.Omega.{arith}
 use lib.ListN.{length, getD, take, drop, set, replicate, length-append, length-set, length-drop}
 use lib.Seq.{drop-append-le, take-append-le, length-take-le}
-use Rattle.rules.specs.Sizes.{treeCount, treeSize, treesAt}
+use Rattle.rules.specs.Sizes.{treeCount, treeSize, treeCountPlace, treesPlace}
 use Rattle.rules.specs.Bytes.{part, blocks, pad}
 use Rattle.rules.specs.Machine.{Signal, Tree, Machine}
 use Rattle.rules.specs.Encoding.{noSignal, noTree, signalBytes, treeBytes, encode}
@@ -40,7 +40,7 @@ module _ (h : List ℕ) (n : ℕ) (l : length h ≡ n) (c : ℕ) where
 -- ---- tree i leaves the list: the later ones move down, and the count is one less
 
 pub tree-remove : (s : Machine) {b b₁ b₂ : List ℕ} (i n at : ℕ) → b ≡ encode s → length (s .trees) ≤ treeCount → i < length (s .trees) → n ≡ length (s .trees)
-    → at ≡ treesAt + 1 + treeSize * i → b₁ ≡ put b at (part b (at + treeSize) (treeSize * (n - 1 - i)) ++ replicate treeSize 0) → b₂ ≡ put b₁ treesAt ((n - 1) ∷ [])
+    → at ≡ treesPlace + treeSize * i → b₁ ≡ put b at (part b (at + treeSize) (treeSize * (n - 1 - i)) ++ replicate treeSize 0) → b₂ ≡ put b₁ treeCountPlace ((n - 1) ∷ [])
     → b₂ ≡ encode (withTrees s (removeAt i (s .trees)))
 unfolding slots header
 tree-remove s {b} {b₁} {b₂} i n at e l h en ea e₁ e₂ =
@@ -62,7 +62,7 @@ tree-remove s {b} {b₁} {b₂} i n at e l h en ea e₁ e₂ =
 -- ---- a tree comes to the list's end: bytes that make an unused place the tree, and the count is one more
 
 pub tree-push : (s : Machine) {b b₁ b₂ : List ℕ} (n at : ℕ) (x : Tree) (a : List ℕ) → b ≡ encode s → length (s .trees) < treeCount → n ≡ length (s .trees)
-    → at ≡ treesAt + 1 + treeSize * n → length a ≤ treeSize → put (treeBytes noTree) 0 a ≡ treeBytes x → b₁ ≡ put b at a → b₂ ≡ put b₁ treesAt ((n + 1) ∷ [])
+    → at ≡ treesPlace + treeSize * n → length a ≤ treeSize → put (treeBytes noTree) 0 a ≡ treeBytes x → b₁ ≡ put b at a → b₂ ≡ put b₁ treeCountPlace ((n + 1) ∷ [])
     → b₂ ≡ encode (withTrees s (s .trees ++ x ∷ []))
 unfolding slots header
 tree-push s {b} {b₁} {b₂} n at x a e l en ea la w e₁ e₂ =
@@ -88,11 +88,11 @@ one-signal t g =
     put-at [] (0 ∷ 0 ∷ signalBytes noSignal) (blocks signalBytes (pad noSignal 7 [])) (t ∷ 1 ∷ signalBytes g) 0 refl (omega (arith, length-signal noSignal, length-signal g))
 
 pub tree-append : (s : Machine) {b b₁ b₂ : List ℕ} (n at : ℕ) (x : Tree) → b ≡ encode s → length (s .trees) < treeCount → n ≡ length (s .trees)
-    → at ≡ treesAt + 1 + treeSize * n → b₁ ≡ put b at (treeBytes x) → b₂ ≡ put b₁ treesAt ((n + 1) ∷ []) → b₂ ≡ encode (withTrees s (s .trees ++ x ∷ []))
+    → at ≡ treesPlace + treeSize * n → b₁ ≡ put b at (treeBytes x) → b₂ ≡ put b₁ treeCountPlace ((n + 1) ∷ []) → b₂ ≡ encode (withTrees s (s .trees ++ x ∷ []))
 tree-append s n at x e l en ea e₁ e₂ = tree-push s n at x (treeBytes x) e l en ea (omega (arith, length-tree x)) (whole-tree x) e₁ e₂
 
 pub signal-append : (s : Machine) {b b₁ b₂ : List ℕ} (t n at : ℕ) (g : Signal) → b ≡ encode s → length (s .trees) < treeCount → n ≡ length (s .trees)
-    → at ≡ treesAt + 1 + treeSize * n → b₁ ≡ put b at (t ∷ 1 ∷ signalBytes g) → b₂ ≡ put b₁ treesAt ((n + 1) ∷ [])
+    → at ≡ treesPlace + treeSize * n → b₁ ≡ put b at (t ∷ 1 ∷ signalBytes g) → b₂ ≡ put b₁ treeCountPlace ((n + 1) ∷ [])
     → b₂ ≡ encode (withTrees s (s .trees ++ record { thread = t; pending = g ∷ [] } ∷ []))
 signal-append s t n at g e l en ea e₁ e₂ = tree-push s n at _ (t ∷ 1 ∷ signalBytes g) e l en ea (omega (arith, length-signal g)) (one-signal t g) e₁ e₂
 
@@ -115,7 +115,7 @@ module _ (s : Machine) (i : ℕ) (l : length (s .trees) ≤ treeCount) (h : i < 
   front : length (blocks treeBytes (take i (pad noTree 16 (s .trees)))) ≡ treeSize * i
   front = length-blocks treeBytes 426 length-tree (take i (pad noTree 16 (s .trees))) ∙ rw (length-take-le i (pad noTree 16 (s .trees)) (omega (arith, length-pad noTree 16 (s .trees))))
 
-  pub tree-put : (c : List ℕ) {b b′ : List ℕ} (at j : ℕ) (a : List ℕ) → b ≡ opened s i c → b′ ≡ put b at a → length c ≡ treeSize → at ≡ treesAt + 1 + treeSize * i + j
+  pub tree-put : (c : List ℕ) {b b′ : List ℕ} (at j : ℕ) (a : List ℕ) → b ≡ opened s i c → b′ ≡ put b at a → length c ≡ treeSize → at ≡ treesPlace + treeSize * i + j
       → j + length a ≤ treeSize → b′ ≡ opened s i (put c j a)
   unfolding opened
   tree-put c at j a e e′ lc ea k =
@@ -123,7 +123,7 @@ module _ (s : Machine) (i : ℕ) (l : length (s .trees) ≤ treeCount) (h : i < 
       ∙ rw e (slots-put (header s) 1112 (length-header s) _ _ at (426 * i + j) a (omega arith)
       ∙ rw (put-inside (blocks treeBytes (take i (pad noTree 16 (s .trees)))) c (blocks treeBytes (drop (suc i) (pad noTree 16 (s .trees)))) (426 * i + j) j a (omega (arith, front)) (omega arith)))
 
-  pub tree-part : (c : List ℕ) {b : List ℕ} (at j n : ℕ) → b ≡ opened s i c → length c ≡ treeSize → at ≡ treesAt + 1 + treeSize * i + j → j + n ≤ treeSize → part b at n ≡ part c j n
+  pub tree-part : (c : List ℕ) {b : List ℕ} (at j n : ℕ) → b ≡ opened s i c → length c ≡ treeSize → at ≡ treesPlace + treeSize * i + j → j + n ≤ treeSize → part b at n ≡ part c j n
   unfolding opened part
   tree-part c at j n e lc ea k =
       let x : List ℕ = blocks treeBytes (take i (pad noTree 16 (s .trees))) in

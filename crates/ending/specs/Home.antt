@@ -15,7 +15,7 @@ use Rattle.one_by_one.specs.Passed.{Passed, passed}
 use Rattle.invariants.specs.Sound.{PendingIn, TreeIn}
 use Rattle.invariants.specs.Destinations.{block-below}
 use Rattle.invariants.specs.Trees.{pending-below}
-use Rattle.ready.specs.Ready.{Ready}
+use Rattle.step_ready.specs.Ready.{Ready}
 use Rattle.rules.specs.Machine.{Signal, Tree, Machine, idle, first}
 use Rattle.rules.specs.Steps.{rulesBy, blockAt, requeued, finished}
 use Rattle.encoding.specs.Stores.{withThread}

@@ -24,8 +24,8 @@ ghost use Rattle.rules.specs.Steps.{rulesBy, finished};
 ghost use Rattle.rules.specs.declared.statement.Statement.the-variants.{Exit};
 ghost use Rattle.encoding.specs.Encoded.{Encodes};
 ghost use Rattle.trees.specs.Canon.{pendingAt};
-ghost use Rattle.ready.specs.Ready.{Ready, Done, replyTo};
-ghost use Rattle.ready.specs.At.{At, Busy};
+ghost use Rattle.step_ready.specs.Ready.{Ready, Done, replyTo};
+ghost use Rattle.step_ready.specs.At.{At, Busy};
 ghost use Rattle.ending.specs.Home.{HomeOf};
 
 // The thread of tree i's oldest signal's block; any thread where nothing is pending.

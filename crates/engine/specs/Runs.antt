@@ -23,7 +23,7 @@ use Rattle.encoding.specs.Runs.{length-chunks, chunks-at}
 use Rattle.encoding.specs.Events.{length-events}
 use Rattle.invariants.specs.StaysWellFormed.{Accepted}
 use Rattle.invariants.specs.States.{events-accepted}
-use Rattle.ready.specs.Ready.{Ready, Done, replyTo, ready-again}
+use Rattle.step_ready.specs.Ready.{Ready, Done, replyTo, ready-again}
 use Rattle.sending.specs.Arrivals.{EventAt}
 
 -- whole events that break no rule

@@ -1,7 +1,7 @@
 // The two bytes of an answer: its code and its detail.
 use fields::write::put8;
 use rules::answer::Answer;
-use rules::layout::ANSWER;
+use rules::layout::ANSWER_SIZE;
 use rules::sorts::lock_number;
 ghost use mathlib.Core.Path.{_≡_};
 ghost use Prim.Native.Nat.{_+_, _*_, _≤_};
@@ -48,7 +48,7 @@ pub fn write_answer(answers: &mut [u8], i: usize, a: Answer)
     requires { ⌜ 2 * i + 2 ≤ length (now answers) ⌝ }
     ensures { λ _. ⌜ now (answers .exit) ≡ put (now (answers .entry)) (2 * i) (answerBytes a) ⌝ }
 {
-    let at = ANSWER * i;
+    let at = ANSWER_SIZE * i;
     put8(answers, at, code_of(a));
     put8(answers, at + 1, detail_of(a));
 }

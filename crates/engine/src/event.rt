@@ -2,13 +2,13 @@
 use crate::step::step;
 use ending::cut_job;
 use rules::answer::Answer;
-use rules::layout::EVENT;
+use rules::layout::EVENT_SIZE;
 use rules::sorts::thread_of;
 use sending::arriving::arrive;
 ghost use Prim.Native.Nat.{_*_};
 ghost use lib.ListN.{drop};
 ghost use Rattle.rules.specs.Events.{eventFrom};
-ghost use Rattle.ready.specs.Ready.{Ready, Done, replyTo};
+ghost use Rattle.step_ready.specs.Ready.{Ready, Done, replyTo};
 ghost use Rattle.sending.specs.Arrivals.{EventAt};
 
 const ARRIVAL: u8 = 1;
@@ -20,7 +20,7 @@ pub fn event(image: &[u8], table: &[u8], state: &mut [u8], events: &[u8], i: usi
     requires { ⌜ Ready (now image) (now table) (now state) × EventAt (now image) (now events) i ⌝ }
     ensures { λ a. ⌜ Done (replyTo (now (image .entry)) (now (table .entry)) (now (state .entry)) (eventFrom (drop (55 * i) (now (events .entry))))) (now (state .exit)) a ⌝ }
 {
-    let at = EVENT * i;
+    let at = EVENT_SIZE * i;
     let kind = events[at];
     if kind == ARRIVAL {
         return arrive(image, table, state, events, i);

@@ -2,10 +2,10 @@
 use fields::write::clear;
 use fields::write::copy;
 use fields::write::put16;
-use rules::layout::STATE;
-use rules::layout::THREAD;
-use rules::layout::THREADS;
-use rules::layout::WORDS;
+use rules::layout::STATE_SIZE;
+use rules::layout::THREAD_SIZE;
+use rules::layout::THREADS_PLACE;
+use rules::layout::WORDS_SIZE;
 use rules::sorts::Label;
 use rules::sorts::Thread;
 ghost use mathlib.Core.Path.{_≡_};
@@ -14,17 +14,17 @@ ghost use Rattle.rules.specs.Machine.{fresh};
 ghost use Rattle.rules.specs.Encoding.{encode, wordsFrom};
 
 // The bytes after the words.
-const REST: usize = STATE - WORDS;
+const REST: usize = STATE_SIZE - WORDS_SIZE;
 
 pub fn fresh(words: &[u8], state: &mut [u8])
     requires { ⌜ (length (now words) ≡ 512) × (length (now state) ≡ 7929) ⌝ }
     ensures { λ _. ⌜ now (state .exit) ≡ encode (fresh (wordsFrom (now (words .entry)))) ⌝ }
 {
-    copy(state, 0, words, 0, WORDS);
-    clear(state, WORDS, REST);
+    copy(state, 0, words, 0, WORDS_SIZE);
+    clear(state, WORDS_SIZE, REST);
     let mut t = 0;
     while t < Thread::COUNT {
-        put16(state, THREADS + THREAD * t, Label::IDLE);
+        put16(state, THREADS_PLACE + THREAD_SIZE * t, Label::IDLE);
         t += 1;
     }
 }

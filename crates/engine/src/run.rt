@@ -1,7 +1,7 @@
 // A run: every event in order, each with the two bytes of its answer, for which there is space.
 use crate::answers::write_answer;
 use crate::event::event;
-use rules::layout::EVENT;
+use rules::layout::EVENT_SIZE;
 ghost use mathlib.Core.Path.{_≡_};
 ghost use Prim.Native.Nat.{_*_};
 ghost use lib.ListN.{length};
@@ -10,7 +10,7 @@ ghost use Rattle.rules.specs.Encoding.{encode, machineFrom};
 ghost use Rattle.rules.specs.Answers.{answerBytes};
 ghost use Rattle.rules.specs.Events.{eventsIn, eventsFrom};
 ghost use Rattle.rules.specs.Steps.{rulesBy, answers, final};
-ghost use Rattle.ready.specs.Ready.{Ready};
+ghost use Rattle.step_ready.specs.Ready.{Ready};
 ghost use Rattle.engine.specs.Runs.{Events};
 
 pub fn run(image: &[u8], table: &[u8], state: &mut [u8], events: &[u8], space: &mut [u8])
@@ -19,7 +19,7 @@ pub fn run(image: &[u8], table: &[u8], state: &mut [u8], events: &[u8], space: &
     ensures { λ _. ⌜ now (state .exit) ≡ encode (final (rulesBy (now (image .entry)) (now (table .entry))) (machineFrom (now (state .entry))) (eventsFrom (now (events .entry)))) ⌝ }
     ensures { λ _. ⌜ now (space .exit) ≡ blocks answerBytes (answers (rulesBy (now (image .entry)) (now (table .entry))) (machineFrom (now (state .entry))) (eventsFrom (now (events .entry)))) ⌝ }
 {
-    let m = events.len() / EVENT;
+    let m = events.len() / EVENT_SIZE;
     let mut i = 0;
     while i < m {
         let a = event(image, table, state, events, i);

@@ -20,8 +20,8 @@ use state::thread_records::read_thread;
 use threads::thread::ThreadState;
 ghost use Prim.Native.Nat.{_<_};
 ghost use Rattle.rules.specs.Events.{step};
-ghost use Rattle.ready.specs.Ready.{Ready, Done, replyTo};
-ghost use Rattle.ready.specs.At.{At};
+ghost use Rattle.step_ready.specs.Ready.{Ready, Done, replyTo};
+ghost use Rattle.step_ready.specs.At.{At};
 
 // The statement in the record at the thread's label.
 fn carry_out(

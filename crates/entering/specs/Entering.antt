@@ -32,8 +32,8 @@ use Rattle.encoding.specs.Encoded.{Encodes, Canonical}
 use Rattle.encoding.specs.Slots.{returnsIn, registersIn}
 use Rattle.one_by_one.specs.Passed.{passed}
 use Rattle.invariants.specs.Destinations.{block-below}
-use Rattle.turns.specs.Events.{withThread, reply}
-use Rattle.turns.specs.Statements.{unread, send-alien, send-waits, send-enters, call-deep, call-alien, call-waits, call-enters}
+use Rattle.step_laws.specs.Events.{withThread, reply}
+use Rattle.step_laws.specs.Statements.{unread, send-alien, send-waits, send-enters, call-deep, call-alien, call-waits, call-enters}
 use Rattle.threads.specs.Returns.{TidyReturns, pushed, pushed-tidy}
 use Rattle.threads.specs.Whole.{Whole, whole}
 use Rattle.threads.specs.Threads as threads
@@ -44,8 +44,8 @@ use Rattle.state.specs.Records.{thread-written}
 use Rattle.operands.specs.Legal.{Below}
 use Rattle.operands.specs.Readings.{Reads}
 use Rattle.operands.specs.Cells.{cellsFrom}
-use Rattle.ready.specs.Ready.{replyTo, Done, done}
-use Rattle.ready.specs.At.{At, tree, below-A}
+use Rattle.step_ready.specs.Ready.{replyTo, Done, done}
+use Rattle.step_ready.specs.At.{At, tree, below-A}
 use Rattle.entering.specs.Passages.{passageTo, callTrap}
 use Rattle.entering.specs.declared.passage.Passage.{Passage}
 use Rattle.entering.specs.declared.passage.Passage.the-variants.{Trap, Ask}

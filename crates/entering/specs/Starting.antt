@@ -30,7 +30,7 @@ use Rattle.one_by_one.specs.Invariant.{never}
 use Rattle.invariants.specs.Sound.{QueueIn}
 use Rattle.invariants.specs.Queues.{headPending, first-queue}
 use Rattle.invariants.specs.Destinations.{block-below}
-use Rattle.turns.specs.Events.{reply, no-tree, start-waits, start-runs}
+use Rattle.step_laws.specs.Events.{reply, no-tree, start-waits, start-runs}
 use Rattle.threads.specs.Returns.{TidyReturns}
 use Rattle.threads.specs.Whole.{Whole}
 use Rattle.threads.specs.Threads.{stateOf, Says, Runs, idle-fields}
@@ -40,7 +40,7 @@ use Rattle.trees.specs.Canon.{pendingAt}
 use Rattle.trees.specs.Changes.{taken}
 use Rattle.trees.specs.Signals.{signalOf}
 use Rattle.trees.specs.declared.signals.Signal as Value
-use Rattle.ready.specs.Ready.{Ready, replyTo, Done, done}
+use Rattle.step_ready.specs.Ready.{Ready, replyTo, Done, done}
 use Rattle.ending.specs.Home.{oldest-below}
 use Rattle.entering.specs.declared.start.First.{First}
 use Rattle.entering.specs.declared.start.First.the-variants.{Pending, Nothing}

@@ -11,27 +11,28 @@ use lib.ListN.{length, getD, set}
 use Rattle.rules.specs.Sorts
 use Rattle.rules.specs.Sizes.{blockCount, pendingCount}
 use Rattle.rules.specs.Bytes.{has}
-use Rattle.rules.specs.Image.{opcode, recordAt, Row, rowAt}
-use Rattle.rules.specs.Statements.{assignmentOf, conditionOf, statementOf, reads}
+use Rattle.rules.specs.Image.{opcode, operator, recordAt, Row, rowAt}
+use Rattle.rules.specs.Statements.{operationAt, conditionOf, otherOf, statementBy, statementOf, reads}
 use Rattle.rules.specs.Machine.{Signal, Job, ThreadState, Machine, idle, running, threadAt, locksOf, first}
 use Rattle.rules.specs.Encoding.{machineFrom}
 use Rattle.rules.specs.Events.{step}
-use Rattle.rules.specs.Effects.{Got, trap, got, then, unless, Cells, readAll, compute, holds, onA, onB, goes, View, go, perform, outcome}
+use Rattle.rules.specs.Effects.{Got, trap, got, then, unless, Cells, readAll, Results, compute, holds, onA, onB, goes, View, go, perform, outcome}
 use Rattle.rules.specs.Steps.{Rules, Reply, Effect, traps, exits, moves, rulesBy, blockAt, resolve, view, actBy, held, react}
 use Rattle.rules.specs.Walk.{asked, holder, awaits}
 use Rattle.rules.specs.declared.sorts.Lock as sorts
 use Rattle.rules.specs.declared.statement.Operand.{Operand}
+use Rattle.rules.specs.declared.statement.Operation.{Operation}
 use Rattle.rules.specs.declared.statement.Statement.{Statement}
 use Rattle.rules.specs.declared.statement.Statement.the-variants.{Skip, Assign, If, SendDirect, SendBuffered, Call, Return, Transfer, Exit}
 use Rattle.rules.specs.declared.answer.Answer.{Answer}
 use Rattle.rules.specs.declared.answer.Answer.the-variants.{Waiting, Moved}
-use Rattle.turns.specs.Events.{reply, no-tree}
-use Rattle.turns.specs.Running.{effect, traps-by, exits-by, moves-by}
+use Rattle.step_laws.specs.Events.{reply, no-tree}
+use Rattle.step_laws.specs.Running.{effect, traps-by, exits-by, moves-by}
 use Rattle.threads.specs.Whole.{whole}
 use Rattle.threads.specs.Threads.{jobOf}
 use Rattle.threads.specs.declared.thread.ThreadState as State
-use Rattle.ready.specs.Ready.{Ready}
-use Rattle.ready.specs.At.{At, tree}
+use Rattle.step_ready.specs.Ready.{Ready}
+use Rattle.step_ready.specs.At.{At, tree}
 use Rattle.entering.specs.Entering.{Passes}
 use Rattle.entering.specs.Starting.{FirstOf, start-waiting, start-running}
 use Rattle.entering.specs.declared.passage.Passage.{Passage}
@@ -95,30 +96,32 @@ Lockless Exit = Unit {0}
 -- of the opcodes 5 is a direct SEND, 7 a CALL, and no other takes a lock
 module _ (r : List ℕ) where
   pub opcode-send : opcode r ≡ 5 → statementOf r ≡ SendDirect
-  unfolding statementOf
-  opcode-send e = rw e
+  unfolding operationAt otherOf statementOf
+  opcode-send e = rw e (rw e)
 
   pub opcode-call : opcode r ≡ 7 → statementOf r ≡ Call
-  unfolding statementOf
-  opcode-call e = rw e
+  unfolding operationAt otherOf statementOf
+  opcode-call e = rw e (rw e)
 
   pub opcode-other : (opcode r ≡ 5 → ⊥) → (opcode r ≡ 7 → ⊥) → Lockless (statementOf r)
-  unfolding statementOf
-  opcode-other n m =
-      rw (ne-eqb (opcode r) 5 n, ne-eqb (opcode r) 7 m)
-      (case (eqb (opcode r) 1 || eqb (opcode r) 3) (eqb (opcode r) 2) (eqb (opcode r) 4) (eqb (opcode r) 6) (eqb (opcode r) 8) (eqb (opcode r) 9))
+  unfolding otherOf statementOf
+  opcode-other n m = by (operationAt (opcode r) (operator r)) (rw (ne-eqb (opcode r) 5 n, ne-eqb (opcode r) 7 m)
+      (case (eqb (opcode r) 1 || eqb (opcode r) 3) (eqb (opcode r) 4) (eqb (opcode r) 6) (eqb (opcode r) 8) (eqb (opcode r) 9)))
     where
-      case : (a b c d e f : Bool) → Lockless (cond a Skip (cond b (Assign (assignmentOf r)) (cond c (If (conditionOf r)) (cond d SendBuffered (cond e Return (cond f Transfer Exit))))))
-      case true b c d e f = tt
-      case false true c d e f = tt
-      case false false true d e f = tt
-      case false false false true e f = tt
-      case false false false false true f = tt
-      case false false false false false true = tt
-      case false false false false false false = tt
+      by : (k : Option Operation) → Lockless (otherOf r) → Lockless (statementBy k r)
+      by none h = h
+      by (some k) h = tt
+
+      case : (a c d e f : Bool) → Lockless (cond a Skip (cond c (If (conditionOf r)) (cond d SendBuffered (cond e Return (cond f Transfer Exit)))))
+      case true c d e f = tt
+      case false true d e f = tt
+      case false false true e f = tt
+      case false false false true f = tt
+      case false false false false true = tt
+      case false false false false false = tt
 
 module _ (block : ℕ → ℕ) (row : ℕ → Row) (t a b : ℕ) (v : View) where
-  quiet-assign : (g : Got ℕ) (rs : List ℕ) (f : ℕ → Cells) → Quiet (resolve block row t rs a b (then g (λ x. go onA (f x))))
+  quiet-assign : (g : Got Results) (rs : List ℕ) (f : Results → Cells) → Quiet (resolve block row t rs a b (then g (λ x. go onA (f x))))
   quiet-assign (trap r) rs f = tt
   quiet-assign (got x) rs f = tt
 
@@ -133,7 +136,7 @@ module _ (block : ℕ → ℕ) (row : ℕ → Row) (t a b : ℕ) (v : View) wher
   quiet-perform : (S : Statement) (rs vs : List ℕ) → Lockless S → Quiet (resolve block row t rs a b (perform v S vs))
   unfolding perform
   quiet-perform Skip rs vs h = tt
-  quiet-perform (Assign x) rs vs h = quiet-assign (compute (x .value) (getD vs 0 0) (getD vs 1 0)) rs _
+  quiet-perform (Assign x) rs vs h = quiet-assign (compute (x .operation) (getD vs 0 0) (getD vs 1 0)) rs _
   quiet-perform (If c) rs vs h = quiet-if (holds (c .relation) (getD vs 0 0) (getD vs 1 0)) rs (v .cells)
   quiet-perform SendDirect rs vs h = absurd h
   quiet-perform SendBuffered rs vs h = quiet-buffered (leb pendingCount (v .pending)) rs vs

@@ -18,7 +18,7 @@ ghost use Prim.Native.Nat.{_<_};
 ghost use Rattle.rules.specs.Machine.{idle, threadAt};
 ghost use Rattle.rules.specs.Encoding.{machineFrom};
 ghost use Rattle.rules.specs.Events.{step};
-ghost use Rattle.ready.specs.Ready.{Ready, Done, replyTo};
+ghost use Rattle.step_ready.specs.Ready.{Ready, Done, replyTo};
 ghost use Rattle.entering.specs.Starting.{FirstOf};
 
 // An idle thread's first tree, by its place in the list, with the lock that its oldest signal asks for.

@@ -23,8 +23,8 @@ ghost use Rattle.rules.specs.Machine.{idle, threadAt};
 ghost use Rattle.rules.specs.Encoding.{machineFrom};
 ghost use Rattle.rules.specs.Steps.{rulesBy};
 ghost use Rattle.rules.specs.Walk.{awaits};
-ghost use Rattle.ready.specs.Ready.{Ready};
-ghost use Rattle.ready.specs.At.{At};
+ghost use Rattle.step_ready.specs.Ready.{Ready};
+ghost use Rattle.step_ready.specs.At.{At};
 ghost use Rattle.entering.specs.Waiting.{lockOf, Wants, waitsOf};
 
 // The opcodes of a direct SEND and a CALL.

@@ -1,21 +1,21 @@
 -- The rules of a record, as the check goes through them: what the opcode asks for, and the operands.
-use mathlib.Core.Bool.{Bool, true, cond, _&&_}
+use mathlib.Core.Bool.{Bool, _&&_}
 use mathlib.Core.List.{List}
 use Prim.Native.Nat.{ℕ, _≤_, _<_}
-use lib.Dec.{eqb, leb, ltb}
+use lib.Dec.{ltb}
 use Rattle.rules.specs.Sizes.{blockCount, operandCount}
-use Rattle.rules.specs.Image.{recordAt, opcode, blockField, entry, operator, operands, labelA, labelB, kind}
-use Rattle.rules.specs.Statements.{statementOf, roleA, roleB}
-use Rattle.rules.specs.Check.{operatorOk, countOk, labelOk}
+use Rattle.rules.specs.Image.{recordAt, opcode, blockField, entry, operator, operands, labelA, labelB}
+use Rattle.rules.specs.Statements.{operationAt, statementOf, roleA, roleB}
+use Rattle.rules.specs.declared.statement.Statement.{Statement}
+use Rattle.rules.specs.Check.{shapeOk, labelOk}
 use Rattle.image.specs.Operands.{slotsOk}
 
--- an opcode 1 to 10, with what it asks for
+-- what the opcode asks of the operator, the operands and the labels
+abbrev pub labelsOk : List ℕ → List ℕ → Statement → Bool
+labelsOk image r s = labelOk image (roleA s) (blockField r) (labelA r) && labelOk image (roleB s) (blockField r) (labelB r)
+
 unfoldable pub formOk : List ℕ → List ℕ → Bool
-formOk image r =
-    (leb 1 (opcode r) && leb (opcode r) 10) && operatorOk (opcode r) (operator r) && countOk (opcode r) (operator r) (operands r)
-    && cond (eqb (opcode r) 2) (leb 2 (kind r 0)) true
-    && labelOk image (roleA (statementOf r)) (blockField r) (labelA r)
-    && labelOk image (roleB (statementOf r)) (blockField r) (labelB r)
+formOk image r = shapeOk (operationAt (opcode r) (operator r)) r && labelsOk image r (statementOf r)
 
 -- all that the rules ask of a record but for the places of its operands
 unfoldable pub outlineOk : List ℕ → List ℕ → Bool

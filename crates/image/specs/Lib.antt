@@ -2,5 +2,6 @@
 pub mod Records
 pub mod Runs
 pub mod Operands
+pub mod Assigns
 pub mod Forms
 pub mod Faults

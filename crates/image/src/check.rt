@@ -1,16 +1,16 @@
 // The image check: the refusals 1 to 4, lowest number first.
-use crate::operands::FEW;
-use crate::operands::MARKS;
-use crate::operands::ROOM;
-use crate::operands::few_ok;
-use crate::operands::slots_ok;
+use crate::operand_places::FEW;
+use crate::operand_places::MARKS;
+use crate::operand_places::ROOM;
+use crate::operand_places::few_ok;
+use crate::operand_places::slots_ok;
 use crate::records::count_labels;
 use crate::records::record_of;
 use crate::rule::outline_ok;
 use crate::table::first_bad_row;
 use crate::table::rows_ok;
 use fields::read::wide;
-use rules::limits::Table;
+use rules::layout::TABLE_SIZE;
 use rules::sorts::Block;
 ghost use mathlib.Core.Path.{_≡_};
 ghost use mathlib.Core.List.{[], _∷_};
@@ -105,7 +105,7 @@ pub fn image_length_fault(image: &[u8], n: usize) -> u32
 pub fn table_length_fault(table: &[u8]) -> u32
     ensures { λ r. ⌜ r ≡ tableLengthFault (now (table .entry)) ⌝ }
 {
-    refuse(table.len() == Table::BYTES, 2, 0)
+    refuse(table.len() == TABLE_SIZE, 2, 0)
 }
 
 pub fn table_fault(table: &[u8]) -> u32

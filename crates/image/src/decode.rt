@@ -3,15 +3,17 @@ use fields::read::get16;
 use rules::statement::Assignment;
 use rules::statement::Condition;
 use rules::statement::Operand;
-use rules::statement::Operator;
+use rules::statement::Operation;
 use rules::statement::Relation;
+use rules::statement::Shape;
 use rules::statement::Statement;
-use rules::statement::Value;
 ghost use mathlib.Core.Path.{_≡_};
-ghost use Prim.Native.Nat.{_<_};
+ghost use mathlib.Core.Bool.{cond};
+ghost use Prim.Native.Nat.{_<_, _≤_};
 ghost use lib.ListN.{length};
 ghost use Rattle.rules.specs.Sizes.{recordSize, operandCount};
-ghost use Rattle.rules.specs.Statements.{operandOf, operandAt, operatorOf, valueOf, relationOf, assignmentOf, conditionOf, statementOf};
+ghost use Rattle.rules.specs.Statements.{operandOf, operandAt, operationAt, shape, optional, relationOf, assignmentOf, conditionOf, otherOf, statementOf};
+ghost use Rattle.image.specs.Assigns.{assignsOf};
 
 pub fn operand_of(kind: u8, value: u16) -> Operand
     ensures { λ z. ⌜ z ≡ operandOf kind value ⌝ }
@@ -31,26 +33,66 @@ pub fn operand_at(r: &[u8], k: usize) -> Operand
     operand_of(r[9 + 3 * k], get16(r, 10 + 3 * k))
 }
 
-pub fn operator_of(operator: u8) -> Operator
-    ensures { λ z. ⌜ z ≡ operatorOf operator ⌝ }
+// What an opcode of ASSIGN's kind works out; nothing for any other opcode.
+pub enum Assigns {
+    Nothing,
+    Work(Operation),
+}
+
+pub fn operation_at(opcode: u8, operator: u8) -> Assigns
+    ensures { λ z. ⌜ z ≡ assignsOf (operationAt opcode operator) ⌝ }
 {
-    match operator {
-        2 => Operator::Add,
-        3 => Operator::Subtract,
-        _ => Operator::Multiply,
+    match opcode {
+        2 => match operator {
+            1 => Assigns::Work(Operation::Copy),
+            2 => Assigns::Work(Operation::Add),
+            3 => Assigns::Work(Operation::Subtract),
+            4 => Assigns::Work(Operation::Multiply),
+            _ => Assigns::Nothing,
+        },
+        _ => Assigns::Nothing,
     }
 }
 
-pub fn value_of(r: &[u8]) -> Value
-    requires { ⌜ length (now r) ≡ recordSize ⌝ }
-    ensures { λ z. ⌜ z ≡ valueOf (now (r .entry)) ⌝ }
+pub fn shape_of(o: Operation) -> Shape
+    ensures { λ z. ⌜ z ≡ shape o ⌝ }
 {
-    let operator = r[3];
-    let p = operand_at(r, 1);
-    if operator == 1 {
-        Value::Copy(p)
+    match o {
+        Operation::Copy => Shape {
+            second: false,
+            right: false,
+        },
+        Operation::Add => Shape {
+            second: false,
+            right: true,
+        },
+        Operation::Subtract => Shape {
+            second: false,
+            right: true,
+        },
+        Operation::Multiply => Shape {
+            second: false,
+            right: true,
+        },
+    }
+}
+
+// How many destinations there are.
+pub fn destinations_of(second: bool) -> usize
+    ensures { λ z. ⌜ z ≤ 2 ⌝ }
+    ensures { λ z. ⌜ z ≡ cond second 2 1 ⌝ }
+{
+    if second { 2 } else { 1 }
+}
+
+pub fn optional_at(r: &[u8], has: bool, k: usize) -> Operand
+    requires { ⌜ (length (now r) ≡ recordSize) × (k < operandCount) ⌝ }
+    ensures { λ z. ⌜ z ≡ optional has (now (r .entry)) k ⌝ }
+{
+    if has {
+        operand_at(r, k)
     } else {
-        Value::Join(operator_of(operator), p, operand_at(r, 2))
+        Operand::Number(0)
     }
 }
 
@@ -64,13 +106,23 @@ pub fn relation_of(operator: u8) -> Relation
     }
 }
 
-pub fn assignment_of(r: &[u8]) -> Assignment
+pub fn assignment_of(r: &[u8], o: Operation) -> Assignment
     requires { ⌜ length (now r) ≡ recordSize ⌝ }
-    ensures { λ z. ⌜ z ≡ assignmentOf (now (r .entry)) ⌝ }
+    ensures { λ z. ⌜ z ≡ assignmentOf o (now (r .entry)) ⌝ }
 {
-    let destination = operand_at(r, 0);
-    let value = value_of(r);
-    Assignment { destination, value }
+    let s = shape_of(o);
+    let p = destinations_of(s.second);
+    let first = operand_at(r, 0);
+    let second = optional_at(r, s.second, 1);
+    let left = operand_at(r, p);
+    let right = optional_at(r, s.right, p + 1);
+    Assignment {
+        operation: o,
+        first,
+        second,
+        left,
+        right,
+    }
 }
 
 pub fn condition_of(r: &[u8]) -> Condition
@@ -87,14 +139,13 @@ pub fn condition_of(r: &[u8]) -> Condition
     }
 }
 
-// The statement in a record.
-pub fn statement_of(r: &[u8]) -> Statement
+// The statement in a record of an opcode that is not of ASSIGN's kind.
+pub fn other_of(r: &[u8]) -> Statement
     requires { ⌜ length (now r) ≡ recordSize ⌝ }
-    ensures { λ z. ⌜ z ≡ statementOf (now (r .entry)) ⌝ }
+    ensures { λ z. ⌜ z ≡ otherOf (now (r .entry)) ⌝ }
 {
     match r[0] {
         1 | 3 => Statement::Skip,
-        2 => Statement::Assign(assignment_of(r)),
         4 => Statement::If(condition_of(r)),
         5 => Statement::SendDirect,
         6 => Statement::SendBuffered,
@@ -102,5 +153,16 @@ pub fn statement_of(r: &[u8]) -> Statement
         8 => Statement::Return,
         9 => Statement::Transfer,
         _ => Statement::Exit,
+    }
+}
+
+// The statement in a record.
+pub fn statement_of(r: &[u8]) -> Statement
+    requires { ⌜ length (now r) ≡ recordSize ⌝ }
+    ensures { λ z. ⌜ z ≡ statementOf (now (r .entry)) ⌝ }
+{
+    match operation_at(r[0], r[3]) {
+        Assigns::Nothing => other_of(r),
+        Assigns::Work(o) => Statement::Assign(assignment_of(r, o)),
     }
 }

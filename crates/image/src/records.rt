@@ -1,4 +1,5 @@
 // The records of an image.
+use rules::layout::RECORD_SIZE;
 use rules::limits::Image;
 use rules::sorts::Block;
 use rules::sorts::Label;
@@ -14,8 +15,8 @@ ghost use Rattle.rules.specs.Image.{labels, recordAt, blockField, entry};
 pub fn count_labels(image: &[u8]) -> usize
     ensures { λ r. ⌜ r ≡ labels (now (image .entry)) ⌝ }
 {
-    let n = image.len() / Image::RECORD;
-    if (image.len() == Image::RECORD * n) & (n <= Image::LABELS) {
+    let n = image.len() / RECORD_SIZE;
+    if (image.len() == RECORD_SIZE * n) & (n <= Image::RECORDS) {
         n
     } else {
         0
@@ -47,8 +48,8 @@ pub fn record_of(image: &[u8], l: usize) -> &[u8]
     requires { ⌜ l < labels (now image) ⌝ }
     ensures { λ r. ⌜ (now r ≡ recordAt (now (image .entry)) l) × (length (now r) ≡ 84) ⌝ }
 {
-    let from = Image::RECORD * l;
-    &image[from..from + Image::RECORD]
+    let from = RECORD_SIZE * l;
+    &image[from..from + RECORD_SIZE]
 }
 
 // The block and the entry of the record at a label that the image has.
@@ -57,7 +58,7 @@ pub fn block_at(image: &[u8], at: Label) -> Block
     ensures { λ r. ⌜ r ≡ block (blockField (recordAt (now (image .entry)) (at .0))) ⌝ }
 {
     let l = index_of(at);
-    block_of(image[Image::RECORD * l + 1])
+    block_of(image[RECORD_SIZE * l + 1])
 }
 
 pub fn entry_at(image: &[u8], at: Label) -> u8
@@ -65,5 +66,5 @@ pub fn entry_at(image: &[u8], at: Label) -> u8
     ensures { λ r. ⌜ r ≡ entry (recordAt (now (image .entry)) (at .0)) ⌝ }
 {
     let l = index_of(at);
-    image[Image::RECORD * l + 2]
+    image[RECORD_SIZE * l + 2]
 }

@@ -1,4 +1,8 @@
 // The rules of a record.
+use crate::decode::Assigns;
+use crate::decode::destinations_of;
+use crate::decode::operation_at;
+use crate::decode::shape_of;
 use crate::records::block_at;
 use crate::records::entry_at;
 use fields::read::get16;
@@ -9,15 +13,17 @@ use rules::sorts::block_of;
 use rules::sorts::label_of;
 use rules::sorts::same_block;
 use rules::statement::Role;
+use rules::statement::Shape;
 ghost use mathlib.Core.Path.{_≡_};
 ghost use mathlib.Core.Bool.{_&&_};
 ghost use Prim.Native.Nat.{_≤_};
-ghost use lib.Dec.{eqb, leb, ltb};
+ghost use lib.Dec.{eqb, ltb};
 ghost use lib.ListN.{length};
 ghost use Rattle.rules.specs.Sizes.{recordSize, operandCount};
-ghost use Rattle.rules.specs.Image.{labels, recordAt, blockField, entry, operands, labelA, labelB};
-ghost use Rattle.rules.specs.Check.{operatorOk, countOk, labelOk};
-ghost use Rattle.image.specs.Forms.{formOk, outlineOk};
+ghost use Rattle.rules.specs.Image.{labels, recordAt, opcode, blockField, entry, operator, operands, labelA, labelB, kind, value};
+ghost use Rattle.rules.specs.Statements.{otherOf};
+ghost use Rattle.rules.specs.Check.{assignOk, otherOk, labelOk};
+ghost use Rattle.image.specs.Forms.{labelsOk, formOk, outlineOk};
 
 // A label is below n, and its record is in this block.
 pub fn in_block(image: &[u8], n: usize, own: Block, v: u16) -> bool
@@ -67,26 +73,28 @@ pub fn labels_ok(image: &[u8], n: usize, r: &[u8], a: Role, b: Role) -> bool
     label_ok(image, n, a, own, get16(r, 4)) & label_ok(image, n, b, own, get16(r, 6))
 }
 
-// ASSIGN: operator 1 has two operands, 2 to 4 have three; the destination is no number.
-pub fn assign_ok(o: u8, c: usize, kind: u8) -> bool
-    ensures { λ z. ⌜ z ≡ (operatorOk 2 o && countOk 2 o c && leb 2 kind) ⌝ }
+// An opcode of ASSIGN's kind: the operand count; no destination is a number, and two are not equal.
+pub fn assign_ok(r: &[u8], s: Shape, c: usize) -> bool
+    requires { ⌜ length (now r) ≡ recordSize ⌝ }
+    ensures { λ z. ⌜ z ≡ assignOk s c (kind (now (r .entry)) 0) (value (now (r .entry)) 0) (kind (now (r .entry)) 1) (value (now (r .entry)) 1) ⌝ }
 {
-    if o == 1 {
-        (c == 2) & (2 <= kind)
+    let first = (c == destinations_of(s.second) + destinations_of(s.right)) & (2 <= r[9]);
+    if s.second {
+        let same = (r[9] == r[12]) & (get16(r, 10) == get16(r, 13));
+        first & ((2 <= r[12]) & !same)
     } else {
-        ((2 <= o) & (o <= 4)) & (c == 3) & (2 <= kind)
+        first
     }
 }
 
-// What the opcode asks of the operator, the operand count, the destination and the labels.
-pub fn form_ok(image: &[u8], n: usize, r: &[u8], c: usize) -> bool
+// What any other opcode asks of the operator, the operand count and the labels.
+pub fn other_ok(image: &[u8], n: usize, r: &[u8], c: usize) -> bool
     requires { ⌜ (n ≡ labels (now image)) × (length (now r) ≡ recordSize) × (c ≡ operands (now r)) × (c ≤ operandCount) ⌝ }
-    ensures { λ z. ⌜ z ≡ formOk (now (image .entry)) (now (r .entry)) ⌝ }
+    ensures { λ z. ⌜ z ≡ (otherOk (opcode (now (r .entry))) (operator (now (r .entry))) (operands (now (r .entry))) && labelsOk (now (image .entry)) (now (r .entry)) (otherOf (now (r .entry)))) ⌝ }
 {
     let o = r[3];
     match r[0] {
         1 | 3 => (o == 0) & (c == 0) & labels_ok(image, n, r, Role::Inner, Role::Unused),
-        2 => assign_ok(o, c, r[9]) & labels_ok(image, n, r, Role::Inner, Role::Unused),
         4 => (1 <= o) & (o <= 2) & (c == 2) & labels_ok(image, n, r, Role::Inner, Role::Inner),
         5 => (o == 0) & labels_ok(image, n, r, Role::Direct, Role::Unused),
         6 => (o == 0) & labels_ok(image, n, r, Role::Buffered, Role::Inner),
@@ -95,6 +103,20 @@ pub fn form_ok(image: &[u8], n: usize, r: &[u8], c: usize) -> bool
         9 => (o == 0) & labels_ok(image, n, r, Role::Local, Role::Unused),
         10 => (o == 0) & (c == 0) & labels_ok(image, n, r, Role::Unused, Role::Unused),
         _ => false,
+    }
+}
+
+// What the opcode asks of the operator, the operands and the labels.
+pub fn form_ok(image: &[u8], n: usize, r: &[u8], c: usize) -> bool
+    requires { ⌜ (n ≡ labels (now image)) × (length (now r) ≡ recordSize) × (c ≡ operands (now r)) × (c ≤ operandCount) ⌝ }
+    ensures { λ z. ⌜ z ≡ formOk (now (image .entry)) (now (r .entry)) ⌝ }
+{
+    match operation_at(r[0], r[3]) {
+        Assigns::Nothing => other_ok(image, n, r, c),
+        Assigns::Work(o) => {
+            let s = shape_of(o);
+            assign_ok(r, s, c) & labels_ok(image, n, r, Role::Inner, Role::Unused)
+        }
     }
 }
 

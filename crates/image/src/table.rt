@@ -1,7 +1,7 @@
 // The block table.
 use fields::read::get16;
 use fields::read::wide;
-use rules::limits::Table;
+use rules::layout::ROW_SIZE;
 use rules::sorts::Block;
 use rules::sorts::Thread;
 use rules::sorts::block_number;
@@ -20,7 +20,7 @@ pub fn thread_at(table: &[u8], b: Block) -> Thread
     requires { ⌜ (b .0 < blockCount) × (length (now table) ≡ tableSize) ⌝ }
     ensures { λ r. ⌜ r ≡ thread (rowAt (now (table .entry)) (b .0) .thread) ⌝ }
 {
-    let row = Table::ROW * wide(block_number(b));
+    let row = ROW_SIZE * wide(block_number(b));
     thread_of(table[row])
 }
 
@@ -29,7 +29,7 @@ pub fn kind_at(table: &[u8], b: Block) -> u8
     requires { ⌜ (b .0 < blockCount) × (length (now table) ≡ tableSize) ⌝ }
     ensures { λ r. ⌜ r ≡ rowAt (now (table .entry)) (b .0) .kind ⌝ }
 {
-    let row = Table::ROW * wide(block_number(b));
+    let row = ROW_SIZE * wide(block_number(b));
     table[row + 1]
 }
 
@@ -37,7 +37,7 @@ pub fn row_ok(table: &[u8], b: usize) -> bool
     requires { ⌜ (b < blockCount) × (length (now table) ≡ tableSize) ⌝ }
     ensures { λ r. ⌜ r ≡ rowOk (now (table .entry)) b ⌝ }
 {
-    (wide(table[Table::ROW * b]) < Thread::COUNT) & (table[Table::ROW * b + 1] < 2)
+    (wide(table[ROW_SIZE * b]) < Thread::COUNT) & (table[ROW_SIZE * b + 1] < 2)
 }
 
 // Every row is in range. The rows are gathered without a branch: each is in range exactly if all their bits together are.
@@ -48,7 +48,7 @@ pub fn rows_ok(table: &[u8]) -> bool
     let mut seen: u16 = 0;
     let mut b = 0;
     while b < Block::COUNT {
-        seen = seen | get16(table, Table::ROW * b);
+        seen = seen | get16(table, ROW_SIZE * b);
         b += 1;
     }
     (seen % 256 < Thread::COUNT as u16) & (seen / 256 < 2)

@@ -12,7 +12,7 @@ use borrow.Author.Tests.{ltb-true, eqb-true, eqb-false, eq-eqb}
 use Rattle.rules.specs.Sizes.{blockCount}
 use Rattle.rules.specs.Image.{labels, recordAt, opcode, blockField, entry, operator, labelA, labelB, operands, kind, Row, rowAt}
 use Rattle.rules.specs.Statements.{statementOf, roleA, roleB, dataOf}
-use Rattle.rules.specs.Check.{operatorOk, countOk, headOk, labelOk, recordOk, rowOk}
+use Rattle.rules.specs.Check.{labelOk, recordOk, rowOk}
 use Rattle.rules.specs.Machine.{Signal, Job}
 use Rattle.rules.specs.Effects.{Got, trap, got, Next, onA, onB, intoA, callA, back, Going, Outcome, ends, goes, outcome}
 use Rattle.rules.specs.Steps.{Effect, traps, exits, moves, trapIf, newest, older, signalTo, alien, steer, resolve, blockAt, actBy, view}
@@ -21,28 +21,10 @@ use Rattle.rules.specs.declared.statement.Role.{Role}
 use Rattle.rules.specs.declared.statement.Role.the-variants.{Unused, Inner, Direct, Local, Buffered}
 use Rattle.fields.specs.Each.{Each, each-append}
 use Rattle.one_by_one.specs.Roles.{Leads, Sends, Refers, refers}
+use Rattle.one_by_one.specs.Heads.{Head, head-fields}
 use Rattle.one_by_one.specs.Passed.{Passed, Parts, rule-parts}
 use Rattle.encoding.specs.Tests.{both}
 use Rattle.invariants.specs.Sound.{PlaceIn, PendingIn}
-
--- of the head of a record that breaks no rule: its block, and how many operands it has
-pub record Head (r : List ℕ) : Type 0 where
-  pub block : blockField r < blockCount
-  pub count : countOk (opcode r) (operator r) (operands r) ≡ true
-
-head-parts : (r : List ℕ) → headOk (opcode r) (blockField r) (entry r) (operator r) (operands r) (kind r 0) ≡ true → Head r
-unfolding headOk
-head-parts r h =
-    let a : Bool = leb 1 (opcode r) && leb (opcode r) 10 in
-    let b : Bool = ltb (blockField r) blockCount in
-    let c : Bool = ltb (entry r) 4 in
-    let d : Bool = operatorOk (opcode r) (operator r) in
-    let e : Bool = countOk (opcode r) (operator r) (operands r) in
-    let one = both (a && b && c && d && e) _ h in
-    let two = both (a && b && c && d) e (one .0) in
-    let three = both (a && b && c) d (two .0) in
-    let four = both (a && b) c (three .0) in
-    record { block = ltb-true (blockField r) blockCount (both a b (four .0) .1); count = two .1 }
 
 module _ (image table : List ℕ) where
   -- what the check says of a label v of this role, in a record of block b
@@ -69,7 +51,7 @@ module _ (image table : List ℕ) where
     parts l h = rule-parts image (recordAt image l) (passed .records l h)
 
     pub head : (l : ℕ) → l < labels image → Head (recordAt image l)
-    head l h = head-parts (recordAt image l) (parts l h .head)
+    head l h = head-fields (recordAt image l) (parts l h .head)
 
     -- a label below n is in a block of the table
     pub block-below : (l : ℕ) → l < labels image → blockAt image l < blockCount

@@ -7,7 +7,7 @@ use Prim.Native.Nat.{ℕ, _<_}
 use lib.Dec.{ltb}
 use borrow.Author.Tests.{ltb-true}
 use Rattle.rules.specs.Image.{labels, recordAt, blockField, labelB}
-use Rattle.rules.specs.Statements.{statementOf, roleB}
+use Rattle.rules.specs.Statements.{operationAt, otherOf, statementOf, roleB}
 use Rattle.rules.specs.Check.{labelOk, Checked}
 use Rattle.rules.specs.Machine.{Job, ThreadState, running, Machine, threadAt, fresh}
 use Rattle.rules.specs.Events.{Event, step}
@@ -117,7 +117,7 @@ module _ (image table : List ℕ) (checked : Checked image table) where
   call-below c e = case (ltb c (labels image)) refl
     where
       none : ltb c (labels image) ≡ false → statementOf (recordAt image c) ≡ Exit
-      none h = unfold statementOf in rw (no-record image c h) refl
+      none h = unfold operationAt otherOf statementOf in rw (no-record image c h) refl
 
       case : (b : Bool) → ltb c (labels image) ≡ b → c < labels image
       case true h = ltb-true c (labels image) h

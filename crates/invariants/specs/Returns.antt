@@ -45,7 +45,7 @@ branch-opens false b rs = refl
 perform-opens : (v : View) (s : Statement) (vs : List ℕ) → Opens s (perform v s vs)
 unfolding perform
 perform-opens v Skip vs = λ b rs. refl
-perform-opens v (Assign a) vs = then-opens (Assign a) (compute (a .value) (getD vs 0 0) (getD vs 1 0)) _ (λ x b rs. refl)
+perform-opens v (Assign a) vs = then-opens (Assign a) (compute (a .operation) (getD vs 0 0) (getD vs 1 0)) _ (λ x b rs. refl)
 perform-opens v (If c) vs = branch-opens (holds (c .relation) (getD vs 0 0) (getD vs 1 0))
 perform-opens v SendDirect vs = λ b rs. refl
 perform-opens v SendBuffered vs = unless-opens SendBuffered (leb pendingCount (v .pending)) 4 _ (λ b rs. refl)

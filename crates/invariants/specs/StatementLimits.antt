@@ -11,43 +11,21 @@ use borrow.Author.Tests.{leb-true, leb-false, eqb-true}
 use Rattle.rules.specs.Sizes.{registerCount, returnCount, pendingCount, operandCount, recordSize, recordCount}
 use Rattle.rules.specs.Image.{labels, recordAt, opcode, operator, labelA, labelB, operands, Row, rowAt}
 use Rattle.rules.specs.Statements.{operandsFrom, reads, statementOf, dataOf}
-use Rattle.rules.specs.Check.{countOk}
 use Rattle.rules.specs.Machine.{Signal, Job, fill}
 use Rattle.rules.specs.Effects.{Got, trap, got, then, unless, Cells, readAll, read, compute, holds, store, Next, onA, onB, intoA, callA, back, Going, Outcome, ends, goes, View, perform, outcome}
 use Rattle.rules.specs.Steps.{Effect, traps, exits, moves, trapIf, older, signalTo, alien, steer, resolve, blockAt, actBy, view}
 use Rattle.rules.specs.declared.statement.Operand.{Operand}
 use Rattle.rules.specs.declared.statement.Operand.the-variants.{Number, Register, Word}
-use Rattle.rules.specs.declared.statement.Value.{Value}
-use Rattle.rules.specs.declared.statement.Value.the-variants.{Copy, Join}
 use Rattle.rules.specs.declared.statement.Statement.{Statement}
 use Rattle.rules.specs.declared.statement.Statement.the-variants.{Skip, Assign, If, SendDirect, SendBuffered, Call, Return, Transfer, Exit}
+use Rattle.one_by_one.specs.Heads.{few-operands}
 use Rattle.one_by_one.specs.Passed.{Passed}
 use Rattle.invariants.specs.Destinations.{head}
 
 -- ---- how many operands a record has, and how many values are read
 
-counted : (op o c : ℕ) → countOk op o c ≡ true → c ≤ operandCount
-counted op o c h = case (eqb op 2) (eqb op 4) (leb 5 op && leb op 9) (eqb o 1) (ltb 1 o) h
-  where
-    either : (a b : Bool) → ((a && eqb c 2) || (b && eqb c 3)) ≡ true → c ≤ operandCount
-    either a b k = pick a b (eqb c 2) refl (eqb c 3) refl k
-      where
-        pick : (a b e : Bool) → eqb c 2 ≡ e → (f : Bool) → eqb c 3 ≡ f → ((a && e) || (b && f)) ≡ true → c ≤ operandCount
-        pick a b true p f q k = omega (arith, eqb-true c 2 p)
-        pick a b false p true q k = omega (arith, eqb-true c 3 q)
-        pick true true false p false q k = absurd (false≢true k)
-        pick true false false p false q k = absurd (false≢true k)
-        pick false true false p false q k = absurd (false≢true k)
-        pick false false false p false q k = absurd (false≢true k)
-
-    case : (x y z a b : Bool) → cond x ((a && eqb c 2) || (b && eqb c 3)) (cond y (eqb c 2) (cond z (leb c operandCount) (eqb c 0))) ≡ true → c ≤ operandCount
-    case true y z a b k = either a b k
-    case false true z a b k = omega (arith, eqb-true c 2 k)
-    case false false true a b k = leb-true c operandCount k
-    case false false false a b k = omega (arith, eqb-true c 0 k)
-
 operands-limit : (image table : List ℕ) → Passed image table → (l : ℕ) → l < labels image → operands (recordAt image l) ≤ operandCount
-operands-limit image table ok l h = let r = recordAt image l in counted (opcode r) (operator r) (operands r) (head image table ok l h .count)
+operands-limit image table ok l h = few-operands (head image table ok l h)
 
 length-operands : (r : List ℕ) (k n : ℕ) → length (operandsFrom r k n) ≡ n
 unfolding operandsFrom
@@ -56,11 +34,7 @@ length-operands r k (suc n) = ap suc (length-operands r (k + 1) n)
 
 reads-limit : (s : Statement) (given : List Operand) → length given ≤ operandCount → length (reads s given) ≤ registerCount
 reads-limit Skip given h = omega arith
-reads-limit (Assign a) given h = case (a .value)
-  where
-    case : (v : Value) → length (reads (Assign (record { destination = a .destination; value = v })) given) ≤ registerCount
-    case (Copy p) = omega arith
-    case (Join o p q) = omega arith
+reads-limit (Assign a) given h = omega arith
 reads-limit (If c) given h = omega arith
 reads-limit SendDirect given h = h
 reads-limit SendBuffered given h = h
@@ -139,7 +113,7 @@ perform-sized : (v : View) (s : Statement) (vs : List ℕ) → length (v .cells 
 unfolding perform
 perform-sized v Skip vs h k = (h, tt, tt)
 perform-sized v (Assign a) vs h k =
-    then-sized _ _ (compute (a .value) (getD vs 0 0) (getD vs 1 0)) _ (λ x. (length-store (a .destination) x (v .cells) ∙ h, tt, tt))
+    then-sized _ _ (compute (a .operation) (getD vs 0 0) (getD vs 1 0)) _ (λ x. (length-store (a .second) (x .second) _ ∙ length-store (a .first) (x .first) (v .cells) ∙ h, tt, tt))
 perform-sized v (If c) vs h k = (h, branch-sized _ 0 (holds (c .relation) (getD vs 0 0) (getD vs 1 0)), tt)
 perform-sized v SendDirect vs h k = (length-fill vs k, tt, tt)
 perform-sized v SendBuffered vs h k = unless-sized _ _ pendingCount (v .pending) 4 _ (λ n. (h, tt, (k, n)))

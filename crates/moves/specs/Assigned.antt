@@ -1,96 +1,127 @@
--- ASSIGN as the law has it, from the value that is worked out.
-use mathlib.Core.Path.{_≡_, refl, sym, subst}
-use mathlib.Core.Bool.{Bool, true, false, cond}
+-- What an opcode of ASSIGN's kind stores: one value or two, as the law has it.
+use mathlib.Core.Path.{_≡_, refl, sym, ap, _∙_, subst}
+use mathlib.Core.Bool.{Bool, true, false, cond, false≢true}
 use mathlib.Core.Option.{some}
 use mathlib.Core.List.{List}
-use Prim.Native.Nat.{ℕ, _+_, _*_}
+use Prim.Native.Nat.{ℕ, _+_, _*_, _<_}
+use native.Mathlib.Omega.{arith}
 use lib.Dec.{eqb}
-use lib.ListN.{getD, set}
-use borrow.Author.Tests.{eqb-false}
-use Rattle.rules.specs.Sizes.{wordCount}
-use Rattle.rules.specs.Image.{recordAt, labelA, operator}
-use Rattle.rules.specs.Statements.{statementOf, sources, operandAt, operatorOf, valueOf, assignmentOf}
-use Rattle.rules.specs.Effects.{Got, trap, got, then, Cells, readAll, compute}
-use Rattle.rules.specs.Machine.{Signal, Machine, Job, threadAt, running, first, window}
-use Rattle.rules.specs.Events.{step}
-use Rattle.rules.specs.Steps.{blockAt, rulesBy, finished, react}
-use Rattle.rules.specs.declared.answer.Answer.the-variants.{Moved, Trapped}
+use lib.ListN.{length, set, drop, length-set}
+use lib.Seq.{getD-set-same, set-set}
+use Rattle.rules.specs.Sizes.{threadCount, wordCount, wordsSize, threadSize, idleLabel}
+use Rattle.rules.specs.Machine.{Machine, Job, threadAt, idle, running, cells, window, keep}
+use Rattle.rules.specs.Encoding.{machineFrom}
+use Rattle.rules.specs.Effects.{Cells, store}
 use Rattle.rules.specs.declared.statement.Operand.{Operand}
 use Rattle.rules.specs.declared.statement.Operand.the-variants.{Number, Register, Word}
-use Rattle.rules.specs.declared.statement.Value.the-variants.{Copy, Join}
-use Rattle.rules.specs.declared.statement.Assignment.{Assignment}
-use Rattle.rules.specs.declared.statement.Statement.the-variants.{Assign}
 use Rattle.one_by_one.specs.Invariant.{never}
-use Rattle.one_by_one.specs.Passed.{Parts}
-use Rattle.turns.specs.Events.{withThread, reply}
-use Rattle.turns.specs.Statements.{unread, uncomputed, assigns-register, assigns-word}
-use Rattle.operands.specs.Statements.{Lands, assigns, assigns-to, assigns-left, assigns-right}
-use Rattle.operands.specs.Values.{FitAll, evaluated}
-use Rattle.threads.specs.Threads.{jobOf}
-use Rattle.threads.specs.Whole.{Whole}
+use Rattle.encoding.specs.Encoded.{Encodes, Canonical, encoded-machine}
+use Rattle.step_laws.specs.Same.{keep-window, keep-set, keep-more}
+use Rattle.threads.specs.Threads.{job, jobOf, stateOf, returnsOf, registersOf, Says, Running}
+use Rattle.threads.specs.Whole.{Whole, whole}
+use Rattle.threads.specs.Records.{headOf, rawThread, whole-read}
+use Rattle.threads.specs.declared.thread.ThreadState.{ThreadState}
+use Rattle.state.specs.Records.{thread-read}
+use Rattle.operands.specs.Legal.{Fits}
+use Rattle.operands.specs.Statements.{Lands}
 use Rattle.moves.specs.Stored.{stored}
 
--- ---- the operands of a record that breaks no rule
+-- the machine with these cells, and thread t on to the label l
+abbrev pub landed : Machine → ℕ → Whole → ℕ → ℕ → Cells → Machine
+landed s t w l block c = record { words = keep block (c .words) (s .words); threads = set (s .threads) t (running (w .locks) (job l (returnsOf w) (c .registers))); trees = s .trees }
 
-module _ {image r : List ℕ} (p : Parts image r) (a : Assignment) (e : statementOf r ≡ Assign a) where
-  pub sources-fit : FitAll (sources (a .value))
-  unfolding assignmentOf valueOf
-  sources-fit = subst (λ (q : Assignment). FitAll (sources (q .value))) (sym (assigns p a e .1)) (case (eqb (operator r) 1) refl)
-    where
-      case : (c : Bool) → eqb (operator r) 1 ≡ c → FitAll (sources (cond c (Copy (operandAt r 1)) (Join (operatorOf (operator r)) (operandAt r 1) (operandAt r 2))))
-      case true q = (assigns-left p a e, tt)
-      case false q = (assigns-left p a e, (assigns-right p a e (eqb-false (operator r) 1 q), tt))
+abbrev pub cellsIn : Machine → Whole → ℕ → Cells
+cellsIn s w block = record { registers = registersOf w; words = window block (s .words) }
 
-  pub destination-lands : Lands (a .destination)
-  unfolding assignmentOf
-  destination-lands = subst (λ (q : Assignment). Lands (q .destination)) (sym (assigns p a e .1)) (assigns-to p a e)
+-- no place to store to
+abbrev pub isPlace : Operand → Bool
+isPlace (Number n) = false
+isPlace (Register k) = true
+isPlace (Word k) = true
 
--- ---- what the step comes to
+pub place-lands : (d : Operand) → Fits d → isPlace d ≡ true → Lands d
+place-lands (Number n) h e = absurd (false≢true e)
+place-lands (Register k) h e = h
+place-lands (Word k) h e = h
 
-module _ (image table : List ℕ) (s : Machine) (t l : ℕ) (j : Job) (p : List Signal) (runs : threadAt s t ≡ running l j) (tree : first t (s .trees) ≡ some p) where
-  abbrev here : List ℕ
-  here = recordAt image (j .label)
+-- two values at their destinations
+abbrev pub both : Machine → ℕ → Whole → ℕ → ℕ → Operand → ℕ → Operand → ℕ → Machine
+both s t w l block d u e v = landed s t w l block (store e v (store d u (cellsIn s w block)))
 
-  abbrev own : ℕ
-  own = blockAt image (j .label)
+module _ (s : Machine) (t : ℕ) (w : Whole) (l block : ℕ) where
+  pub first-lands : (d : Operand) (u : ℕ) → Lands d → stored s t w l block d u ≡ landed s t w l block (store d u (cellsIn s w block))
+  first-lands (Number n) u h = absurd h
+  first-lands (Register k) u h = rw (keep-window block (s .words)) refl
+  first-lands (Word k) u h = rw (keep-set block k u (s .words) h) refl
 
-  abbrev cells : Cells
-  cells = record { registers = j .registers; words = window own (s .words) }
+  -- the thread as it is then
+  module _ (c : Cells) (w′ : Whole) (k : w′ .locks ≡ w .locks) (r : returnsOf w′ ≡ returnsOf w) (g : registersOf w′ ≡ c .registers) (z : length (c .words) ≡ wordCount) where
+    pub second-lands : (d : Operand) (v : ℕ) → Lands d → stored (landed s t w l block c) t w′ l block d v ≡ landed s t w l block (store d v c)
+    second-lands (Number n) v h = absurd h
+    second-lands (Register n) v h = rw (k, r, g, set-set) refl
+    second-lands (Word n) v h = rw (k, r, g, set-set, keep-more block n v (c .words) (s .words) h z) refl
 
-  -- the machine after the value is stored
-  abbrev pub storing : Operand → ℕ → Machine
-  storing (Number n) v = s
-  storing (Register k) v = withThread s t (running l (record { label = labelA here; returns = j .returns; registers = set (j .registers) k (some v) }))
-  storing (Word k) v = record { words = set (s .words) (wordCount * own + k) v; threads = set (s .threads) t (running l (record { label = labelA here; returns = j .returns; registers = j .registers })); trees = s .trees }
+pub length-window : (block : ℕ) (ws : List ℕ) → length (window block ws) ≡ wordCount
+unfolding window cells
+length-window block ws = refl
 
-  module _ (a : Assignment) (e : statementOf here ≡ Assign a) where
-    pub assign-trap : (x : ℕ) → evaluated cells (a .value) ≡ trap x → react (rulesBy image table) s (step t) ≡ reply (finished (rulesBy image table) t s) (Trapped x)
-    unfolding evaluated
-    assign-trap x h = case (readAll cells (sources (a .value))) refl h
-      where
-        case : (g : Got (List ℕ)) → readAll cells (sources (a .value)) ≡ g → then g (λ vs. compute (a .value) (getD vs 0 0) (getD vs 1 0)) ≡ trap x
-            → react (rulesBy image table) s (step t) ≡ reply (finished (rulesBy image table) t s) (Trapped x)
-        case (trap y) q k = let f : y ≡ x = cc in unread image table s t l j p runs tree (Assign a) x e (rw f at q)
-        case (got vs) q k = uncomputed image table s t l j p runs tree vs a e q x k
+-- the thread of a machine with these cells
+pub thread-landed : (s : Machine) (t : ℕ) (w : Whole) (l block : ℕ) (c : Cells) → t < length (s .threads) → threadAt (landed s t w l block c) t ≡ running (w .locks) (job l (returnsOf w) (c .registers))
+thread-landed s t w l block c h = getD-set-same (s .threads) t (running (w .locks) (job l (returnsOf w) (c .registers))) idle h
 
-    stores : (d : Operand) (v : ℕ) (vs : List ℕ) → a .destination ≡ d → Lands d → readAll cells (sources (a .value)) ≡ got vs → compute (a .value) (getD vs 0 0) (getD vs 1 0) ≡ got v
-        → react (rulesBy image table) s (step t) ≡ reply (storing d v) Moved
-    stores (Number n) v vs f k g c = absurd k
-    stores (Register n) v vs f k g c = assigns-register image table s t l j p runs tree vs a e g v n c f
-    stores (Word n) v vs f k g c = assigns-word image table s t l j p runs tree vs a e g v n c f k
+pub length-stored : (d : Operand) (v : ℕ) (c : Cells) → length (store d v c .words) ≡ length (c .words)
+length-stored (Number n) v c = refl
+length-stored (Register k) v c = refl
+length-stored (Word k) v c = length-set (c .words) k v
 
-    pub assign-got : (v : ℕ) → evaluated cells (a .value) ≡ got v → Lands (a .destination) → react (rulesBy image table) s (step t) ≡ reply (storing (a .destination) v) Moved
-    unfolding evaluated
-    assign-got v h k = case (readAll cells (sources (a .value))) refl h
-      where
-        case : (g : Got (List ℕ)) → readAll cells (sources (a .value)) ≡ g → then g (λ vs. compute (a .value) (getD vs 0 0) (getD vs 1 0)) ≡ got v
-            → react (rulesBy image table) s (step t) ≡ reply (storing (a .destination) v) Moved
-        case (trap y) q z = never (cc)
-        case (got vs) q z = stores (a .destination) v vs refl k q z
+-- a running thread, read from the bytes of its machine
+pub record Reread (w : Whole) (l : ℕ) (j : Job) : Type 0 where
+  pub running : Running w
+  pub locks : w .locks ≡ l
+  pub job : jobOf w ≡ j
 
--- what the code stores is what the law stores
-pub stored-is : (image table : List ℕ) (s : Machine) (t : ℕ) (w : Whole) (p : List Signal) (runs : threadAt s t ≡ running (w .locks) (jobOf w)) (tree : first t (s .trees) ≡ some p) (l k : ℕ)
-    → l ≡ labelA (recordAt image (w .label .0)) → k ≡ blockAt image (w .label .0) → (d : Operand) (v : ℕ) → stored s t w l k d v ≡ storing image table s t (w .locks) (jobOf w) p runs tree d v
-stored-is image table s t w p runs tree l k e f (Number n) v = refl
-stored-is image table s t w p runs tree l k e f (Register n) v = rw e refl
-stored-is image table s t w p runs tree l k e f (Word n) v = rw (e, f) refl
+reread : (w : Whole) (locks : ℕ) (j : Job) → Says w (running locks j) → j .label < idleLabel → Reread w locks j
+unfolding stateOf
+reread w locks j h l = case (eqb (w .label .0) idleLabel) refl (h .state)
+  where
+    case : (b : Bool) → eqb (w .label .0) idleLabel ≡ b → cond b idle (running (w .locks) (jobOf w)) ≡ running locks j → Reread w locks j
+    case true e q = never (cc)
+    case false e q =
+        let f : jobOf w ≡ j = cc in
+        let n : w .label .0 ≡ j .label = ap (λ (x : Job). x .label) f in
+        record { running = record { label = omega arith; tidy = h .tidy }; locks = cc; job = f }
+
+pub read-again : (b : List ℕ) (s : Machine) (t locks : ℕ) (j : Job) (w : ThreadState) → Encodes b s → t < threadCount → threadAt s t ≡ running locks j → j .label < idleLabel
+    → w ≡ headOf (rawThread (drop (wordsSize + threadSize * t) b)) → Reread (whole b t w) locks j
+read-again b s t locks j w h l e k f =
+    let q : Says (whole b t w) (threadAt s t) = rw (f, whole-read b t) (thread-read b s h t l) in
+    reread (whole b t w) locks j (subst (Says (whole b t w)) e q) k
+
+-- the bytes after one store
+module _ (b b′ : List ℕ) (t : ℕ) (w : ThreadState) (l block : ℕ) (d : Operand) (u : ℕ) (h : Lands d) (first : Encodes b′ (stored (machineFrom b) t (whole b t w) l block d u)) where
+  pub one-stored : (e : Operand) (v : ℕ) → isPlace e ≡ false → Encodes b′ (both (machineFrom b) t (whole b t w) l block d u e v)
+  one-stored (Number n) v q = subst (Encodes b′) (first-lands (machineFrom b) t (whole b t w) l block d u h) first
+  one-stored (Register k) v q = absurd (false≢true (sym q))
+  one-stored (Word k) v q = absurd (false≢true (sym q))
+
+-- the bytes between the two stores, and after them
+module _ (b b′ : List ℕ) (t : ℕ) (w w′ : ThreadState) (l block : ℕ) (d : Operand) (u : ℕ) (canonical : Canonical b) (inside : t < threadCount) (small : l < idleLabel) (h : Lands d)
+    (first : Encodes b′ (stored (machineFrom b) t (whole b t w) l block d u)) (read : w′ ≡ headOf (rawThread (drop (wordsSize + threadSize * t) b′))) where
+  abbrev then : Cells
+  then = store d u (cellsIn (machineFrom b) (whole b t w) block)
+
+  between : Encodes b′ (landed (machineFrom b) t (whole b t w) l block then)
+  between = subst (Encodes b′) (first-lands (machineFrom b) t (whole b t w) l block d u h) first
+
+  pub again : Reread (whole b′ t w′) (w .locks) (job l (returnsOf (whole b t w)) (then .registers))
+  again =
+      read-again b′ (landed (machineFrom b) t (whole b t w) l block then) t (w .locks) (job l (returnsOf (whole b t w)) (then .registers)) w′ between inside
+      (thread-landed (machineFrom b) t (whole b t w) l block then (omega (arith, canonical .sized .threads))) small read
+
+  pub both-stored : (b″ : List ℕ) (e : Operand) (v : ℕ) → Lands e → Encodes b″ (stored (machineFrom b′) t (whole b′ t w′) l block e v) → Encodes b″ (both (machineFrom b) t (whole b t w) l block d u e v)
+  both-stored b″ e v k g =
+      let m : machineFrom b′ ≡ landed (machineFrom b) t (whole b t w) l block then = encoded-machine b′ _ between in
+      let z : length (then .words) ≡ wordCount = length-stored d u (cellsIn (machineFrom b) (whole b t w) block) ∙ length-window block (machineFrom b .words) in
+      subst (Encodes b″)
+      (ap (λ (q : Machine). stored q t (whole b′ t w′) l block e v) m
+      ∙ second-lands (machineFrom b) t (whole b t w) l block then (whole b′ t w′) (again .locks) (ap (λ (q : Job). q .returns) (again .job)) (ap (λ (q : Job). q .registers) (again .job)) z e v k) g

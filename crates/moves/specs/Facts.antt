@@ -20,8 +20,8 @@ use Rattle.rules.specs.declared.statement.Statement.the-variants.{Return}
 use Rattle.fields.specs.Each.{Each}
 use Rattle.encoding.specs.Slots.{returnsIn, registersIn}
 use Rattle.invariants.specs.Sound.{PlaceIn, ThreadIn}
-use Rattle.turns.specs.Events.{withThread, reply}
-use Rattle.turns.specs.Statements.{returns-to}
+use Rattle.step_laws.specs.Events.{withThread, reply}
+use Rattle.step_laws.specs.Statements.{returns-to}
 use Rattle.threads.specs.Whole.{whole}
 use Rattle.threads.specs.Threads.{job, jobOf, returnsOf}
 use Rattle.threads.specs.Returns.{newestOf, olderOf}
@@ -29,7 +29,7 @@ use Rattle.threads.specs.declared.thread.ThreadState.{ThreadState}
 use Rattle.image.specs.Records.{labels-small, getD-any}
 use Rattle.operands.specs.Legal.{Below}
 use Rattle.operands.specs.Cells.{cellsFrom}
-use Rattle.ready.specs.At.{At, below-A, below-B}
+use Rattle.step_ready.specs.At.{At, below-A, below-B}
 
 newest-in : (image table : List ℕ) (t a : ℕ) (l : List ℕ) → PlaceIn image table t a → Each (PlaceIn image table t) l → newest a l < labels image
 newest-in image table t a [] p e = p .below

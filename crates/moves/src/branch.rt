@@ -13,8 +13,8 @@ ghost use Rattle.rules.specs.Effects.{holds};
 ghost use Rattle.rules.specs.Events.{step};
 ghost use Rattle.rules.specs.Statements.{statementOf};
 ghost use Rattle.rules.specs.declared.statement.Statement.the-variants.{If};
-ghost use Rattle.ready.specs.Ready.{Done, replyTo};
-ghost use Rattle.ready.specs.At.{At};
+ghost use Rattle.step_ready.specs.Ready.{Done, replyTo};
+ghost use Rattle.step_ready.specs.At.{At};
 
 pub fn relation_holds(relation: Relation, p: u16, q: u16) -> bool
     ensures { λ z. ⌜ z ≡ holds relation p q ⌝ }

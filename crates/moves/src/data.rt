@@ -15,8 +15,8 @@ ghost use mathlib.Core.Path.{_≡_};
 ghost use Rattle.rules.specs.Events.{step};
 ghost use Rattle.rules.specs.Statements.{statementOf};
 ghost use Rattle.rules.specs.declared.statement.Statement.the-variants.{Transfer, Return};
-ghost use Rattle.ready.specs.Ready.{Done, replyTo};
-ghost use Rattle.ready.specs.At.{At};
+ghost use Rattle.step_ready.specs.Ready.{Done, replyTo};
+ghost use Rattle.step_ready.specs.At.{At};
 
 // The reason of a trap: RETURN with no return label.
 pub const NO_RETURN_LABEL: u8 = 2;

@@ -18,8 +18,8 @@ ghost use Rattle.encoding.specs.Encoded.{Encodes, Canonical};
 ghost use Rattle.encoding.specs.Stores.{withThread};
 ghost use Rattle.threads.specs.Whole.{whole};
 ghost use Rattle.threads.specs.Threads.{Running, job, returnsOf, registersOf};
-ghost use Rattle.ready.specs.Ready.{Done, replyTo};
-ghost use Rattle.ready.specs.At.{At};
+ghost use Rattle.step_ready.specs.Ready.{Done, replyTo};
+ghost use Rattle.step_ready.specs.At.{At};
 
 // The thread goes on at the label in a field of its record, with its registers.
 pub fn go_on(state: &mut [u8], t: Thread, w: ThreadState, r: &[u8], field: usize) -> Answer

@@ -7,7 +7,7 @@ use Prim.Native.Nat.{ℕ}
 use lib.Dec.{eqb, ltb}
 use borrow.Author.Tests.{ltb-true, eqb-true}
 use Rattle.rules.specs.Image.{labels, recordAt, blockField, entry, labelA, labelB, rowAt}
-use Rattle.rules.specs.Statements.{statementOf, roleA, roleB, dataOf}
+use Rattle.rules.specs.Statements.{operationAt, otherOf, statementOf, roleA, roleB, dataOf}
 use Rattle.rules.specs.Check.{labelOk, ruleOk, recordOk, Checked}
 use Rattle.rules.specs.Events.{Event}
 use Rattle.rules.specs.Steps.{actBy, rulesBy, view}
@@ -39,7 +39,7 @@ module _ (image table : List ℕ) where
       record { a = home-label (roleA (statementOf r)) (blockField r) (labelA r) (k .a); b = home-label (roleB (statementOf r)) (blockField r) (labelB r) (k .b) }
 
   no-homes : Homes []
-  unfolding statementOf
+  unfolding operationAt otherOf statementOf
   no-homes = record { a = tt; b = tt }
 
   record-homes : Passed image table → (l : ℕ) → Homes (recordAt image l)

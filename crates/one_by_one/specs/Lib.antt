@@ -21,6 +21,7 @@ pub mod Faults
 pub mod Roles
 pub mod Blocks
 pub mod Passed
+pub mod Heads
 pub mod Checked
 -- jobs, calls, bytes
 pub mod Jobs

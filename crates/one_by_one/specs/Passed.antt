@@ -45,7 +45,7 @@ no-record image l h = rw h refl
 
 -- a record that breaks no rule: its head, its operands, and its labels A and B
 pub record Parts (image r : List ℕ) : Type 0 where
-  pub head : headOk (opcode r) (blockField r) (entry r) (operator r) (operands r) (kind r 0) ≡ true
+  pub head : headOk r ≡ true
   pub slots : allFrom (slotOk r) 0 operandCount ≡ true
   pub a : labelOk image (roleA (statementOf r)) (blockField r) (labelA r) ≡ true
   pub b : labelOk image (roleB (statementOf r)) (blockField r) (labelB r) ≡ true
@@ -53,7 +53,7 @@ pub record Parts (image r : List ℕ) : Type 0 where
 pub rule-parts : (image r : List ℕ) → ruleOk image r ≡ true → Parts image r
 unfolding ruleOk
 rule-parts image r h =
-    let head : Bool = headOk (opcode r) (blockField r) (entry r) (operator r) (operands r) (kind r 0) in
+    let head : Bool = headOk r in
     let slots : Bool = allFrom (slotOk r) 0 operandCount in
     let a : Bool = labelOk image (roleA (statementOf r)) (blockField r) (labelA r) in
     let b : Bool = labelOk image (roleB (statementOf r)) (blockField r) (labelB r) in

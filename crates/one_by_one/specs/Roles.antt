@@ -50,7 +50,7 @@ branches false = refl
 perform-refers : (v : View) (s : Statement) (vs : List ℕ) → Refers (roleA s) (roleB s) (perform v s vs)
 unfolding perform
 perform-refers v Skip vs = (inl refl, tt)
-perform-refers v (Assign a) vs = then-refers _ _ (compute (a .value) (getD vs 0 0) (getD vs 1 0)) _ (λ w. (inl refl, tt))
+perform-refers v (Assign a) vs = then-refers _ _ (compute (a .operation) (getD vs 0 0) (getD vs 1 0)) _ (λ w. (inl refl, tt))
 perform-refers v (If c) vs = (branches (holds (c .relation) (getD vs 0 0) (getD vs 1 0)), tt)
 perform-refers v SendDirect vs = (refl, tt)
 perform-refers v SendBuffered vs = unless-refers _ _ (leb pendingCount (v .pending)) 4 _ (refl, refl)

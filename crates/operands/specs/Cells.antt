@@ -15,7 +15,7 @@ use Rattle.rules.specs.Effects.{Cells, read, trap, got}
 use Rattle.rules.specs.declared.statement.Operand.the-variants.{Register}
 use Rattle.encoding.specs.Registers.{register-at}
 use Rattle.encoding.specs.Runs.{chunks-at}
-use Rattle.turns.specs.Same.{window-at}
+use Rattle.step_laws.specs.Same.{window-at}
 
 abbrev pub cellsFrom : List ℕ → ℕ → ℕ → List ℕ → Cells
 cellsFrom state block present registers = record { registers = registersFrom present registers 0 registerCount; words = window block (wordsFrom state) }

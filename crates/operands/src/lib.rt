@@ -4,8 +4,7 @@ use image::decode::operand_at;
 use rules::sorts::Block;
 use rules::sorts::Thread;
 use rules::statement::Operand;
-use rules::statement::Operator;
-use rules::statement::Value;
+use rules::statement::Operation;
 use state::thread_records::read_register;
 use state::words::read_word;
 ghost use mathlib.Core.Path.{_≡_};
@@ -16,14 +15,14 @@ ghost use lib.ListN.{length, replicate};
 ghost use Rattle.rules.specs.Sizes.{operandCount};
 ghost use Rattle.rules.specs.Bytes.{allFrom};
 ghost use Rattle.rules.specs.Image.{operands};
-ghost use Rattle.rules.specs.Statements.{dataOf, sources};
+ghost use Rattle.rules.specs.Statements.{dataOf};
 ghost use Rattle.rules.specs.Check.{slotOk};
-ghost use Rattle.rules.specs.Effects.{got, join, read, readAll};
+ghost use Rattle.rules.specs.Effects.{one, compute, read, readAll};
 ghost use Rattle.encoding.specs.Slots.{registersIn};
 ghost use Rattle.operands.specs.Readings.{readingOf, Reads};
 ghost use Rattle.operands.specs.Legal.{Fits};
 ghost use Rattle.operands.specs.Cells.{cellsFrom};
-ghost use Rattle.operands.specs.Values.{ReadsPair, evaluated, FitAll};
+ghost use Rattle.operands.specs.Values.{ReadsPair, Computes};
 
 // The value of an operand, or the reason of the trap that reading it makes.
 pub enum Reading {
@@ -120,33 +119,33 @@ pub fn read_pair(
     }
 }
 
-// Add, subtract and multiply, each modulo 65,536.
-pub fn joined(o: Operator, p: u16, q: u16) -> u16
-    ensures { λ r. ⌜ got r ≡ join o p q ⌝ }
+// What an operation works out, a value for each destination, or the reason of the trap that it makes.
+pub struct Computation {
+    pub first: u16,
+    pub second: u16,
+    pub trap: u8,
+}
+
+// One value, for the first destination.
+pub fn one_result(v: u16) -> Computation
+    ensures { λ r. ⌜ Computes (one v) r ⌝ }
+{
+    Computation {
+        first: v,
+        second: 0,
+        trap: 0,
+    }
+}
+
+pub fn computed(o: Operation, p: u16, q: u16) -> Computation
+    ensures { λ r. ⌜ Computes (compute o p q) r ⌝ }
 {
     let left = p as u32;
     let right = q as u32;
     match o {
-        Operator::Add => ((left + right) % 65536) as u16,
-        Operator::Subtract => ((left + 65536 - right) % 65536) as u16,
-        Operator::Multiply => (left * right % 65536) as u16,
-    }
-}
-
-// What ASSIGN stores, or the reason of the trap that working it out makes.
-pub fn evaluate(state: &[u8], block: Block, t: Thread, present: u32, v: Value) -> Reading
-    requires { ⌜ (length (now state) ≡ 7929) × (block .0 < 16) × (t .0 < 8) × FitAll (sources v) ⌝ }
-    ensures { λ r. ⌜ r ≡ readingOf (evaluated (cellsFrom (now (state .entry)) (block .0) present (registersIn (now (state .entry)) (t .0))) v) ⌝ }
-{
-    match v {
-        Value::Copy(p) => read_operand(state, block, t, present, p),
-        Value::Join(o, p, q) => {
-            let pair = read_pair(state, block, t, present, p, q);
-            if pair.trap != 0 {
-                Reading::Trap(pair.trap)
-            } else {
-                Reading::Value(joined(o, pair.left, pair.right))
-            }
-        }
+        Operation::Copy => one_result(p),
+        Operation::Add => one_result(((left + right) % 65536) as u16),
+        Operation::Subtract => one_result(((left + 65536 - right) % 65536) as u16),
+        Operation::Multiply => one_result((left * right % 65536) as u16),
     }
 }

@@ -24,7 +24,7 @@ use Rattle.encoding.specs.Numbers.{AreBytes}
 use Rattle.encoding.specs.Machines.{machine-forth, machine-sized}
 use Rattle.encoding.specs.Encoded.{encodes}
 use Rattle.invariants.specs.Sound.{sound-of}
-use Rattle.ready.specs.Ready.{Ready}
+use Rattle.step_ready.specs.Ready.{Ready}
 use Rattle.engine.specs.Runs.{Events}
 
 -- the state of a call that is not refused is one that an event can be carried out on

@@ -1,12 +1,12 @@
 // The calls that a host makes, on byte slices and numbers. Each returns one number: 0, or 65,536 × number + place of the first refusal.
-use door::faults::fresh_fault;
-use door::faults::walk_fault;
 use engine::fresh::fresh;
 use engine::run::run;
-use events::faults::run_fault;
+use event_check::faults::run_fault;
 use image::check::image_fault;
 use rules::sorts::thread_of;
-use waits::walk;
+use state_check::faults::fresh_fault;
+use state_check::faults::walk_fault;
+use walk::walk;
 ghost use mathlib.Core.Path.{_≡_};
 ghost use Rattle.rules.specs.Calls.{checkReturn, freshReturn, freshState, runReturn, runState, runAnswers, walkReturn, walkMet};
 

@@ -17,10 +17,10 @@ use Rattle.rules.specs.Machine.{Signal, Job, ThreadState, idle, running,
 use Rattle.rules.specs.Encoding.{threadRaw, threadBytes, encode, machineFrom}
 use Rattle.rules.specs.Answers.{code, detail, close, sort}
 use Rattle.rules.specs.Events.{Event, arrive, step, cut, threadOf, eventsFrom}
-use Rattle.rules.specs.Effects.{got, join}
+use Rattle.rules.specs.Effects.{one, compute}
 use Rattle.rules.specs.Steps.{Rules, rulesBy, newest, older, blockAt, planArrive, plan, carry, react, final, grown, founded}
 use Rattle.rules.specs.Calls.{stateLengthFault, stateFault, eventsLengthFault, eventFault, answersLengthFault, runReturn, runState}
-use Rattle.rules.specs.declared.statement.Operator.the-variants.{Add, Subtract, Multiply}
+use Rattle.rules.specs.declared.statement.Operation.the-variants.{Add, Subtract, Multiply}
 use Rattle.rules.specs.declared.statement.Statement.the-variants.{SendDirect, SendBuffered, Call, Return, Transfer, Exit}
 use Rattle.rules.specs.declared.answer.Answer.the-variants.{Taken, ListFull, Started, Exited, Trapped, WasCut}
 use Rattle.rules.proofs.Running.{Runs, Answered, answered, MovesOn}
@@ -35,10 +35,10 @@ pub record Cleared (w : ThreadState) : Type 0 where
   pub returns : getD (threadBytes w) 4 0 ≡ 0
   pub presence : num32 (drop 21 (threadBytes w)) ≡ 0
 
-sum : (p q : ℕ) → p < 65536 → q < 65536 → 65536 ≤ p + q → join Add p q ≡ got (p + q - 65536)
+sum : (p q : ℕ) → p < 65536 → q < 65536 → 65536 ≤ p + q → compute Add p q ≡ one (p + q - 65536)
 sum p q hp hq h = let e : (p + q) % 65536 ≡ p + q - 65536 = omega arith in rw e
 
-difference : (p q : ℕ) → p < q → q < 65536 → join Subtract p q ≡ got (65536 - (q - p))
+difference : (p q : ℕ) → p < q → q < 65536 → compute Subtract p q ≡ one (65536 - (q - p))
 difference p q h hq = let e : (p + 65536 - q) % 65536 ≡ 65536 - (q - p) = omega arith in rw e
 
 cleared-idle : (w : ThreadState) → w ≡ idle → Cleared w
@@ -74,11 +74,11 @@ pub record Trials (image table : List ℕ) (s : Machine) (t locks : ℕ) (j : Jo
   -- the trials as the document tells them, on bytes
   pub bytes : OnBytes
   -- "65,535 + 1 is 0"
-  pub sum-wraps : join Add 65535 1 ≡ got 0
-  pub sums : (p q : ℕ) → p < 65536 → q < 65536 → 65536 ≤ p + q → join Add p q ≡ got (p + q - 65536)
+  pub sum-wraps : compute Add 65535 1 ≡ one 0
+  pub sums : (p q : ℕ) → p < 65536 → q < 65536 → 65536 ≤ p + q → compute Add p q ≡ one (p + q - 65536)
   -- "0 - 1 is 65,535"
-  pub difference-wraps : join Subtract 0 1 ≡ got 65535
-  pub differences : (p q : ℕ) → p < q → q < 65536 → join Subtract p q ≡ got (65536 - (q - p))
+  pub difference-wraps : compute Subtract 0 1 ≡ one 65535
+  pub differences : (p q : ℕ) → p < q → q < 65536 → compute Subtract p q ≡ one (65536 - (q - p))
   -- "RETURN in a job with no call: 8, 2"
   pub return-without-call : Runs image s t locks j Return values → j .returns ≡ [] → Answered (stepOf image table s t) 8 2
   -- "The eighth CALL moves on; the ninth: 8, 3"
@@ -111,7 +111,7 @@ pub record Trials (image table : List ℕ) (s : Machine) (t locks : ℕ) (j : Jo
   pub no-events-state : (state : List ℕ) → firstOf (imageFaults image table (stateLengthFault state ∷ stateFault image table state ∷ [])) ≡ 0
       → runState image table state [] [] ≡ encode (machineFrom state)
   -- also: 256 × 256 is 0
-  pub product-wraps : join Multiply 256 256 ≡ got 0
+  pub product-wraps : compute Multiply 256 256 ≡ one 0
   -- also: an arrival goes to the list's end
   pub arrival-last : (g : Signal) → length (s .trees) < 16 → react (rulesBy image table) s (arrive g) .state .trees
       ≡ s .trees ++ record { thread = rowAt table (blockAt image (g .label)) .thread; pending = g ∷ [] } ∷ []

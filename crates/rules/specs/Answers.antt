@@ -5,18 +5,19 @@ use Prim.Native.Nat.{ℕ}
 use lib.Dec.{eqb}
 use Rattle.rules.specs.declared.answer.Answer.{Answer}
 use Rattle.rules.specs.declared.answer.Answer.the-variants.{Taken, ListFull, NoWork, Waiting, Started, Moved, Exited, Trapped, WasCut, NothingToCut}
+use Rattle.rules.specs.Codes.{arrivedCode, listFullCode, noWorkCode, waitingCode, startedCode, movedOnCode, exitedCode, trappedCode, wasCutCode, nothingToCutCode}
 
 unfoldable pub code : Answer → ℕ
-code Taken = 1
-code ListFull = 2
-code NoWork = 3
-code (Waiting l) = 4
-code Started = 5
-code Moved = 6
-code Exited = 7
-code (Trapped r) = 8
-code WasCut = 9
-code NothingToCut = 10
+code Taken = arrivedCode
+code ListFull = listFullCode
+code NoWork = noWorkCode
+code (Waiting l) = waitingCode
+code Started = startedCode
+code Moved = movedOnCode
+code Exited = exitedCode
+code (Trapped r) = trappedCode
+code WasCut = wasCutCode
+code NothingToCut = nothingToCutCode
 
 -- zero unless named: the lock waited for (lock b guards block b, so this is the block asked for), and a trap's reason
 unfoldable pub detail : Answer → ℕ
@@ -53,7 +54,7 @@ sort NothingToCut = out
 
 unfoldable pub sortOfCode : ℕ → Sort
 sortOfCode c =
-    cond (eqb c 1 || eqb c 2) now
-    (cond (eqb c 3 || eqb c 4 || eqb c 10) out
-    (cond (eqb c 7 || eqb c 8 || eqb c 9) close
+    cond (eqb c arrivedCode || eqb c listFullCode) now
+    (cond (eqb c noWorkCode || eqb c waitingCode || eqb c nothingToCutCode) out
+    (cond (eqb c exitedCode || eqb c trappedCode || eqb c wasCutCode) close
     join))

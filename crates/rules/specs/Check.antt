@@ -1,39 +1,47 @@
 -- The rules of a record and of the block table, and the refusals 1 to 4. A refusal is 65,536 × number + place, and 0 where its cause
 -- does not apply.
 use mathlib.Core.Path.{_≡_}
-use mathlib.Core.Bool.{Bool, true, cond, _&&_, _||_}
+use mathlib.Core.Bool.{Bool, true, cond, not, _&&_, _||_}
+use mathlib.Core.Option.{Option, none, some}
 use mathlib.Core.List.{List, [], _∷_}
 use Prim.Native.Nat.{ℕ, _+_, _*_}
 use lib.ListN.{length}
 use lib.Dec.{eqb, leb, ltb}
 use Rattle.rules.specs.Sizes.{blockCount, threadCount, registerCount, wordCount, operandCount, tableSize}
+use Rattle.rules.specs.Codes.{skipCode, gotoCode, ifCode, sendDirectCode, transferCode, exitCode, equalCode, lessCode, directCode, bufferedCode, numberOperandCode, registerOperandCode, wordOperandCode}
 use Rattle.rules.specs.Bytes.{allFrom, firstBad}
 use Rattle.rules.specs.Image.{labels, recordAt, opcode, blockField, entry, operator, labelA, labelB, operands, kind, value, rowAt}
-use Rattle.rules.specs.Statements.{statementOf, roleA, roleB}
+use Rattle.rules.specs.Statements.{shape, destinations, operationAt, statementOf, roleA, roleB}
+use Rattle.rules.specs.declared.statement.Operation.{Operation}
+use Rattle.rules.specs.declared.statement.Shape.{Shape}
 use Rattle.rules.specs.declared.statement.Role.{Role}
 use Rattle.rules.specs.declared.statement.Role.the-variants.{Unused, Inner, Direct, Local, Buffered}
 
 -- ---- the rules of a record
 
--- ASSIGN: operators 1 to 4; IF: 1 and 2; any other opcode uses none
-abbrev pub operatorOk : ℕ → ℕ → Bool
-operatorOk op o = cond (eqb op 2) (leb 1 o && leb o 4) (cond (eqb op 4) (leb 1 o && leb o 2) (eqb o 0))
+-- an opcode of ASSIGN's kind: as many operands as it has; a destination is a register or a shared word, and two are not equal
+unfoldable pub assignOk : Shape → ℕ → ℕ → ℕ → ℕ → ℕ → Bool
+assignOk s c k v k′ v′ =
+    eqb c (destinations s + cond (s .right) 2 1) && leb 2 k && cond (s .second) (leb 2 k′ && not (eqb k k′ && eqb v v′)) true
 
--- ASSIGN: destination, p, and q except for copy; IF: p, q; opcodes 5 to 9: 0 to 25 data operands; any other: none
-abbrev pub countOk : ℕ → ℕ → ℕ → Bool
-countOk op o c =
-    cond (eqb op 2) ((eqb o 1 && eqb c 2) || (ltb 1 o && eqb c 3))
-    (cond (eqb op 4) (eqb c 2)
-    (cond (leb 5 op && leb op 9) (leb c operandCount) (eqb c 0)))
+-- any other: IF has operator 1 or 2 and p, q; opcodes 5 to 9 have 0 to 25 data operands; 1, 3 and 10 have none
+unfoldable pub otherOk : ℕ → ℕ → ℕ → Bool
+otherOk op o c =
+    cond (eqb op ifCode) ((leb equalCode o && leb o lessCode) && eqb c 2)
+    (cond (leb sendDirectCode op && leb op transferCode) (eqb o 0 && leb c operandCount)
+    ((eqb op skipCode || eqb op gotoCode || eqb op exitCode) && eqb o 0 && eqb c 0))
 
--- opcode 1 to 10, block 0 to 15, entry 0 to 3, operator, operand count; ASSIGN's destination is a register or a shared word
-unfoldable pub headOk : ℕ → ℕ → ℕ → ℕ → ℕ → ℕ → Bool
-headOk op b e o c k =
-    (leb 1 op && leb op 10) && ltb b blockCount && ltb e 4 && operatorOk op o && countOk op o c && cond (eqb op 2) (leb 2 k) true
+abbrev pub shapeOk : Option Operation → List ℕ → Bool
+shapeOk none r = otherOk (opcode r) (operator r) (operands r)
+shapeOk (some k) r = assignOk (shape k) (operands r) (kind r 0) (value r 0) (kind r 1) (value r 1)
+
+-- block 0 to 15, entry 0 to 3, and what the opcode asks of operator and operands
+unfoldable pub headOk : List ℕ → Bool
+headOk r = ltb (blockField r) blockCount && ltb (entry r) 4 && shapeOk (operationAt (opcode r) (operator r)) r
 
 -- a number of any value, a register 0 to 24, a shared word 0 to 15
 abbrev pub operandOk : ℕ → ℕ → Bool
-operandOk k v = eqb k 1 || (eqb k 2 && ltb v registerCount) || (eqb k 3 && ltb v wordCount)
+operandOk k v = eqb k numberOperandCode || (eqb k registerOperandCode && ltb v registerCount) || (eqb k wordOperandCode && ltb v wordCount)
 
 -- the place k for an operand: an operand where there is one, and zero where there is none
 unfoldable pub slotOk : List ℕ → ℕ → Bool
@@ -44,16 +52,16 @@ slotOk r k = cond (ltb k (operands r)) (operandOk (kind r k) (value r k)) (eqb (
 abbrev pub roleOk : Role → ℕ → Bool → Bool → ℕ → Bool
 roleOk Unused v below same e = eqb v 0
 roleOk Inner v below same e = below && same
-roleOk Direct v below same e = below && eqb e 1
-roleOk Local v below same e = below && same && eqb e 1
-roleOk Buffered v below same e = below && eqb e 2
+roleOk Direct v below same e = below && eqb e directCode
+roleOk Local v below same e = below && same && eqb e directCode
+roleOk Buffered v below same e = below && eqb e bufferedCode
 
 unfoldable pub labelOk : List ℕ → Role → ℕ → ℕ → Bool
 labelOk image role b v = roleOk role v (ltb v (labels image)) (eqb (blockField (recordAt image v)) b) (entry (recordAt image v))
 
 unfoldable pub ruleOk : List ℕ → List ℕ → Bool
 ruleOk image r =
-    headOk (opcode r) (blockField r) (entry r) (operator r) (operands r) (kind r 0)
+    headOk r
     && allFrom (slotOk r) 0 operandCount
     && labelOk image (roleA (statementOf r)) (blockField r) (labelA r)
     && labelOk image (roleB (statementOf r)) (blockField r) (labelB r)

@@ -7,14 +7,14 @@ use Prim.Native.Nat.{ℕ, _+_, _-_, _*_, _%_}
 use lib.ListN.{length, getD, set, drop}
 use lib.Dec.{eqb, leb, ltb}
 use Rattle.rules.specs.Sizes.{returnCount, pendingCount}
+use Rattle.rules.specs.Codes.{absentRegisterCode, returnsFullCode, pendingFullCode}
 use Rattle.rules.specs.Machine.{fill}
 use Rattle.rules.specs.Statements.{reads}
 use Rattle.rules.specs.declared.statement.Operand.{Operand}
 use Rattle.rules.specs.declared.statement.Operand.the-variants.{Number, Register, Word}
-use Rattle.rules.specs.declared.statement.Operator.{Operator}
-use Rattle.rules.specs.declared.statement.Operator.the-variants.{Add, Subtract, Multiply}
-use Rattle.rules.specs.declared.statement.Value.{Value}
-use Rattle.rules.specs.declared.statement.Value.the-variants.{Copy, Join}
+use Rattle.rules.specs.declared.statement.Operation.{Operation}
+use Rattle.rules.specs.declared.statement.Operation.the-variants.{Copy, Add, Subtract, Multiply}
+use Rattle.rules.specs.declared.statement.Assignment.{Assignment}
 use Rattle.rules.specs.declared.statement.Relation.{Relation}
 use Rattle.rules.specs.declared.statement.Relation.the-variants.{Equal, Less}
 use Rattle.rules.specs.declared.statement.Statement.{Statement}
@@ -45,7 +45,7 @@ pub record Cells : Type 0 where
 
 -- an absent register is read: reason 1
 abbrev pub present : Option ℕ → Got ℕ
-present none = trap 1
+present none = trap absentRegisterCode
 present (some v) = got v
 
 abbrev pub read : Cells → Operand → Got ℕ
@@ -58,15 +58,20 @@ unfoldable pub readAll : Cells → List Operand → Got (List ℕ)
 readAll c [] = got []
 readAll c (p ∷ ps) = then (read c p) (λ v. then (readAll c ps) (λ vs. got (v ∷ vs)))
 
--- add, subtract and multiply, each modulo 65,536
-abbrev pub join : Operator → ℕ → ℕ → Got ℕ
-join Add p q = got ((p + q) % 65536)
-join Subtract p q = got ((p + 65536 - q) % 65536)
-join Multiply p q = got (p * q % 65536)
+-- what is worked out: a value for each destination
+pub record Results : Type 0 where
+  pub first : ℕ
+  pub second : ℕ
 
-abbrev pub compute : Value → ℕ → ℕ → Got ℕ
-compute (Copy x) p q = got p
-compute (Join o x y) p q = join o p q
+abbrev pub one : ℕ → Got Results
+one v = got (record { first = v; second = 0 })
+
+-- copy; add, subtract and multiply, each modulo 65,536
+abbrev pub compute : Operation → ℕ → ℕ → Got Results
+compute Copy p q = one p
+compute Add p q = one ((p + q) % 65536)
+compute Subtract p q = one ((p + 65536 - q) % 65536)
+compute Multiply p q = one (p * q % 65536)
 
 abbrev pub holds : Relation → ℕ → ℕ → Bool
 holds Equal p q = eqb p q
@@ -77,6 +82,9 @@ abbrev pub store : Operand → ℕ → Cells → Cells
 store (Number n) v c = c
 store (Register r) v c = record { registers = set (c .registers) r (some v); words = c .words }
 store (Word w) v c = record { registers = c .registers; words = set (c .words) w v }
+
+abbrev pub assigned : Assignment → Results → Cells → Cells
+assigned a x c = store (a .second) (x .second) (store (a .first) (x .first) c)
 
 -- ---- where a statement leads, and what it leaves
 
@@ -113,11 +121,11 @@ overlaid vs c = record { registers = map some vs ++ drop (length vs) (c .registe
 -- what a statement does with the values that it read. CALL with 8 return labels: reason 3; buffered SEND with 8 pending: reason 4
 unfoldable pub perform : View → Statement → List ℕ → Got Outcome
 perform v Skip vs = go onA (v .cells)
-perform v (Assign a) vs = then (compute (a .value) (getD vs 0 0) (getD vs 1 0)) (λ x. go onA (store (a .destination) x (v .cells)))
+perform v (Assign a) vs = then (compute (a .operation) (getD vs 0 0) (getD vs 1 0)) (λ x. go onA (assigned a x (v .cells)))
 perform v (If c) vs = go (cond (holds (c .relation) (getD vs 0 0) (getD vs 1 0)) onA onB) (v .cells)
 perform v SendDirect vs = go intoA (filled vs (v .cells))
-perform v SendBuffered vs = unless (leb pendingCount (v .pending)) 4 (got (goes (record { next = onB; cells = v .cells; sent = some vs })))
-perform v Call vs = unless (leb returnCount (v .depth)) 3 (go callA (filled vs (v .cells)))
+perform v SendBuffered vs = unless (leb pendingCount (v .pending)) pendingFullCode (got (goes (record { next = onB; cells = v .cells; sent = some vs })))
+perform v Call vs = unless (leb returnCount (v .depth)) returnsFullCode (go callA (filled vs (v .cells)))
 perform v Return vs = go back (filled vs (v .cells))
 perform v Transfer vs = go onA (overlaid vs (v .cells))
 perform v Exit vs = got ends

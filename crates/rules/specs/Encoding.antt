@@ -5,7 +5,7 @@ use mathlib.Core.List.{List, [], _∷_, _++_, map}
 use Prim.Native.Nat.{ℕ, zero, suc, _+_, _*_}
 use lib.ListN.{length, getD, drop}
 use lib.Dec.{eqb}
-use Rattle.rules.specs.Sizes.{threadCount, blockCount, wordCount, registerCount, returnCount, treeCount, pendingCount, wordsSize, threadSize, signalSize, treeSize, treesAt, idleLabel}
+use Rattle.rules.specs.Sizes.{threadCount, wordTotal, registerCount, returnCount, treeCount, pendingCount, idleLabel, locksPlace, returnCountPlace, returnsPlace, presencePlace, registersPlace, threadSize, valueCountPlace, valuesPlace, signalSize, pendingCountPlace, signalsPlace, treeSize, threadsPlace, treeCountPlace, treesPlace}
 use Rattle.rules.specs.Bytes.{num16, num32, le16, le32, has, blocks, pad, chunks}
 use Rattle.rules.specs.Machine.{Signal, Tree, Job, ThreadState, idle, running, Machine}
 
@@ -43,12 +43,12 @@ registersFrom present values r (suc n) = registerOf present values r ∷ registe
 unfoldable pub jobFrom : List ℕ → Job
 jobFrom b = record {
   label = num16 b;
-  returns = chunks num16 2 (getD (drop 4 b) 0 0) (drop 5 b);
-  registers = registersFrom (num32 (drop 21 b)) (chunks num16 2 registerCount (drop 25 b)) 0 registerCount;
+  returns = chunks num16 2 (getD (drop returnCountPlace b) 0 0) (drop returnsPlace b);
+  registers = registersFrom (num32 (drop presencePlace b)) (chunks num16 2 registerCount (drop registersPlace b)) 0 registerCount;
 }
 
 unfoldable pub threadFrom : List ℕ → ThreadState
-threadFrom b = cond (eqb (num16 b) idleLabel) idle (running (num16 (drop 2 b)) (jobFrom b))
+threadFrom b = cond (eqb (num16 b) idleLabel) idle (running (num16 (drop locksPlace b)) (jobFrom b))
 
 -- ---- a signal: label, value count, 25 values
 
@@ -56,7 +56,7 @@ unfoldable pub signalBytes : Signal → List ℕ
 signalBytes g = le16 (g .label) ++ ((length (g .values) ∷ []) ++ blocks le16 (pad 0 registerCount (g .values)))
 
 unfoldable pub signalFrom : List ℕ → Signal
-signalFrom b = record { label = num16 b; values = chunks num16 2 (getD (drop 2 b) 0 0) (drop 3 b) }
+signalFrom b = record { label = num16 b; values = chunks num16 2 (getD (drop valueCountPlace b) 0 0) (drop valuesPlace b) }
 
 -- ---- a tree record: thread, pending count, 8 signals
 
@@ -70,24 +70,24 @@ unfoldable pub treeBytes : Tree → List ℕ
 treeBytes x = x .thread ∷ length (x .pending) ∷ blocks signalBytes (pad noSignal pendingCount (x .pending))
 
 unfoldable pub treeFrom : List ℕ → Tree
-treeFrom b = record { thread = getD b 0 0; pending = chunks signalFrom signalSize (getD b 1 0) (drop 2 b) }
+treeFrom b = record { thread = getD b 0 0; pending = chunks signalFrom signalSize (getD b pendingCountPlace 0) (drop signalsPlace b) }
 
 -- ---- the whole: 256 shared words, 8 thread records, the tree count, 16 tree records
 
 unfoldable pub encode : Machine → List ℕ
 encode s =
-    blocks le16 (pad 0 (blockCount * wordCount) (s .words))
+    blocks le16 (pad 0 wordTotal (s .words))
     ++ (blocks threadBytes (pad idle threadCount (s .threads))
     ++ ((length (s .trees) ∷ [])
     ++ blocks treeBytes (pad noTree treeCount (s .trees))))
 
 -- 256 shared words from 512 bytes
 unfoldable pub wordsFrom : List ℕ → List ℕ
-wordsFrom b = chunks num16 2 (blockCount * wordCount) b
+wordsFrom b = chunks num16 2 wordTotal b
 
 unfoldable pub machineFrom : List ℕ → Machine
 machineFrom b = record {
   words = wordsFrom b;
-  threads = chunks threadFrom threadSize threadCount (drop wordsSize b);
-  trees = chunks treeFrom treeSize (getD b treesAt 0) (drop (treesAt + 1) b);
+  threads = chunks threadFrom threadSize threadCount (drop threadsPlace b);
+  trees = chunks treeFrom treeSize (getD b treeCountPlace 0) (drop treesPlace b);
 }

@@ -6,7 +6,8 @@ use mathlib.Core.List.{List, _∷_}
 use Prim.Native.Nat.{ℕ, _+_, _*_, _-_, _/_, _<_}
 use lib.ListN.{length, getD, drop}
 use lib.Dec.{eqb, leb, ltb}
-use Rattle.rules.specs.Sizes.{threadCount, registerCount, eventSize, eventCount, signalSize}
+use Rattle.rules.specs.Sizes.{threadCount, registerCount, eventCount, valueCountPlace, valuesPlace, signalSize, eventThreadPlace, eventSignalPlace, eventSize}
+use Rattle.rules.specs.Codes.{externalCode, arrivalCode, stepCode, cutCode}
 use Rattle.rules.specs.Bytes.{num16, part, isZeros, chunks}
 use Rattle.rules.specs.Image.{recordAt, entry}
 use Rattle.rules.specs.Machine.{Signal}
@@ -27,29 +28,30 @@ Valid e = (t : ℕ) → threadOf e ≡ some t → t < threadCount
 
 -- kind 1 arrival, 2 step, 3 cut; thread; label, value count, 25 values
 unfoldable pub eventBytes : Event → List ℕ
-eventBytes (arrive g) = 1 ∷ 0 ∷ signalBytes g
-eventBytes (step t) = 2 ∷ t ∷ signalBytes noSignal
-eventBytes (cut t) = 3 ∷ t ∷ signalBytes noSignal
+eventBytes (arrive g) = arrivalCode ∷ 0 ∷ signalBytes g
+eventBytes (step t) = stepCode ∷ t ∷ signalBytes noSignal
+eventBytes (cut t) = cutCode ∷ t ∷ signalBytes noSignal
 
 unfoldable pub eventFrom : List ℕ → Event
-eventFrom b = cond (eqb (getD b 0 0) 1) (arrive (signalFrom (drop 2 b))) (cond (eqb (getD b 0 0) 2) (step (getD b 1 0)) (cut (getD b 1 0)))
+eventFrom b = cond (eqb (getD b 0 0) arrivalCode) (arrive (signalFrom (drop eventSignalPlace b))) (cond (eqb (getD b 0 0) stepCode) (step (getD b eventThreadPlace 0)) (cut (getD b eventThreadPlace 0)))
 
 -- an arrival has thread zero, a label of entry 3, a count 0 to 25 and zeros in what is unused
 unfoldable pub arrivalOk : List ℕ → List ℕ → Bool
 arrivalOk image b =
-    eqb (getD b 1 0) 0
-    && eqb (entry (recordAt image (num16 (drop 2 b)))) 3
-    && leb (getD b 4 0) registerCount
-    && isZeros (part b (5 + 2 * getD b 4 0) (2 * (registerCount - getD b 4 0)))
+    eqb (getD b eventThreadPlace 0) 0
+    && eqb (entry (recordAt image (num16 (drop eventSignalPlace b)))) externalCode
+    && leb (getD b (eventSignalPlace + valueCountPlace) 0) registerCount
+    && isZeros (part b (eventSignalPlace + valuesPlace + 2 * getD b (eventSignalPlace + valueCountPlace) 0)
+    (2 * (registerCount - getD b (eventSignalPlace + valueCountPlace) 0)))
 
 -- a step and a cut have a thread 0 to 7, and the rest is zero
 unfoldable pub turnOk : List ℕ → Bool
-turnOk b = ltb (getD b 1 0) threadCount && isZeros (part b 2 signalSize)
+turnOk b = ltb (getD b eventThreadPlace 0) threadCount && isZeros (part b eventSignalPlace signalSize)
 
 unfoldable pub eventOk : List ℕ → List ℕ → Bool
 eventOk image b =
-    cond (eqb (getD b 0 0) 1) (arrivalOk image b)
-    ((eqb (getD b 0 0) 2 || eqb (getD b 0 0) 3) && turnOk b)
+    cond (eqb (getD b 0 0) arrivalCode) (arrivalOk image b)
+    ((eqb (getD b 0 0) stepCode || eqb (getD b 0 0) cutCode) && turnOk b)
 
 -- the number of events: m where the length is 55 × m, m 0 to 1,024
 abbrev pub eventsIn : List ℕ → ℕ

@@ -4,7 +4,7 @@ use mathlib.Core.List.{List, []}
 use Prim.Native.Nat.{ℕ, _+_, _*_, _/_}
 use lib.ListN.{length, getD, take, drop}
 use lib.Dec.{eqb, leb, ltb}
-use Rattle.rules.specs.Sizes.{recordSize, recordCount, blockCount, threadCount, rowSize}
+use Rattle.rules.specs.Sizes.{threadCount, blockCount, recordCount, opcodePlace, blockPlace, entryPlace, operatorPlace, labelAPlace, labelBPlace, operandCountPlace, operandsPlace, operandSize, recordSize, rowKindPlace, rowSize}
 use Rattle.rules.specs.Bytes.{num16}
 
 -- the number of records: n where the length is 84 × n, n 1 to 512; otherwise 0
@@ -19,31 +19,31 @@ recordAt image l = cond (ltb l (labels image)) (take recordSize (drop (recordSiz
 
 -- a record's fields. Where there is no record the block is one that no block table has
 abbrev pub opcode : List ℕ → ℕ
-opcode r = getD r 0 0
+opcode r = getD r opcodePlace 0
 
 abbrev pub blockField : List ℕ → ℕ
-blockField r = getD r 1 blockCount
+blockField r = getD r blockPlace blockCount
 
 abbrev pub entry : List ℕ → ℕ
-entry r = getD r 2 0
+entry r = getD r entryPlace 0
 
 abbrev pub operator : List ℕ → ℕ
-operator r = getD r 3 0
+operator r = getD r operatorPlace 0
 
 abbrev pub labelA : List ℕ → ℕ
-labelA r = num16 (drop 4 r)
+labelA r = num16 (drop labelAPlace r)
 
 abbrev pub labelB : List ℕ → ℕ
-labelB r = num16 (drop 6 r)
+labelB r = num16 (drop labelBPlace r)
 
 abbrev pub operands : List ℕ → ℕ
-operands r = getD r 8 0
+operands r = getD r operandCountPlace 0
 
 abbrev pub kind : List ℕ → ℕ → ℕ
-kind r k = getD r (9 + 3 * k) 0
+kind r k = getD r (operandsPlace + operandSize * k) 0
 
 abbrev pub value : List ℕ → ℕ → ℕ
-value r k = num16 (drop (10 + 3 * k) r)
+value r k = num16 (drop (operandsPlace + 1 + operandSize * k) r)
 
 -- what the block table says of a block: its thread, its kind (0 FD, 1 CMX), and its lock. Lock b guards block b. A block past the
 -- table has a thread and a lock that nobody has
@@ -53,4 +53,4 @@ pub record Row : Type 0 where
   pub lock : ℕ
 
 unfoldable pub rowAt : List ℕ → ℕ → Row
-rowAt table b = record { thread = getD table (rowSize * b) threadCount; kind = getD table (rowSize * b + 1) 0; lock = b }
+rowAt table b = record { thread = getD table (rowSize * b) threadCount; kind = getD table (rowSize * b + rowKindPlace) 0; lock = b }

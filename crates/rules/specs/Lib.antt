@@ -1,6 +1,7 @@
 -- The law of the machine, in the order of document 01. Whoever believes these files need believe nothing else.
 pub mod Sorts
 pub mod Sizes
+pub mod Codes
 pub mod Bytes
 pub mod Image
 pub mod Statements

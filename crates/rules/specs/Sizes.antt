@@ -1,29 +1,40 @@
--- The limits and the sizes of document 01, each said here and nowhere else.
+-- The limits, the sizes and the places of document 01, each said here and nowhere else. A count is a number of things, a size a number
+-- of bytes, and a place the byte at which a field begins in the record that holds it.
 use Prim.Native.Nat.{ℕ, _+_, _*_}
 
--- 8 threads, 16 blocks, 16 shared words a block, 25 registers a thread, 8 return labels a thread, 16 job trees, 8 pending signals a
--- tree, 512 records, 25 operands, 1,024 events
+-- ---- limits
+
 abbrev pub threadCount : ℕ
 threadCount = 8
 
 abbrev pub blockCount : ℕ
 blockCount = 16
 
+abbrev pub lockCount : ℕ
+lockCount = 16
+
+-- shared words a block, and of all blocks
 abbrev pub wordCount : ℕ
 wordCount = 16
 
+abbrev pub wordTotal : ℕ
+wordTotal = blockCount * wordCount
+
+-- registers and return labels a thread
 abbrev pub registerCount : ℕ
 registerCount = 25
 
 abbrev pub returnCount : ℕ
 returnCount = 8
 
+-- job trees, and pending signals a tree
 abbrev pub treeCount : ℕ
 treeCount = 16
 
 abbrev pub pendingCount : ℕ
 pendingCount = 8
 
+-- records of an image, operands of a record, events of a run
 abbrev pub recordCount : ℕ
 recordCount = 512
 
@@ -33,47 +44,122 @@ operandCount = 25
 abbrev pub eventCount : ℕ
 eventCount = 1024
 
--- a block table of 16 records of 2 bytes
+-- the label of an idle thread
+abbrev pub idleLabel : ℕ
+idleLabel = 65535
+
+-- ---- the image: a record is opcode, block, entry, operator, label A, label B, operand count, operands of kind and value
+
+abbrev pub opcodePlace : ℕ
+opcodePlace = 0
+
+abbrev pub blockPlace : ℕ
+blockPlace = 1
+
+abbrev pub entryPlace : ℕ
+entryPlace = 2
+
+abbrev pub operatorPlace : ℕ
+operatorPlace = 3
+
+abbrev pub labelAPlace : ℕ
+labelAPlace = 4
+
+abbrev pub labelBPlace : ℕ
+labelBPlace = 6
+
+abbrev pub operandCountPlace : ℕ
+operandCountPlace = 8
+
+abbrev pub operandsPlace : ℕ
+operandsPlace = 9
+
+abbrev pub operandSize : ℕ
+operandSize = 3
+
+abbrev pub recordSize : ℕ
+recordSize = operandsPlace + operandSize * operandCount
+
+-- ---- the block table: a row is thread, kind
+
+abbrev pub rowKindPlace : ℕ
+rowKindPlace = 1
+
 abbrev pub rowSize : ℕ
 rowSize = 2
 
 abbrev pub tableSize : ℕ
 tableSize = rowSize * blockCount
 
--- a record of the image: 9 bytes and 25 operands of 3 bytes
-abbrev pub recordSize : ℕ
-recordSize = 84
+-- ---- a thread record: label, lock set, return count, return labels, presence set, register values
 
--- all shared words, 2 bytes each
-abbrev pub wordsSize : ℕ
-wordsSize = 2 * (blockCount * wordCount)
+abbrev pub locksPlace : ℕ
+locksPlace = 2
 
--- a thread record: label, lock set, return count, return labels, presence set, register values
+abbrev pub returnCountPlace : ℕ
+returnCountPlace = 4
+
+abbrev pub returnsPlace : ℕ
+returnsPlace = 5
+
+abbrev pub presencePlace : ℕ
+presencePlace = returnsPlace + 2 * returnCount
+
+abbrev pub registersPlace : ℕ
+registersPlace = presencePlace + 4
+
 abbrev pub threadSize : ℕ
-threadSize = 2 + 2 + 1 + 2 * returnCount + 4 + 2 * registerCount
+threadSize = registersPlace + 2 * registerCount
 
--- a signal: label, value count, values
+-- ---- a signal: label, value count, values
+
+abbrev pub valueCountPlace : ℕ
+valueCountPlace = 2
+
+abbrev pub valuesPlace : ℕ
+valuesPlace = 3
+
 abbrev pub signalSize : ℕ
-signalSize = 2 + 1 + 2 * registerCount
+signalSize = valuesPlace + 2 * registerCount
 
--- a tree record: thread, pending count, signals
+-- ---- a tree record: thread, pending count, signals
+
+abbrev pub pendingCountPlace : ℕ
+pendingCountPlace = 1
+
+abbrev pub signalsPlace : ℕ
+signalsPlace = 2
+
 abbrev pub treeSize : ℕ
-treeSize = 1 + 1 + signalSize * pendingCount
+treeSize = signalsPlace + signalSize * pendingCount
 
--- the state: the words, the thread records, the tree count, the tree records
-abbrev pub treesAt : ℕ
-treesAt = wordsSize + threadSize * threadCount
+-- ---- the state: the words, the thread records, the tree count, the tree records
+
+abbrev pub wordsSize : ℕ
+wordsSize = 2 * wordTotal
+
+abbrev pub threadsPlace : ℕ
+threadsPlace = wordsSize
+
+abbrev pub treeCountPlace : ℕ
+treeCountPlace = threadsPlace + threadSize * threadCount
+
+abbrev pub treesPlace : ℕ
+treesPlace = treeCountPlace + 1
 
 abbrev pub stateSize : ℕ
-stateSize = treesAt + 1 + treeSize * treeCount
+stateSize = treesPlace + treeSize * treeCount
 
--- an event: kind, thread, label, value count, values; an answer: code, detail
+-- ---- an event: kind, thread, signal; an answer: code, detail
+
+abbrev pub eventThreadPlace : ℕ
+eventThreadPlace = 1
+
+abbrev pub eventSignalPlace : ℕ
+eventSignalPlace = 2
+
 abbrev pub eventSize : ℕ
-eventSize = 1 + 1 + signalSize
+eventSize = eventSignalPlace + signalSize
 
 abbrev pub answerSize : ℕ
 answerSize = 2
-
--- the label of an idle thread
-abbrev pub idleLabel : ℕ
-idleLabel = 65535

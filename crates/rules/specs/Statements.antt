@@ -1,15 +1,16 @@
 -- "Opcodes": the statement of a record, its operands, and what it uses its two labels for.
-use mathlib.Core.Bool.{cond, _||_}
+use mathlib.Core.Bool.{Bool, true, false, cond, _&&_, _||_}
+use mathlib.Core.Option.{Option, none, some}
 use mathlib.Core.List.{List, [], _∷_}
 use Prim.Native.Nat.{ℕ, zero, suc, _+_}
 use lib.Dec.{eqb}
+use Rattle.rules.specs.Codes.{skipCode, assignCode, gotoCode, ifCode, sendDirectCode, sendBufferedCode, callCode, returnCode, transferCode, copyCode, addCode, subtractCode, multiplyCode, equalCode, numberOperandCode, registerOperandCode}
 use Rattle.rules.specs.Image.{opcode, operator, operands, kind, value}
 use Rattle.rules.specs.declared.statement.Operand.{Operand}
 use Rattle.rules.specs.declared.statement.Operand.the-variants.{Number, Register, Word}
-use Rattle.rules.specs.declared.statement.Operator.{Operator}
-use Rattle.rules.specs.declared.statement.Operator.the-variants.{Add, Subtract, Multiply}
-use Rattle.rules.specs.declared.statement.Value.{Value}
-use Rattle.rules.specs.declared.statement.Value.the-variants.{Copy, Join}
+use Rattle.rules.specs.declared.statement.Operation.{Operation}
+use Rattle.rules.specs.declared.statement.Operation.the-variants.{Copy, Add, Subtract, Multiply}
+use Rattle.rules.specs.declared.statement.Shape.{Shape}
 use Rattle.rules.specs.declared.statement.Assignment.{Assignment}
 use Rattle.rules.specs.declared.statement.Relation.{Relation}
 use Rattle.rules.specs.declared.statement.Relation.the-variants.{Equal, Less}
@@ -21,7 +22,7 @@ use Rattle.rules.specs.declared.statement.Role.the-variants.{Unused, Inn
 
 -- an operand is a number, a register or a shared word (kinds 1, 2, 3)
 unfoldable pub operandOf : ℕ → ℕ → Operand
-operandOf k v = cond (eqb k 1) (Number v) (cond (eqb k 2) (Register v) (Word v))
+operandOf k v = cond (eqb k numberOperandCode) (Number v) (cond (eqb k registerOperandCode) (Register v) (Word v))
 
 unfoldable pub operandAt : List ℕ → ℕ → Operand
 operandAt r k = operandOf (kind r k) (value r k)
@@ -31,45 +32,87 @@ unfoldable pub operandsFrom : List ℕ → ℕ → ℕ → List Operand
 operandsFrom r k zero = []
 operandsFrom r k (suc n) = operandAt r k ∷ operandsFrom r (k + 1) n
 
--- operators 1 copy p, 2 add, 3 subtract, 4 multiply
-unfoldable pub operatorOf : ℕ → Operator
-operatorOf o = cond (eqb o 2) Add (cond (eqb o 3) Subtract Multiply)
+-- ---- the opcodes of ASSIGN's kind: operands destination, second destination if any, p, q if any; on to A
 
-unfoldable pub valueOf : List ℕ → Value
-valueOf r = cond (eqb (operator r) 1) (Copy (operandAt r 1)) (Join (operatorOf (operator r)) (operandAt r 1) (operandAt r 2))
+-- which of the two they have
+abbrev pub shape : Operation → Shape
+shape Copy = record { second = false; right = false }
+shape Add = record { second = false; right = true }
+shape Subtract = record { second = false; right = true }
+shape Multiply = record { second = false; right = true }
+
+-- opcode and operator of each: 2 ASSIGN, operators 1 copy p, 2 add, 3 subtract, 4 multiply
+pub record Form : Type 0 where
+  pub opcode : ℕ
+  pub operator : ℕ
+  pub operation : Operation
+
+abbrev form : ℕ → ℕ → Operation → Form
+form op o k = record { opcode = op; operator = o; operation = k }
+
+abbrev pub forms : List Form
+forms = form assignCode copyCode Copy ∷ form assignCode addCode Add ∷ form assignCode subtractCode Subtract ∷ form assignCode multiplyCode Multiply ∷ []
+
+abbrev pub operationIn : List Form → ℕ → ℕ → Option Operation
+operationIn [] op o = none
+operationIn (f ∷ fs) op o = cond (eqb op (f .opcode) && eqb o (f .operator)) (some (f .operation)) (operationIn fs op o)
+
+unfoldable pub operationAt : ℕ → ℕ → Option Operation
+operationAt op o = operationIn forms op o
+
+-- how many destinations there are: p is the operand after them
+abbrev pub destinations : Shape → ℕ
+destinations s = cond (s .second) 2 1
+
+-- the operand at place k, where the operation has it
+unfoldable pub optional : Bool → List ℕ → ℕ → Operand
+optional has r k = cond has (operandAt r k) (Number 0)
+
+unfoldable pub assignmentBy : Operation → Shape → List ℕ → Assignment
+assignmentBy k s r = record {
+  operation = k;
+  first = operandAt r 0;
+  second = optional (s .second) r 1;
+  left = operandAt r (destinations s);
+  right = optional (s .right) r (destinations s + 1);
+}
+
+abbrev pub assignmentOf : Operation → List ℕ → Assignment
+assignmentOf k r = assignmentBy k (shape k) r
+
+-- ---- the others
 
 -- operator 1 equal, 2 p less than q
 unfoldable pub relationOf : ℕ → Relation
-relationOf o = cond (eqb o 1) Equal Less
-
-unfoldable pub assignmentOf : List ℕ → Assignment
-assignmentOf r = record { destination = operandAt r 0; value = valueOf r }
+relationOf o = cond (eqb o equalCode) Equal Less
 
 unfoldable pub conditionOf : List ℕ → Condition
 conditionOf r = record { relation = relationOf (operator r); left = operandAt r 0; right = operandAt r 1 }
 
--- 1 SKIP and 3 GOTO, 2 ASSIGN, 4 IF, 5 SEND direct, 6 SEND buffered, 7 CALL, 8 RETURN, 9 TRANSFER, 10 EXIT
+-- 1 SKIP and 3 GOTO, 4 IF, 5 SEND direct, 6 SEND buffered, 7 CALL, 8 RETURN, 9 TRANSFER, 10 EXIT
+unfoldable pub otherOf : List ℕ → Statement
+otherOf r =
+    cond (eqb (opcode r) skipCode || eqb (opcode r) gotoCode) Skip
+    (cond (eqb (opcode r) ifCode) (If (conditionOf r))
+    (cond (eqb (opcode r) sendDirectCode) SendDirect
+    (cond (eqb (opcode r) sendBufferedCode) SendBuffered
+    (cond (eqb (opcode r) callCode) Call
+    (cond (eqb (opcode r) returnCode) Return
+    (cond (eqb (opcode r) transferCode) Transfer
+    Exit))))))
+
+abbrev pub statementBy : Option Operation → List ℕ → Statement
+statementBy none r = otherOf r
+statementBy (some k) r = Assign (assignmentOf k r)
+
 unfoldable pub statementOf : List ℕ → Statement
-statementOf r =
-    cond (eqb (opcode r) 1 || eqb (opcode r) 3) Skip
-    (cond (eqb (opcode r) 2) (Assign (assignmentOf r))
-    (cond (eqb (opcode r) 4) (If (conditionOf r))
-    (cond (eqb (opcode r) 5) SendDirect
-    (cond (eqb (opcode r) 6) SendBuffered
-    (cond (eqb (opcode r) 7) Call
-    (cond (eqb (opcode r) 8) Return
-    (cond (eqb (opcode r) 9) Transfer
-    Exit)))))))
+statementOf r = statementBy (operationAt (opcode r) (operator r)) r
 
 -- the operands that a statement reads, left to right, given the data operands of its record: ASSIGN reads p and q, not its
--- destination; IF reads p and q; opcodes 5 to 9 read their data
-abbrev pub sources : Value → List Operand
-sources (Copy p) = p ∷ []
-sources (Join o p q) = p ∷ q ∷ []
-
+-- destinations; IF reads p and q; opcodes 5 to 9 read their data
 abbrev pub reads : Statement → List Operand → List Operand
 reads Skip given = []
-reads (Assign a) given = sources (a .value)
+reads (Assign a) given = a .left ∷ a .right ∷ []
 reads (If c) given = c .left ∷ c .right ∷ []
 reads SendDirect given = given
 reads SendBuffered given = given

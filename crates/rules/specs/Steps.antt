@@ -9,6 +9,7 @@ use lib.ListN.{length, set}
 use lib.Dec.{eqb, ltb}
 use Rattle.rules.specs.Sorts
 use Rattle.rules.specs.Sizes.{treeCount}
+use Rattle.rules.specs.Codes.{fdCode, noReturnLabelCode, foreignFdBlockCode}
 use Rattle.rules.specs.Bytes.{has}
 use Rattle.rules.specs.Image.{recordAt, blockField, labelA, labelB, Row, rowAt}
 use Rattle.rules.specs.Statements.{statementOf, dataOf}
@@ -47,7 +48,7 @@ signalTo a (some vs) = some (record { label = a; values = vs })
 
 -- an FD block of another thread
 unfoldable pub alien : Row → ℕ → Bool
-alien r t = eqb (r .kind) 0 && not (eqb (r .thread) t)
+alien r t = eqb (r .kind) fdCode && not (eqb (r .thread) t)
 
 -- of a label they are told the block, and of a block the row of the table. RETURN with no return label: reason 2; direct SEND or CALL
 -- to an FD block of another thread: reason 5
@@ -58,9 +59,9 @@ module _ (block : ℕ → ℕ) (row : ℕ → Row) where
   abbrev pub steer : ℕ → ℕ → ℕ → Going → Next → List ℕ → Effect
   steer t a b g onA rs = onward a rs a g none
   steer t a b g onB rs = onward b rs a g none
-  steer t a b g intoA rs = trapIf (alien (row (block a)) t) 5 (onward a rs a g (some (block a)))
-  steer t a b g callA rs = trapIf (alien (row (block a)) t) 5 (onward a (rs ++ b ∷ []) a g (some (block a)))
-  steer t a b g back [] = traps 2
+  steer t a b g intoA rs = trapIf (alien (row (block a)) t) foreignFdBlockCode (onward a rs a g (some (block a)))
+  steer t a b g callA rs = trapIf (alien (row (block a)) t) foreignFdBlockCode (onward a (rs ++ b ∷ []) a g (some (block a)))
+  steer t a b g back [] = traps noReturnLabelCode
   steer t a b g back (r ∷ rs) = onward (newest r rs) (older r rs) a g none
 
   abbrev pub resolve : ℕ → List ℕ → ℕ → ℕ → Got Outcome → Effect

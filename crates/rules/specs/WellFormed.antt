@@ -5,7 +5,8 @@ use Prim.Native.Nat.{ℕ, _+_, _*_, _-_, _^_}
 use lib.Bits.{bitAnd}
 use lib.ListN.{getD, drop}
 use lib.Dec.{eqb, leb, ltb}
-use Rattle.rules.specs.Sizes.{threadCount, registerCount, returnCount, treeCount, pendingCount, wordsSize, threadSize, signalSize, treeSize, treesAt, idleLabel}
+use Rattle.rules.specs.Sizes.{threadCount, registerCount, returnCount, treeCount, pendingCount, idleLabel, locksPlace, returnCountPlace, returnsPlace, presencePlace, registersPlace, threadSize, valueCountPlace, valuesPlace, signalSize, pendingCountPlace, signalsPlace, treeSize, threadsPlace, treeCountPlace, treesPlace}
+use Rattle.rules.specs.Codes.{bufferedCode, externalCode, cmxCode}
 use Rattle.rules.specs.Bytes.{num16, num32, part, isZeros, has, allFrom, every}
 use Rattle.rules.specs.Image.{labels, recordAt, entry, Row, rowAt}
 use Rattle.rules.specs.Machine.{Signal, Tree, ThreadState, idle, running, Machine, locksOf, queue}
@@ -16,52 +17,54 @@ use Rattle.rules.specs.Steps.{blockAt}
 
 -- absent register values are zero
 unfoldable pub absentZero : List ℕ → ℕ → Bool
-absentZero b r = has r (num32 (drop 21 b)) || eqb (num16 (drop (25 + 2 * r) b)) 0
+absentZero b r = has r (num32 (drop presencePlace b)) || eqb (num16 (drop (registersPlace + 2 * r) b)) 0
 
 -- a thread record: an idle thread's other fields are all zero; otherwise at most 8 return labels, zeros in the place of others, presence bits 0 to 24 only
 unfoldable pub runningTidy : List ℕ → Bool
 runningTidy b =
-    leb (getD b 4 0) returnCount
-    && isZeros (part b (5 + 2 * getD b 4 0) (2 * (returnCount - getD b 4 0)))
-    && ltb (num32 (drop 21 b)) (2 ^ registerCount)
+    leb (getD b returnCountPlace 0) returnCount
+    && isZeros (part b (returnsPlace + 2 * getD b returnCountPlace 0) (2 * (returnCount - getD b returnCountPlace 0)))
+    && ltb (num32 (drop presencePlace b)) (2 ^ registerCount)
     && allFrom (absentZero b) 0 registerCount
 
 unfoldable pub threadTidy : List ℕ → Bool
-threadTidy b = cond (eqb (num16 b) idleLabel) (isZeros (part b 2 (threadSize - 2))) (runningTidy b)
+threadTidy b = cond (eqb (num16 b) idleLabel) (isZeros (part b locksPlace (threadSize - locksPlace))) (runningTidy b)
 
 -- a signal: at most 25 values, zeros in the place of others
 unfoldable pub signalTidy : List ℕ → Bool
-signalTidy b = leb (getD b 2 0) registerCount && isZeros (part b (3 + 2 * getD b 2 0) (2 * (registerCount - getD b 2 0)))
+signalTidy b =
+    leb (getD b valueCountPlace 0) registerCount
+    && isZeros (part b (valuesPlace + 2 * getD b valueCountPlace 0) (2 * (registerCount - getD b valueCountPlace 0)))
 
 unfoldable pub signalAtTidy : List ℕ → ℕ → Bool
-signalAtTidy b i = signalTidy (drop (2 + signalSize * i) b)
+signalAtTidy b i = signalTidy (drop (signalsPlace + signalSize * i) b)
 
 -- a tree record: at most 8 pending signals, zeros in the place of others
 unfoldable pub treeTidy : List ℕ → Bool
 treeTidy b =
-    leb (getD b 1 0) pendingCount
-    && allFrom (signalAtTidy b) 0 (getD b 1 0)
-    && isZeros (part b (2 + signalSize * getD b 1 0) (signalSize * (pendingCount - getD b 1 0)))
+    leb (getD b pendingCountPlace 0) pendingCount
+    && allFrom (signalAtTidy b) 0 (getD b pendingCountPlace 0)
+    && isZeros (part b (signalsPlace + signalSize * getD b pendingCountPlace 0) (signalSize * (pendingCount - getD b pendingCountPlace 0)))
 
 unfoldable pub threadAtTidy : List ℕ → ℕ → Bool
-threadAtTidy state t = threadTidy (drop (wordsSize + threadSize * t) state)
+threadAtTidy state t = threadTidy (drop (threadsPlace + threadSize * t) state)
 
 unfoldable pub treeAtTidy : List ℕ → ℕ → Bool
-treeAtTidy state i = treeTidy (drop (treesAt + 1 + treeSize * i) state)
+treeAtTidy state i = treeTidy (drop (treesPlace + treeSize * i) state)
 
 -- the whole: at most 16 trees, zeros in the place of others
 unfoldable pub stateTidy : List ℕ → Bool
 stateTidy state =
     allFrom (threadAtTidy state) 0 threadCount
-    && leb (getD state treesAt 0) treeCount
-    && allFrom (treeAtTidy state) 0 (getD state treesAt 0)
-    && isZeros (part state (treesAt + 1 + treeSize * getD state treesAt 0) (treeSize * (treeCount - getD state treesAt 0)))
+    && leb (getD state treeCountPlace 0) treeCount
+    && allFrom (treeAtTidy state) 0 (getD state treeCountPlace 0)
+    && isZeros (part state (treesPlace + treeSize * getD state treeCountPlace 0) (treeSize * (treeCount - getD state treeCountPlace 0)))
 
 -- ---- the machine
 
 -- a block is CMX or the thread's own
 abbrev pub openTo : Row → ℕ → Bool
-openTo r t = eqb (r .kind) 1 || eqb (r .thread) t
+openTo r t = eqb (r .kind) cmxCode || eqb (r .thread) t
 
 -- no lock in two sets
 unfoldable pub apart : List ThreadState → Bool
@@ -88,7 +91,7 @@ module _ (image table : List ℕ) where
   unfoldable pub pendingOk : Signal → Bool
   pendingOk g =
       let e = entry (recordAt image (g .label)) in
-      eqb e 2 || eqb e 3
+      eqb e bufferedCode || eqb e externalCode
 
   -- a thread number within limits, and pending signals as above
   unfoldable pub treeOk : Tree → Bool

@@ -1,5 +1,6 @@
 // The vocabulary of the Core PLEX plug-in machine: what document 01 speaks of, as types. The law over it stands in specs/.
 pub mod answer;
+pub mod codes;
 pub mod layout;
 pub mod limits;
 pub mod sorts;

@@ -1,24 +1,15 @@
 // The limits of document 01, each at the thing that it limits.
 use crate::sorts::Block;
 use crate::sorts::Label;
+use crate::sorts::Lock;
 use crate::sorts::Thread;
 
 pub struct Image {}
 
 impl Image {
-    pub const LABELS: usize = 512;
-
-    pub const RECORD: usize = 84;
+    pub const RECORDS: usize = 512;
 
     pub const OPERANDS: usize = 25;
-}
-
-pub struct Table {}
-
-impl Table {
-    pub const ROW: usize = 2;
-
-    pub const BYTES: usize = 32;
 }
 
 // The label of an idle thread.
@@ -38,6 +29,10 @@ impl Block {
     pub const COUNT: usize = 16;
 
     pub const WORDS: usize = 16;
+}
+
+impl Lock {
+    pub const COUNT: usize = 16;
 }
 
 pub struct Tree {}

@@ -8,21 +8,27 @@ pub enum Operand {
     Word(u16),
 }
 
-pub enum Operator {
+// What an opcode of ASSIGN's kind works out from its sources.
+pub enum Operation {
+    Copy,
     Add,
     Subtract,
     Multiply,
 }
 
-// What ASSIGN stores: a copy of p, or p and q joined by an operator.
-pub enum Value {
-    Copy(Operand),
-    Join(Operator, Operand, Operand),
+// The operands of such an opcode besides a destination and a left source: a second destination, and a right source.
+pub struct Shape {
+    pub second: bool,
+    pub right: bool,
 }
 
+// An operand that the operation does not have is the number 0: it reads as 0, and nothing is stored to it.
 pub struct Assignment {
-    pub value: Value,
-    pub destination: Operand,
+    pub operation: Operation,
+    pub first: Operand,
+    pub second: Operand,
+    pub left: Operand,
+    pub right: Operand,
 }
 
 pub enum Relation {

@@ -21,8 +21,8 @@ use Rattle.encoding.specs.Events.{EventRead, arrival, stepping, cutting, event-
 use Rattle.invariants.specs.Trees.{pending-below}
 use Rattle.invariants.specs.StaysWellFormed.{Accepted}
 use Rattle.trees.specs.Changes.{arrived}
-use Rattle.turns.specs.Events.{arrives, turned-away}
-use Rattle.ready.specs.Ready.{Ready, Done, replyTo, done}
+use Rattle.step_laws.specs.Events.{arrives, turned-away}
+use Rattle.step_ready.specs.Ready.{Ready, Done, replyTo, done}
 use Rattle.ending.specs.Home.{block-inside}
 
 -- there is an event at index i, and it breaks no rule

@@ -29,9 +29,9 @@ use Rattle.trees.specs.Canon.{pendingAt}
 use Rattle.trees.specs.Changes.{sent}
 use Rattle.operands.specs.Cells.{cellsFrom}
 use Rattle.operands.specs.Readings.{Reads}
-use Rattle.turns.specs.Statements.{unread, buffer-full, buffers}
-use Rattle.ready.specs.Ready.{Done, replyTo, done}
-use Rattle.ready.specs.At.{At, tree}
+use Rattle.step_laws.specs.Statements.{unread, buffer-full, buffers}
+use Rattle.step_ready.specs.Ready.{Done, replyTo, done}
+use Rattle.step_ready.specs.At.{At, tree}
 use Rattle.ending.specs.Home.{first-inside}
 use Rattle.moves.specs.Facts.{statement-here, data-here}
 

@@ -3,7 +3,7 @@ use fields::read::get16;
 use image::records::block_at;
 use image::table::thread_at;
 use rules::answer::Answer;
-use rules::layout::EVENT;
+use rules::layout::EVENT_SIZE;
 use rules::limits::Tree;
 use rules::sorts::label_of;
 use trees::list::append;
@@ -12,7 +12,7 @@ ghost use mathlib.Core.Path.{_≡_};
 ghost use Prim.Native.Nat.{_*_};
 ghost use lib.ListN.{getD, drop};
 ghost use Rattle.rules.specs.Events.{eventFrom};
-ghost use Rattle.ready.specs.Ready.{Ready, Done, replyTo};
+ghost use Rattle.step_ready.specs.Ready.{Ready, Done, replyTo};
 ghost use Rattle.sending.specs.Arrivals.{EventAt};
 
 // An event's signal stands after its kind and thread.
@@ -26,7 +26,7 @@ pub fn arrive(image: &[u8], table: &[u8], state: &mut [u8], events: &[u8], i: us
     if Tree::COUNT <= tree_count(state) {
         return Answer::ListFull;
     }
-    let at = EVENT * i + SIGNAL_AT;
+    let at = EVENT_SIZE * i + SIGNAL_AT;
     let t = thread_at(table, block_at(image, label_of(get16(events, at))));
     append(state, t, events, at);
     Answer::Taken

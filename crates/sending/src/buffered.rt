@@ -22,8 +22,8 @@ ghost use Rattle.rules.specs.Statements.{statementOf};
 ghost use Rattle.rules.specs.declared.statement.Statement.the-variants.{SendBuffered};
 ghost use Rattle.encoding.specs.FirstTree.{firstTree};
 ghost use Rattle.trees.specs.Canon.{pendingAt};
-ghost use Rattle.ready.specs.Ready.{Done, replyTo};
-ghost use Rattle.ready.specs.At.{At};
+ghost use Rattle.step_ready.specs.Ready.{Done, replyTo};
+ghost use Rattle.step_ready.specs.At.{At};
 ghost use Rattle.sending.specs.Buffered.{Given};
 
 // The reason of the trap: 8 signals are pending in the job's own tree.

@@ -1,8 +1,8 @@
 // The locks that threads hold: of each thread record only the lock set is read.
 use fields::read::get16;
 use fields::read::wide;
-use rules::layout::THREAD;
-use rules::layout::THREADS;
+use rules::layout::THREAD_SIZE;
+use rules::layout::THREADS_PLACE;
 use rules::sorts::Lock;
 use rules::sorts::Thread;
 use rules::sorts::lock_number;
@@ -25,7 +25,7 @@ fn passed(state: &[u8], lock: Lock, out: usize, i: usize) -> bool
     if i == out {
         return true;
     }
-    let locks = get16(state, THREADS + THREAD * i + 2);
+    let locks = get16(state, THREADS_PLACE + THREAD_SIZE * i + 2);
     (locks >> lock_number(lock)) % 2 != 1
 }
 

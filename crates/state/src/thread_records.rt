@@ -8,11 +8,11 @@ use fields::write::clear;
 use fields::write::put8;
 use fields::write::put16;
 use fields::write::put32;
-use rules::layout::PRESENT;
-use rules::layout::REGISTERS;
-use rules::layout::RETURNS;
-use rules::layout::THREAD;
-use rules::layout::THREADS;
+use rules::layout::PRESENCE_PLACE;
+use rules::layout::REGISTERS_PLACE;
+use rules::layout::RETURNS_PLACE;
+use rules::layout::THREAD_SIZE;
+use rules::layout::THREADS_PLACE;
 use rules::sorts::Thread;
 use rules::sorts::label_number;
 use rules::sorts::label_of;
@@ -35,7 +35,7 @@ fn record_at(t: Thread) -> usize
     requires { ⌜ t .0 < 8 ⌝ }
     ensures { λ r. ⌜ r ≡ 512 + 75 * t .0 ⌝ }
 {
-    THREADS + THREAD * wide(thread_number(t))
+    THREADS_PLACE + THREAD_SIZE * wide(thread_number(t))
 }
 
 pub fn read_thread(state: &[u8], t: Thread) -> ThreadState
@@ -44,7 +44,7 @@ pub fn read_thread(state: &[u8], t: Thread) -> ThreadState
 {
     let at = record_at(t);
     ThreadState {
-        present: get32(state, at + PRESENT),
+        present: get32(state, at + PRESENCE_PLACE),
         label: label_of(get16(state, at)),
         locks: get16(state, at + 2),
         depth: get8(state, at + 4),
@@ -56,14 +56,17 @@ pub fn read_return(state: &[u8], t: Thread, i: usize) -> u16
     requires { ⌜ (length (now state) ≡ 7929) × (t .0 < 8) × (i < 8) ⌝ }
     ensures { λ r. ⌜ r ≡ getD (returnsIn (now (state .entry)) (t .0)) i 0 ⌝ }
 {
-    get16(state, record_at(t) + RETURNS + 2 * i)
+    get16(state, record_at(t) + RETURNS_PLACE + 2 * i)
 }
 
 pub fn read_register(state: &[u8], t: Thread, register: u16) -> u16
     requires { ⌜ (length (now state) ≡ 7929) × (t .0 < 8) × (register < 25) ⌝ }
     ensures { λ r. ⌜ r ≡ getD (registersIn (now (state .entry)) (t .0)) register 0 ⌝ }
 {
-    get16(state, record_at(t) + REGISTERS + 2 * (register as usize))
+    get16(
+        state,
+        record_at(t) + REGISTERS_PLACE + 2 * (register as usize),
+    )
 }
 
 // The label, the locks and the depth of a record at a place.
@@ -104,7 +107,7 @@ pub fn write_thread(state: &mut [u8], t: Thread, thread: ThreadState)
 {
     let at = record_at(t);
     write_head(state, at, thread);
-    put32(state, at + PRESENT, thread.present);
+    put32(state, at + PRESENCE_PLACE, thread.present);
 }
 
 // With n values in registers 0 upward and no others.
@@ -114,8 +117,8 @@ pub fn write_entered(state: &mut [u8], t: Thread, thread: ThreadState, values: &
 {
     let at = record_at(t);
     write_head(state, at, thread);
-    put32(state, at + PRESENT, thread.present);
-    fill_registers(state, at + REGISTERS, values, n);
+    put32(state, at + PRESENCE_PLACE, thread.present);
+    fill_registers(state, at + REGISTERS_PLACE, values, n);
 }
 
 // The same, and a return label at a place.
@@ -133,9 +136,9 @@ pub fn write_called(
 {
     let at = record_at(t);
     write_head(state, at, thread);
-    put16(state, at + RETURNS + 2 * place, label);
-    put32(state, at + PRESENT, thread.present);
-    fill_registers(state, at + REGISTERS, values, n);
+    put16(state, at + RETURNS_PLACE + 2 * place, label);
+    put32(state, at + PRESENCE_PLACE, thread.present);
+    fill_registers(state, at + REGISTERS_PLACE, values, n);
 }
 
 // With n values in registers 0 upward, the others as they are.
@@ -145,8 +148,8 @@ pub fn write_transferred(state: &mut [u8], t: Thread, thread: ThreadState, value
 {
     let at = record_at(t);
     write_head(state, at, thread);
-    put32(state, at + PRESENT, thread.present);
-    put_values(state, at + REGISTERS, values, n);
+    put32(state, at + PRESENCE_PLACE, thread.present);
+    put_values(state, at + REGISTERS_PLACE, values, n);
 }
 
 // With one register changed.
@@ -156,8 +159,8 @@ pub fn write_assigned(state: &mut [u8], t: Thread, thread: ThreadState, register
 {
     let at = record_at(t);
     write_head(state, at, thread);
-    put32(state, at + PRESENT, thread.present);
-    put16(state, at + REGISTERS + 2 * register, value);
+    put32(state, at + PRESENCE_PLACE, thread.present);
+    put16(state, at + REGISTERS_PLACE + 2 * register, value);
 }
 
 // With no return labels and no registers.
@@ -167,7 +170,7 @@ pub fn write_ended(state: &mut [u8], t: Thread, thread: ThreadState)
 {
     let at = record_at(t);
     write_head(state, at, thread);
-    clear(state, at + RETURNS, 16);
-    put32(state, at + PRESENT, thread.present);
-    clear(state, at + REGISTERS, 50);
+    clear(state, at + RETURNS_PLACE, 16);
+    put32(state, at + PRESENCE_PLACE, thread.present);
+    clear(state, at + REGISTERS_PLACE, 50);
 }

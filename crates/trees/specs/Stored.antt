@@ -5,7 +5,7 @@ use Prim.Native.Nat.{ℕ, _+_, _*_, _-_, _≤_, _<_}
 use native.Mathlib.Omega.{arith}
 use lib.ListN.{length, getD, drop, replicate, length-append}
 use lib.Seq.{take-all, getD-at, set-at}
-use Rattle.rules.specs.Sizes.{treeCount, pendingCount, signalSize, treeSize, treesAt}
+use Rattle.rules.specs.Sizes.{treeCount, pendingCount, signalSize, treeSize, treeCountPlace, treesPlace}
 use Rattle.rules.specs.Bytes.{num16, part, firstBad}
 use Rattle.rules.specs.Machine.{Signal, Tree, Machine}
 use Rattle.rules.specs.Encoding.{noSignal, noTree, signalBytes, signalFrom, treeBytes, machineFrom}
@@ -24,10 +24,10 @@ use Rattle.trees.specs.Changes.{taken, sent, arrived, sized-append, size
 
 -- ---- what is read
 
-pub found : {b : List ℕ} (k : Canon b) (t thread n : ℕ) {i : ℕ} → thread ≡ t → n ≡ getD b treesAt 0 → i ≡ firstBad (elsewhere b thread) 0 n → i ≡ firstTree t (machineFrom b .trees)
+pub found : {b : List ℕ} (k : Canon b) (t thread n : ℕ) {i : ℕ} → thread ≡ t → n ≡ getD b treeCountPlace 0 → i ≡ firstBad (elsewhere b thread) 0 n → i ≡ firstTree t (machineFrom b .trees)
 found k t thread n et en e = e ∙ rw (et, en ∙ k .count) (first-found _ t (k .same) (k .sized .trees))
 
-module _ {b : List ℕ} (k : Canon b) (i : ℕ) (h : i < length (machineFrom b .trees)) (at : ℕ) (ea : at ≡ treesAt + 1 + treeSize * i) where
+module _ {b : List ℕ} (k : Canon b) (i : ℕ) (h : i < length (machineFrom b .trees)) (at : ℕ) (ea : at ≡ treesPlace + treeSize * i) where
   pub pending-few : length (pendingAt (machineFrom b) i) ≤ pendingCount
   pending-few = sized-at (machineFrom b) (k .sized) i h .count
 
@@ -51,7 +51,7 @@ module _ {b : List ℕ} (k : Canon b) (i : ℕ) (h : i < length (machineFrom b .
 -- ---- tree i
 
 module _ {b : List ℕ} (k : Canon b) (i : ℕ) (h : i < length (machineFrom b .trees)) where
-  pub oldest-taken : {b₁ b₂ : List ℕ} (n at : ℕ) → n ≡ length (pendingAt (machineFrom b) i) → 0 < length (pendingAt (machineFrom b) i) → at ≡ treesAt + 1 + treeSize * i
+  pub oldest-taken : {b₁ b₂ : List ℕ} (n at : ℕ) → n ≡ length (pendingAt (machineFrom b) i) → 0 < length (pendingAt (machineFrom b) i) → at ≡ treesPlace + treeSize * i
       → b₁ ≡ put b (at + 2) (part b (at + 2 + signalSize) (signalSize * (n - 1)) ++ replicate signalSize 0) → b₂ ≡ put b₁ (at + 1) ((n - 1) ∷ [])
       → Canon b₂ × ((u : ℕ) → i ≡ firstTree u (machineFrom b .trees) → machineFrom b₂ ≡ taken u i (machineFrom b))
   oldest-taken n at en some ea e₁ e₂ =
@@ -61,7 +61,7 @@ module _ {b : List ℕ} (k : Canon b) (i : ℕ) (h : i < length (machineFrom b .
       (canon _ z q, λ u e. says _ z q ∙ set-first s i u e h (drop 1 (pendingAt s i)))
 
   pub signal-pushed : {b₁ b₂ : List ℕ} (n at : ℕ) (g : Signal) → SizedSignal g → n ≡ length (pendingAt (machineFrom b) i) → length (pendingAt (machineFrom b) i) < pendingCount
-      → at ≡ treesAt + 1 + treeSize * i → b₁ ≡ put b (at + 2 + signalSize * n) (signalBytes g) → b₂ ≡ put b₁ (at + 1) ((n + 1) ∷ [])
+      → at ≡ treesPlace + treeSize * i → b₁ ≡ put b (at + 2 + signalSize * n) (signalBytes g) → b₂ ≡ put b₁ (at + 1) ((n + 1) ∷ [])
       → Canon b₂ × ((u : ℕ) → i ≡ firstTree u (machineFrom b .trees) → machineFrom b₂ ≡ sent u i g (machineFrom b))
   signal-pushed n at g zg en few ea e₁ e₂ =
       let s = machineFrom b in
@@ -69,8 +69,8 @@ module _ {b : List ℕ} (k : Canon b) (i : ℕ) (h : i < length (machineFrom b .
       let z = sized-set s (k .sized) i h (pushed (treeAt s i) g) (sized-pushed (treeAt s i) g (sized-at s (k .sized) i h) zg few) in
       (canon _ z q, λ u e. says _ z q ∙ set-first s i u e h (pendingAt s i ++ g ∷ []))
 
-  pub tree-removed : {b₁ b₂ : List ℕ} (n at : ℕ) → n ≡ length (machineFrom b .trees) → at ≡ treesAt + 1 + treeSize * i
-      → b₁ ≡ put b at (part b (at + treeSize) (treeSize * (n - 1 - i)) ++ replicate treeSize 0) → b₂ ≡ put b₁ treesAt ((n - 1) ∷ [])
+  pub tree-removed : {b₁ b₂ : List ℕ} (n at : ℕ) → n ≡ length (machineFrom b .trees) → at ≡ treesPlace + treeSize * i
+      → b₁ ≡ put b at (part b (at + treeSize) (treeSize * (n - 1 - i)) ++ replicate treeSize 0) → b₂ ≡ put b₁ treeCountPlace ((n - 1) ∷ [])
       → Canon b₂ × (machineFrom b₂ ≡ withTrees (machineFrom b) (removeAt i (machineFrom b .trees)))
   tree-removed n at en ea e₁ e₂ =
       let s = machineFrom b in
@@ -82,7 +82,7 @@ module _ {b : List ℕ} (k : Canon b) (i : ℕ) (h : i < length (machineFrom b .
 
 module _ {b : List ℕ} (k : Canon b) where
   pub signal-arrived : {b₁ b₂ : List ℕ} (t n at : ℕ) (g : Signal) → SizedSignal g → length (machineFrom b .trees) < treeCount → n ≡ length (machineFrom b .trees)
-      → at ≡ treesAt + 1 + treeSize * n → b₁ ≡ put b at (t ∷ 1 ∷ signalBytes g) → b₂ ≡ put b₁ treesAt ((n + 1) ∷ [])
+      → at ≡ treesPlace + treeSize * n → b₁ ≡ put b at (t ∷ 1 ∷ signalBytes g) → b₂ ≡ put b₁ treeCountPlace ((n + 1) ∷ [])
       → Canon b₂ × (machineFrom b₂ ≡ arrived t g (machineFrom b))
   signal-arrived t n at g zg room en ea e₁ e₂ =
       let s = machineFrom b in
@@ -91,7 +91,7 @@ module _ {b : List ℕ} (k : Canon b) where
       (canon _ z q, says _ z q)
 
   pub tree-appended : {b₁ b₂ : List ℕ} (n at : ℕ) (x : Tree) → SizedTree x → length (machineFrom b .trees) < treeCount → n ≡ length (machineFrom b .trees)
-      → at ≡ treesAt + 1 + treeSize * n → b₁ ≡ put b at (treeBytes x) → b₂ ≡ put b₁ treesAt ((n + 1) ∷ [])
+      → at ≡ treesPlace + treeSize * n → b₁ ≡ put b at (treeBytes x) → b₂ ≡ put b₁ treeCountPlace ((n + 1) ∷ [])
       → Canon b₂ × (machineFrom b₂ ≡ withTrees (machineFrom b) (machineFrom b .trees ++ x ∷ []))
   tree-appended n at x zx room en ea e₁ e₂ =
       let s = machineFrom b in
@@ -101,8 +101,8 @@ module _ {b : List ℕ} (k : Canon b) where
 
 -- tree i, whose bytes stand in another buffer, has left the list and comes to its end
 pub tree-moved : {b b₁ b₂ b₃ : List ℕ} (k : Canon b) (i n : ℕ) (tree : List ℕ) → i < length (machineFrom b .trees) → n ≡ length (machineFrom b .trees)
-    → tree ≡ put (replicate treeSize 0) 0 (part b (treesAt + 1 + treeSize * i) treeSize) → Canon b₁ → machineFrom b₁ ≡ withTrees (machineFrom b) (removeAt i (machineFrom b .trees))
-    → b₂ ≡ put b₁ (treesAt + 1 + treeSize * (n - 1)) (part tree 0 treeSize) → b₃ ≡ put b₂ treesAt (n ∷ [])
+    → tree ≡ put (replicate treeSize 0) 0 (part b (treesPlace + treeSize * i) treeSize) → Canon b₁ → machineFrom b₁ ≡ withTrees (machineFrom b) (removeAt i (machineFrom b .trees))
+    → b₂ ≡ put b₁ (treesPlace + treeSize * (n - 1)) (part tree 0 treeSize) → b₃ ≡ put b₂ treeCountPlace (n ∷ [])
     → Canon b₃ × (machineFrom b₃ ≡ withTrees (machineFrom b) (removeAt i (machineFrom b .trees) ++ treeAt (machineFrom b) i ∷ []))
 unfolding part
 tree-moved {b} {b₁} {b₂} {b₃} k i n tree h en et k₁ m e₂ e₃ =
@@ -118,7 +118,7 @@ tree-moved {b} {b₁} {b₂} {b₃} k i n tree h en et k₁ m e₂ e₃ =
 
 -- the last tree gets another thread
 pub last-moved : {b b′ : List ℕ} (k : Canon b) (s : Machine) (a : List Tree) (x : Tree) (t n : ℕ) → machineFrom b ≡ withTrees s (a ++ x ∷ []) → n ≡ length (machineFrom b .trees)
-    → b′ ≡ put b (treesAt + 1 + treeSize * (n - 1)) (t ∷ []) → Canon b′ × (machineFrom b′ ≡ withTrees s (a ++ moved x t ∷ []))
+    → b′ ≡ put b (treesPlace + treeSize * (n - 1)) (t ∷ []) → Canon b′ × (machineFrom b′ ≡ withTrees s (a ++ moved x t ∷ []))
 last-moved {b} {b′} k s a x t n m en e =
     let l : length (machineFrom b .trees) ≡ length a + 1 = rw m (length-append a (x ∷ [])) in
     let p : n - 1 ≡ length a = omega arith in

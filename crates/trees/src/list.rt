@@ -6,11 +6,11 @@ use fields::read::get8;
 use fields::write::copy;
 use fields::write::put8;
 use fields::write::remove;
-use rules::layout::OLDEST;
-use rules::layout::PENDING;
-use rules::layout::TREE;
-use rules::layout::TREE_COUNT;
-use rules::layout::TREES;
+use rules::layout::PENDING_COUNT_PLACE;
+use rules::layout::SIGNALS_PLACE;
+use rules::layout::TREE_COUNT_PLACE;
+use rules::layout::TREE_SIZE;
+use rules::layout::TREES_PLACE;
 use rules::sorts::Thread;
 use rules::sorts::thread_number;
 ghost use mathlib.Core.Path.{_≡_};
@@ -31,7 +31,7 @@ pub fn tree_count(state: &[u8]) -> usize
     requires { ⌜ Canon (now state) ⌝ }
     ensures { λ r. ⌜ r ≡ length (machineFrom (now (state .entry)) .trees) ⌝ }
 {
-    get8(state, TREE_COUNT)
+    get8(state, TREE_COUNT_PLACE)
 }
 
 // The place of the first tree on a thread, or the number of trees where there is none.
@@ -40,10 +40,10 @@ pub fn first_tree(state: &[u8], t: Thread) -> usize
     ensures { λ r. ⌜ r ≡ firstTree (t .0) (machineFrom (now (state .entry)) .trees) ⌝ }
 {
     let thread = thread_number(t);
-    let n = get8(state, TREE_COUNT);
+    let n = get8(state, TREE_COUNT_PLACE);
     let mut i = 0;
     while i < n {
-        if state[TREES + TREE * i] == thread {
+        if state[TREES_PLACE + TREE_SIZE * i] == thread {
             return i;
         }
         i += 1;
@@ -57,13 +57,13 @@ pub fn append(state: &mut [u8], t: Thread, bytes: &[u8], at: usize)
     ensures { λ _. ⌜ Canon (now (state .exit)) ⌝ }
     ensures { λ _. ⌜ machineFrom (now (state .exit)) ≡ arrived (t .0) (signalFrom (drop at (now (bytes .entry)))) (machineFrom (now (state .entry))) ⌝ }
 {
-    let n = get8(state, TREE_COUNT);
-    let to = TREES + TREE * n;
+    let n = get8(state, TREE_COUNT_PLACE);
+    let to = TREES_PLACE + TREE_SIZE * n;
     let g = read_signal(bytes, at);
     put8(state, to, thread_number(t));
-    put8(state, to + PENDING, 1);
-    write_signal(state, to + OLDEST, g);
-    put8(state, TREE_COUNT, (n + 1) as u8);
+    put8(state, to + PENDING_COUNT_PLACE, 1);
+    write_signal(state, to + SIGNALS_PLACE, g);
+    put8(state, TREE_COUNT_PLACE, (n + 1) as u8);
 }
 
 // Tree i leaves the list: the later ones move down, and zeros fill the last one's place.
@@ -72,9 +72,14 @@ fn remove_tree(state: &mut [u8], i: usize)
     ensures { λ _. ⌜ Canon (now (state .exit)) ⌝ }
     ensures { λ _. ⌜ machineFrom (now (state .exit)) ≡ withTrees (machineFrom (now (state .entry))) (removeAt i (machineFrom (now (state .entry)) .trees)) ⌝ }
 {
-    let n = get8(state, TREE_COUNT);
-    remove(state, TREES + TREE * i, TREE, TREE * (n - 1 - i));
-    put8(state, TREE_COUNT, (n - 1) as u8);
+    let n = get8(state, TREE_COUNT_PLACE);
+    remove(
+        state,
+        TREES_PLACE + TREE_SIZE * i,
+        TREE_SIZE,
+        TREE_SIZE * (n - 1 - i),
+    );
+    put8(state, TREE_COUNT_PLACE, (n - 1) as u8);
 }
 
 // Tree i goes to the list's end.
@@ -83,13 +88,19 @@ fn move_to_end(state: &mut [u8], i: usize)
     ensures { λ _. ⌜ Canon (now (state .exit)) ⌝ }
     ensures { λ _. ⌜ machineFrom (now (state .exit)) ≡ withTrees (machineFrom (now (state .entry))) (removeAt i (machineFrom (now (state .entry)) .trees) ++ treeAt (machineFrom (now (state .entry))) i ∷ []) ⌝ }
 {
-    let n = get8(state, TREE_COUNT);
+    let n = get8(state, TREE_COUNT_PLACE);
     if i + 1 < n {
-        let mut tree = [0u8; TREE];
-        copy(&mut tree, 0, state, TREES + TREE * i, TREE);
+        let mut tree = [0u8; TREE_SIZE];
+        copy(&mut tree, 0, state, TREES_PLACE + TREE_SIZE * i, TREE_SIZE);
         remove_tree(state, i);
-        copy(state, TREES + TREE * (n - 1), &tree, 0, TREE);
-        put8(state, TREE_COUNT, n as u8);
+        copy(
+            state,
+            TREES_PLACE + TREE_SIZE * (n - 1),
+            &tree,
+            0,
+            TREE_SIZE,
+        );
+        put8(state, TREE_COUNT_PLACE, n as u8);
     }
 }
 
@@ -100,8 +111,8 @@ fn requeue(state: &mut [u8], i: usize, t: Thread)
     ensures { λ _. ⌜ machineFrom (now (state .exit)) ≡ withTrees (machineFrom (now (state .entry))) (removeAt i (machineFrom (now (state .entry)) .trees) ++ moved (treeAt (machineFrom (now (state .entry))) i) (t .0) ∷ []) ⌝ }
 {
     move_to_end(state, i);
-    let n = get8(state, TREE_COUNT);
-    put8(state, TREES + TREE * (n - 1), thread_number(t));
+    let n = get8(state, TREE_COUNT_PLACE);
+    put8(state, TREES_PLACE + TREE_SIZE * (n - 1), thread_number(t));
 }
 
 // The tree of an ended job: one with nothing pending leaves the list, any other goes to the list's end, on thread t.

@@ -6,11 +6,11 @@ use fields::read::get8;
 use fields::read::get16;
 use fields::write::put8;
 use fields::write::remove;
-use rules::layout::OLDEST;
-use rules::layout::PENDING;
-use rules::layout::SIGNAL;
-use rules::layout::TREE;
-use rules::layout::TREES;
+use rules::layout::PENDING_COUNT_PLACE;
+use rules::layout::SIGNAL_SIZE;
+use rules::layout::SIGNALS_PLACE;
+use rules::layout::TREE_SIZE;
+use rules::layout::TREES_PLACE;
 use rules::sorts::Label;
 use rules::sorts::label_of;
 ghost use mathlib.Core.Path.{_≡_};
@@ -28,21 +28,21 @@ pub fn pending(state: &[u8], i: usize) -> usize
     requires { ⌜ Canon (now state) × (i < length (machineFrom (now state) .trees)) ⌝ }
     ensures { λ r. ⌜ r ≡ length (pendingAt (machineFrom (now (state .entry))) i) ⌝ }
 {
-    get8(state, TREES + TREE * i + PENDING)
+    get8(state, TREES_PLACE + TREE_SIZE * i + PENDING_COUNT_PLACE)
 }
 
 pub fn oldest_label(state: &[u8], i: usize) -> Label
     requires { ⌜ Canon (now state) × (i < length (machineFrom (now state) .trees)) × (0 < length (pendingAt (machineFrom (now state)) i)) ⌝ }
     ensures { λ r. ⌜ r ≡ label (getD (pendingAt (machineFrom (now (state .entry))) i) 0 noSignal .label) ⌝ }
 {
-    label_of(get16(state, TREES + TREE * i + OLDEST))
+    label_of(get16(state, TREES_PLACE + TREE_SIZE * i + SIGNALS_PLACE))
 }
 
 pub fn oldest(state: &[u8], i: usize) -> Signal
     requires { ⌜ Canon (now state) × (i < length (machineFrom (now state) .trees)) × (0 < length (pendingAt (machineFrom (now state)) i)) ⌝ }
     ensures { λ r. ⌜ (signalOf r ≡ getD (pendingAt (machineFrom (now (state .entry))) i) 0 noSignal) × TidySignal r ⌝ }
 {
-    read_signal(state, TREES + TREE * i + OLDEST)
+    read_signal(state, TREES_PLACE + TREE_SIZE * i + SIGNALS_PLACE)
 }
 
 // The oldest leaves the tree: the others move down, and zeros fill the last one's place.
@@ -51,10 +51,15 @@ pub fn take_oldest(state: &mut [u8], i: usize)
     ensures { λ _. ⌜ Canon (now (state .exit)) ⌝ }
     ensures { λ _. ⌜ ((u : ℕ) → i ≡ firstTree u (machineFrom (now (state .entry)) .trees) → machineFrom (now (state .exit)) ≡ taken u i (machineFrom (now (state .entry)))) ⌝ }
 {
-    let at = TREES + TREE * i;
-    let k = get8(state, at + PENDING);
-    remove(state, at + OLDEST, SIGNAL, SIGNAL * (k - 1));
-    put8(state, at + PENDING, (k - 1) as u8);
+    let at = TREES_PLACE + TREE_SIZE * i;
+    let k = get8(state, at + PENDING_COUNT_PLACE);
+    remove(
+        state,
+        at + SIGNALS_PLACE,
+        SIGNAL_SIZE,
+        SIGNAL_SIZE * (k - 1),
+    );
+    put8(state, at + PENDING_COUNT_PLACE, (k - 1) as u8);
 }
 
 // A signal comes to the tree's end.
@@ -63,8 +68,8 @@ pub fn push(state: &mut [u8], i: usize, g: Signal)
     ensures { λ _. ⌜ Canon (now (state .exit)) ⌝ }
     ensures { λ _. ⌜ ((u : ℕ) → i ≡ firstTree u (machineFrom (now (state .entry)) .trees) → machineFrom (now (state .exit)) ≡ sent u i (signalOf g) (machineFrom (now (state .entry)))) ⌝ }
 {
-    let at = TREES + TREE * i;
-    let k = get8(state, at + PENDING);
-    write_signal(state, at + OLDEST + SIGNAL * k, g);
-    put8(state, at + PENDING, (k + 1) as u8);
+    let at = TREES_PLACE + TREE_SIZE * i;
+    let k = get8(state, at + PENDING_COUNT_PLACE);
+    write_signal(state, at + SIGNALS_PLACE + SIGNAL_SIZE * k, g);
+    put8(state, at + PENDING_COUNT_PLACE, (k + 1) as u8);
 }

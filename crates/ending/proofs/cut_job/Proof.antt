@@ -6,9 +6,9 @@ use Rattle.rules.specs.Steps.{rulesBy, finished}
 use Rattle.rules.specs.declared.answer.Answer.the-variants.{WasCut, NothingToCut}
 use Rattle.threads.specs.Whole.{whole}
 use Rattle.threads.specs.Threads.{jobOf}
-use Rattle.turns.specs.Events.{cut-idle, cut-running}
-use Rattle.ready.specs.Ready.{done, says}
-use Rattle.ready.specs.At.{idle-says, runs-says}
+use Rattle.step_laws.specs.Events.{cut-idle, cut-running}
+use Rattle.step_ready.specs.Ready.{done, says}
+use Rattle.step_ready.specs.At.{idle-says, runs-says}
 use Rattle.ending.proofs.cut_job.Statement.{statement}
 use Rattle.ending.proofs.cut_job.Tie as tie
 

@@ -12,8 +12,8 @@ use Rattle.encoding.specs.Stores.{withThread}
 use Rattle.encoding.specs.FirstTree.{firstTree}
 use Rattle.threads.specs.Threads.{stateOf, emptied, idleThread, idle-thread}
 use Rattle.state.specs.Records.{thread-written}
-use Rattle.ready.specs.Ready.{Ready}
-use Rattle.ready.specs.At.{Busy}
+use Rattle.step_ready.specs.Ready.{Ready}
+use Rattle.step_ready.specs.At.{Busy}
 use Rattle.ending.specs.Home.{first-inside, finished-is}
 use Rattle.ending.proofs.finish.Statement.{statement}
 use Rattle.ending.proofs.finish.Tie as tie

@@ -9,9 +9,9 @@ use Rattle.rules.specs.declared.answer.Answer.the-variants.{Exited}
 use Rattle.rules.specs.declared.statement.Statement.the-variants.{Exit}
 use Rattle.threads.specs.Whole.{whole}
 use Rattle.threads.specs.Threads.{jobOf}
-use Rattle.turns.specs.Statements.{leaves}
-use Rattle.ready.specs.Ready.{done}
-use Rattle.ready.specs.At.{tree}
+use Rattle.step_laws.specs.Statements.{leaves}
+use Rattle.step_ready.specs.Ready.{done}
+use Rattle.step_ready.specs.At.{tree}
 use Rattle.ending.proofs.leave.Statement.{statement}
 use Rattle.ending.proofs.leave.Tie as tie
 

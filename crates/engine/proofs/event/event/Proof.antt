@@ -4,7 +4,7 @@ use native.Mathlib.Omega.{arith}
 use borrow.Author.Needs.{needs}
 use lib.ListN.{getD, drop}
 use Rattle.rules.specs.Events.{Event, step, cut, eventFrom}
-use Rattle.ready.specs.Ready.{Done, replyTo}
+use Rattle.step_ready.specs.Ready.{Done, replyTo}
 use Rattle.engine.specs.Kinds.{turn-thread, step-is, cut-is}
 use Rattle.engine.proofs.event.event.Statement.{statement}
 use Rattle.engine.proofs.event.event.Tie as tie

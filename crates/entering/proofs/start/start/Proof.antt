@@ -11,7 +11,7 @@ use Rattle.fields.specs.Blocks.{length-pad}
 use Rattle.threads.specs.Threads.{idleThread}
 use Rattle.image.specs.Records.{labels-small}
 use Rattle.state.specs.Records.{thread-written}
-use Rattle.ready.specs.Ready.{done}
+use Rattle.step_ready.specs.Ready.{done}
 use Rattle.ending.specs.Home.{oldest-below}
 use Rattle.entering.specs.Entering.{entered-runs}
 use Rattle.entering.specs.Starting.{FirstOf, FirstIs, rests-on, start-waiting, started, idle-returns}

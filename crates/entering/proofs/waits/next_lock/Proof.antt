@@ -6,8 +6,8 @@ use borrow.Author.Tests.{eqb-false}
 use Rattle.rules.specs.Image.{labels, recordAt}
 use Rattle.image.specs.Records.{labels-small}
 use Rattle.threads.specs.Whole.{whole}
-use Rattle.ready.specs.Ready.{says}
-use Rattle.ready.specs.At.{idle-says, label-inside, at}
+use Rattle.step_ready.specs.Ready.{says}
+use Rattle.step_ready.specs.At.{idle-says, label-inside, at}
 use Rattle.entering.proofs.waits.next_lock.Statement.{statement}
 use Rattle.entering.proofs.waits.next_lock.Tie as tie
 

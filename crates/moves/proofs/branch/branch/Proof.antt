@@ -20,11 +20,11 @@ use Rattle.encoding.specs.Stores.{withThread}
 use Rattle.encoding.specs.Slots.{registersIn}
 use Rattle.threads.specs.Whole.{whole}
 use Rattle.threads.specs.Threads.{job, jobOf, returnsOf, registersOf}
-use Rattle.turns.specs.Statements.{unread, branches}
+use Rattle.step_laws.specs.Statements.{unread, branches}
 use Rattle.operands.specs.Legal.{Fits}
 use Rattle.operands.specs.Statements.{tests, tests-left, tests-right}
-use Rattle.ready.specs.Ready.{done}
-use Rattle.ready.specs.At.{tree}
+use Rattle.step_ready.specs.Ready.{done}
+use Rattle.step_ready.specs.At.{tree}
 use Rattle.moves.specs.Facts.{statement-here, label-A, label-B, small, block-byte, cells-here}
 use Rattle.moves.proofs.branch.branch.Statement.{statement}
 use Rattle.moves.proofs.branch.branch.Tie as tie

@@ -19,9 +19,9 @@ use Rattle.encoding.specs.Slots.{returnsIn}
 use Rattle.threads.specs.Whole.{Whole, whole}
 use Rattle.threads.specs.Returns.{newestOf, olderOf, popped, popped-label, popped-tidy}
 use Rattle.threads.specs.Threads.{job, jobOf, returnsOf, withReturns, withRegisters, filling, returned, filled-runs}
-use Rattle.turns.specs.Statements.{unread, return-none}
-use Rattle.ready.specs.Ready.{done}
-use Rattle.ready.specs.At.{tree}
+use Rattle.step_laws.specs.Statements.{unread, return-none}
+use Rattle.step_ready.specs.Ready.{done}
+use Rattle.step_ready.specs.At.{tree}
 use Rattle.state.specs.Records.{thread-written}
 use Rattle.moves.specs.Facts.{statement-here, block-byte, data-here, depth-is, newest-small, back}
 use Rattle.moves.proofs.data.give_back.Statement.{statement}

@@ -20,9 +20,9 @@ use Rattle.encoding.specs.Stores.{withThread}
 use Rattle.encoding.specs.Slots.{registersIn}
 use Rattle.threads.specs.Whole.{Whole, whole}
 use Rattle.threads.specs.Threads.{job, jobOf, returnsOf, registersOf, withRegisters, transferred, overlaid-runs}
-use Rattle.turns.specs.Statements.{unread, transfers}
-use Rattle.ready.specs.Ready.{done}
-use Rattle.ready.specs.At.{tree}
+use Rattle.step_laws.specs.Statements.{unread, transfers}
+use Rattle.step_ready.specs.Ready.{done}
+use Rattle.step_ready.specs.At.{tree}
 use Rattle.state.specs.Records.{thread-written}
 use Rattle.moves.specs.Facts.{statement-here, label-A, small, block-byte, data-here}
 use Rattle.moves.proofs.data.transfer.Statement.{statement}

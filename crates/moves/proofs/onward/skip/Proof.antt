@@ -12,9 +12,9 @@ use Rattle.encoding.specs.Encoded.{Encodes}
 use Rattle.encoding.specs.Stores.{withThread}
 use Rattle.threads.specs.Whole.{whole}
 use Rattle.threads.specs.Threads.{job, jobOf, returnsOf, registersOf}
-use Rattle.turns.specs.Statements.{skips}
-use Rattle.ready.specs.Ready.{done}
-use Rattle.ready.specs.At.{tree}
+use Rattle.step_laws.specs.Statements.{skips}
+use Rattle.step_ready.specs.Ready.{done}
+use Rattle.step_ready.specs.At.{tree}
 use Rattle.moves.specs.Facts.{statement-here, label-A, small}
 use Rattle.moves.proofs.onward.skip.Statement.{statement}
 use Rattle.moves.proofs.onward.skip.Tie as tie

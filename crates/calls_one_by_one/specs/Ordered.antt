@@ -1,0 +1,56 @@
+-- From the second order of the bytes back to values: the events that it reads and the answers that it has are those of the second order of
+-- the values.
+use mathlib.Core.Path.{_≡_, refl, sym, ap, _∙_}
+use mathlib.Core.List.{List, [], _∷_, map, append-nil}
+use Prim.Native.Nat.{ℕ}
+use Rattle.rules.specs.Machine.{Machine}
+use Rattle.rules.specs.Events.{Event, arrive, step, cut, eventBytes, eventFrom}
+use Rattle.rules.specs.Answers.{answerBytes}
+use Rattle.rules.specs.Steps.{Rules, answers}
+use Rattle.rules.specs.Order.{Entry, rowOf, order, events, log, byteOrder}
+use Rattle.fields.specs.Each.{Each}
+use Rattle.one_by_one.specs.Calls.{log-answers}
+use Rattle.one_by_one.specs.ByteOrder.{bytesOf, order-over, byte-order}
+use Rattle.encoding.specs.Events.{SizedEvent, event-back}
+use Rattle.calls_one_by_one.specs.CallList.{eventsOf, answersOf}
+
+-- ---- events, written down and read again
+
+abbrev reread : Entry → Entry
+reread n = record { event = eventFrom (eventBytes (n .event)); answer = n .answer }
+
+row-reread : (e : Event) → rowOf (eventFrom (eventBytes e)) ≡ rowOf e
+unfolding eventFrom eventBytes
+row-reread (arrive g) = refl
+row-reread (step t) = refl
+row-reread (cut t) = refl
+
+order-reread : (l : List Entry) → map reread (order l) ≡ order (map reread l)
+unfolding order
+order-reread l = order-over reread _ _ _ _ (λ n. refl) (λ n. row-reread (n .event)) l
+
+reread-same : (l : List Entry) → Each SizedEvent (events l) → map reread l ≡ l
+reread-same [] z = refl
+reread-same (n ∷ l) z =
+    let e : eventFrom (eventBytes (n .event)) ≡ n .event = rw (append-nil (eventBytes (n .event))) at (event-back (n .event) (z .0) []) in
+    rw (e, reread-same l (z .1)) refl
+
+reread-events : (l : List Entry) → eventsOf (map bytesOf l) ≡ events (map reread l)
+reread-events [] = refl
+reread-events (n ∷ l) = ap (λ (z : List Event). eventFrom (eventBytes (n .event)) ∷ z) (reread-events l)
+
+pub events-ordered : (l : List Entry) → Each SizedEvent (events l) → eventsOf (byteOrder (map bytesOf l)) ≡ events (order l)
+events-ordered l z =
+    ap eventsOf (sym (byte-order l)) ∙ reread-events (order l) ∙ ap events (order-reread l ∙ ap order (reread-same l z))
+
+-- ---- answers
+
+answer-bytes : (l : List Entry) → map answerBytes (map (λ (n : Entry). n .answer) l) ≡ answersOf (map bytesOf l)
+answer-bytes [] = refl
+answer-bytes (n ∷ l) = ap (λ (z : List (List ℕ)). answerBytes (n .answer) ∷ z) (answer-bytes l)
+
+pub answers-ordered : (R : Rules) (s : Machine) (l : List Entry) → log R s (events (order l)) ≡ order l
+    → map answerBytes (answers R s (events (order l))) ≡ answersOf (byteOrder (map bytesOf l))
+answers-ordered R s l e =
+    let a : answers R s (events (order l)) ≡ map (λ (n : Entry). n .answer) (order l) = sym (log-answers R s (events (order l))) ∙ ap (map (λ (n : Entry). n .answer)) e in
+    ap (map answerBytes) a ∙ answer-bytes (order l) ∙ ap answersOf (byte-order l)

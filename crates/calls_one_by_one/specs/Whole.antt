@@ -1,0 +1,137 @@
+-- Demand 3, whole: the one-by-one reading of every list of calls, `calls-one-by-one`. And what a list of calls leaves is accepted again.
+use mathlib.Core.Path.{_≡_, refl, sym, ap, ap₂, _∙_, subst}
+use mathlib.Core.Bool.{Bool, true, false, cond}
+use mathlib.Core.List.{List, [], _∷_, map, flatten}
+use Prim.Native.Nat.{ℕ, _*_}
+use borrow.Author.Tests.{eqb-true}
+use Rattle.rules.specs.Sizes.{blockCount, wordCount}
+use Rattle.rules.specs.Bytes.{num16}
+use Rattle.rules.specs.Check.{Checked, firstOf}
+use Rattle.rules.specs.Machine.{Machine, fresh}
+use Rattle.rules.specs.Encoding.{encode, wordsFrom, machineFrom}
+use Rattle.rules.specs.Events.{Event, arrive, step, cut}
+use Rattle.rules.specs.Answers.{answerBytes}
+use Rattle.rules.specs.Steps.{Rules, rulesBy, answers, final}
+use Rattle.rules.specs.Order.{Entry, order, orderBy, notesBy, events, byteOrder}
+use Rattle.rules.specs.Calls.{freshReturn, freshState, runReturn, stateLengthFault, stateFault, eventsLengthFault, eventFault, answersLengthFault}
+use Rattle.fields.specs.Each.{Each}
+use Rattle.one_by_one.specs.Faults.{checked-of, checked-rest}
+use Rattle.one_by_one.specs.Reading.{AllValid}
+use Rattle.one_by_one.specs.Checked.{checked-laws}
+use Rattle.one_by_one.specs.Calls as values
+use Rattle.one_by_one.specs.Calls.{logs, log-events, logs-flatten}
+use Rattle.encoding.specs.Runs.{length-chunks}
+use Rattle.encoding.specs.Events.{SizedEvent}
+use Rattle.encoding.specs.Machines.{machine-back}
+use Rattle.invariants.specs.Members.{each-map}
+use Rattle.invariants.specs.StaysWellFormed.{Accepted, accepted-valid, sound-fresh}
+use Rattle.invariants.specs.StaysSized.{sized-fresh}
+use Rattle.invariants.specs.States.{Ready, fresh-leaves-ready, run-leaves-ready}
+use Rattle.calls_one_by_one.specs.CallList.{Run, returned, stateLeft, accepted, next, lastLeft, Follow, Calls, eventList, eventsOf, answersOf, OneByOneCalls, NoChange}
+use Rattle.calls_one_by_one.specs.Joined.{eventLists, Good, Joined, joined}
+use Rattle.calls_one_by_one.specs.Ordered.{events-ordered, answers-ordered}
+
+-- what the reading of values asks of events that the image accepts: their threads are 0 to 7, and their bytes have room for them
+all-valid : (image : List ℕ) (l : List Event) → Each (Accepted image) l → AllValid l
+all-valid image [] h = tt
+all-valid image (e ∷ l) h = (accepted-valid image e (h .0), all-valid image l (h .1))
+
+accepted-sized : (image : List ℕ) (e : Event) → Accepted image e → SizedEvent e
+accepted-sized image (arrive g) h = h .1
+accepted-sized image (step t) h = tt
+accepted-sized image (cut t) h = tt
+
+-- each accepted call leaves a state that is accepted again
+module _ (image table : List ℕ) where
+  ready-left : (s : List ℕ) (runs : List Run) → Ready image table s → Follow image table s runs → Ready image table (lastLeft s runs)
+  unfolding lastLeft Follow
+  ready-left s [] k f = k
+  ready-left s (r ∷ l) k f = ready-left (next s r) l (case (accepted r) refl) (f .1)
+    where
+      case : (a : Bool) → accepted r ≡ a → Ready image table (cond a (stateLeft r) s)
+      case true e =
+          let h : returned r ≡ 0 = eqb-true (returned r) 0 e in
+          rw (← f .0 h .sameImage, ← f .0 h .sameTable) (run-leaves-ready (r .image) (r .table) (r .state) (r .events) (r .space) h)
+      case false e = k
+
+module _ (image table words state : List ℕ) (runs : List Run) (calls : Calls image table words state runs) where
+  abbrev R : Rules
+  R = rulesBy image table
+
+  -- the machine that Fresh left, and its bytes
+  abbrev first : Machine
+  first = fresh (wordsFrom words)
+
+  abbrev start : List ℕ
+  start = freshState image table words state
+
+  checked : Checked image table
+  unfolding freshReturn
+  checked = checked-of image table _ (calls .fresh) .0
+
+  start-bytes : start ≡ encode first
+  unfolding freshState
+  start-bytes = rw (calls .fresh) refl
+
+  first-good : Good image table first
+  unfolding wordsFrom
+  first-good = record {
+    sound = sound-fresh image table checked (wordsFrom words);
+    sized = sized-fresh (wordsFrom words) (length-chunks num16 2 (blockCount * wordCount) words);
+  }
+
+  start-machine : machineFrom start ≡ first
+  start-machine = ap machineFrom start-bytes ∙ machine-back first (first-good .sized)
+
+  all : Joined image table checked first runs
+  all = joined image table checked first runs first-good (calls .bytes) (subst (λ (z : List ℕ). Follow image table z runs) start-bytes (calls .follow))
+
+  -- the events of all calls, and with their answers
+  abbrev joint : List Event
+  joint = flatten (eventLists runs)
+
+  abbrev noted : List Entry
+  noted = logs R first (eventLists runs)
+
+  noted-events : events noted ≡ joint
+  noted-events = ap events (logs-flatten R first (eventLists runs)) ∙ log-events R first joint
+
+  reading : values.OneByOneCalls R (wordsFrom words) (eventLists runs)
+  reading = values.calls-one-by-one R (checked-laws image table checked) (wordsFrom words) (eventLists runs) (all-valid image joint (all .each))
+
+  second : eventsOf (byteOrder (eventList runs)) ≡ events (order noted)
+  second =
+      ap (λ z. eventsOf (byteOrder z)) (all .entries)
+      ∙ events-ordered noted (subst (Each SizedEvent) (sym noted-events) (each-map (Accepted image) SizedEvent joint (accepted-sized image) (all .each)))
+
+  -- DEMAND 3: the one-by-one reading of a list of calls
+  pub calls-one-by-one : OneByOneCalls image table (freshState image table words state) runs
+  calls-one-by-one = record {
+    state = ap encode (ap₂ (final R) start-machine second ∙ reading .state) ∙ sym (all .state) ∙ ap (λ z. lastLeft z runs) (sym start-bytes);
+    answers =
+        ap (map answerBytes) (ap₂ (answers R) start-machine second)
+        ∙ answers-ordered R first noted (reading .answers)
+        ∙ ap (λ z. answersOf (byteOrder z)) (sym (all .entries));
+  }
+
+  -- without events both are Fresh's state
+  pub no-events : eventList runs ≡ [] → NoChange image table (freshState image table words state) runs
+  unfolding byteOrder orderBy notesBy flatten final
+  no-events e =
+      let s : encode (machineFrom start) ≡ start = ap encode start-machine ∙ sym start-bytes in
+      let o : encode (final R (machineFrom start) (eventsOf (byteOrder (eventList runs)))) ≡ start = rw e s in
+      record { called = sym (calls-one-by-one .state) ∙ o; ordered = o }
+
+  -- WHAT THE LAST ACCEPTED CALL LEFT IS ACCEPTED AGAIN: numbers 5 and 6 do not apply to it
+  pub accepted-again : Ready image table (lastLeft (freshState image table words state) runs)
+  accepted-again = ready-left image table start runs (fresh-leaves-ready image table words state (calls .fresh)) (calls .follow)
+
+  -- so a Run that goes on from it can be refused by its events and its answers alone
+  pub next-return : (events space : List ℕ)
+      → runReturn image table (lastLeft start runs) events space ≡ firstOf (eventsLengthFault events ∷ eventFault image events ∷ answersLengthFault events space ∷ [])
+  unfolding runReturn firstOf
+  next-return events space =
+      let own : List ℕ = eventsLengthFault events ∷ eventFault image events ∷ answersLengthFault events space ∷ [] in
+      let more : List ℕ = stateLengthFault (lastLeft start runs) ∷ stateFault image table (lastLeft start runs) ∷ own in
+      let rest : firstOf more ≡ firstOf own = rw (accepted-again .size, accepted-again .formed) refl in
+      checked-rest image table more checked ∙ rest

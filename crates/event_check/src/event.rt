@@ -1,0 +1,78 @@
+// The rules of an event.
+use fields::read::all_zero;
+use fields::read::get8;
+use fields::read::get16;
+use image::records::count_labels;
+use image::records::entry_at;
+use image::records::index_of;
+use rules::layout::EVENT_SIZE;
+use rules::layout::SIGNAL_SIZE;
+use rules::sorts::Thread;
+use rules::sorts::label_of;
+use state_check::signals::signal_tidy;
+ghost use mathlib.Core.Path.{_≡_};
+ghost use Prim.Native.Nat.{_+_, _*_, _≤_};
+ghost use lib.ListN.{length, drop};
+ghost use Rattle.rules.specs.Sizes.{eventSize};
+ghost use Rattle.rules.specs.Bytes.{firstBad};
+ghost use Rattle.rules.specs.Image.{labels};
+ghost use Rattle.rules.specs.Events.{arrivalOk, turnOk, eventAtOk};
+
+// Kind 1 is an arrival, 2 a step, 3 a cut.
+const ARRIVAL: u8 = 1;
+
+const STEP: u8 = 2;
+
+const CUT: u8 = 3;
+
+// Entry 3 is external.
+const EXTERNAL: u8 = 3;
+
+// An arrival has thread zero, a label of entry 3, a count 0 to 25 and zeros in what is unused.
+pub fn arrival_ok(image: &[u8], n: usize, s: &[u8], at: usize) -> bool
+    requires { ⌜ (n ≡ labels (now image)) × (at + eventSize ≤ length (now s)) ⌝ }
+    ensures { λ r. ⌜ r ≡ arrivalOk (now (image .entry)) (drop at (now (s .entry))) ⌝ }
+{
+    let l = label_of(get16(s, at + 2));
+    if n <= index_of(l) {
+        return false;
+    }
+    (s[at + 1] == 0) & (entry_at(image, l) == EXTERNAL) & signal_tidy(s, at + 2)
+}
+
+// A step and a cut have a thread 0 to 7, and the rest is zero.
+pub fn turn_ok(s: &[u8], at: usize) -> bool
+    requires { ⌜ at + eventSize ≤ length (now s) ⌝ }
+    ensures { λ r. ⌜ r ≡ turnOk (drop at (now (s .entry))) ⌝ }
+{
+    (get8(s, at + 1) < Thread::COUNT) & all_zero(s, at + 2, SIGNAL_SIZE)
+}
+
+// The event at an index breaks no rule.
+pub fn event_ok(image: &[u8], n: usize, events: &[u8], i: usize) -> bool
+    requires { ⌜ (n ≡ labels (now image)) × (eventSize * i + eventSize ≤ length (now events)) ⌝ }
+    ensures { λ r. ⌜ r ≡ eventAtOk (now (image .entry)) (now (events .entry)) i ⌝ }
+{
+    let at = EVENT_SIZE * i;
+    let kind = events[at];
+    if kind == ARRIVAL {
+        return arrival_ok(image, n, events, at);
+    }
+    ((kind == STEP) | (kind == CUT)) & turn_ok(events, at)
+}
+
+// The first of m events that breaks a rule, or m.
+pub fn first_bad_event(image: &[u8], events: &[u8], m: usize) -> usize
+    requires { ⌜ eventSize * m ≤ length (now events) ⌝ }
+    ensures { λ r. ⌜ r ≡ firstBad (eventAtOk (now (image .entry)) (now (events .entry))) 0 m ⌝ }
+{
+    let n = count_labels(image);
+    let mut i = 0;
+    while i < m {
+        if !event_ok(image, n, events, i) {
+            return i;
+        }
+        i += 1;
+    }
+    i
+}

@@ -1,0 +1,140 @@
+-- The numbers that stand in document 01's bytes for a kind, an operator, an entry, an answer or a trap, under the header's words.
+use Prim.Native.Nat.{ℕ}
+
+-- ---- opcodes
+
+abbrev pub skipCode : ℕ
+skipCode = 1
+
+abbrev pub assignCode : ℕ
+assignCode = 2
+
+abbrev pub gotoCode : ℕ
+gotoCode = 3
+
+abbrev pub ifCode : ℕ
+ifCode = 4
+
+abbrev pub sendDirectCode : ℕ
+sendDirectCode = 5
+
+abbrev pub sendBufferedCode : ℕ
+sendBufferedCode = 6
+
+abbrev pub callCode : ℕ
+callCode = 7
+
+abbrev pub returnCode : ℕ
+returnCode = 8
+
+abbrev pub transferCode : ℕ
+transferCode = 9
+
+abbrev pub exitCode : ℕ
+exitCode = 10
+
+-- ---- operators of ASSIGN, and of IF
+
+abbrev pub copyCode : ℕ
+copyCode = 1
+
+abbrev pub addCode : ℕ
+addCode = 2
+
+abbrev pub subtractCode : ℕ
+subtractCode = 3
+
+abbrev pub multiplyCode : ℕ
+multiplyCode = 4
+
+abbrev pub equalCode : ℕ
+equalCode = 1
+
+abbrev pub lessCode : ℕ
+lessCode = 2
+
+-- ---- entries of a record
+
+abbrev pub directCode : ℕ
+directCode = 1
+
+abbrev pub bufferedCode : ℕ
+bufferedCode = 2
+
+abbrev pub externalCode : ℕ
+externalCode = 3
+
+-- ---- kinds of an operand, of a block, of an event
+
+abbrev pub numberOperandCode : ℕ
+numberOperandCode = 1
+
+abbrev pub registerOperandCode : ℕ
+registerOperandCode = 2
+
+abbrev pub wordOperandCode : ℕ
+wordOperandCode = 3
+
+abbrev pub fdCode : ℕ
+fdCode = 0
+
+abbrev pub cmxCode : ℕ
+cmxCode = 1
+
+abbrev pub arrivalCode : ℕ
+arrivalCode = 1
+
+abbrev pub stepCode : ℕ
+stepCode = 2
+
+abbrev pub cutCode : ℕ
+cutCode = 3
+
+-- ---- codes of an answer
+
+abbrev pub arrivedCode : ℕ
+arrivedCode = 1
+
+abbrev pub listFullCode : ℕ
+listFullCode = 2
+
+abbrev pub noWorkCode : ℕ
+noWorkCode = 3
+
+abbrev pub waitingCode : ℕ
+waitingCode = 4
+
+abbrev pub startedCode : ℕ
+startedCode = 5
+
+abbrev pub movedOnCode : ℕ
+movedOnCode = 6
+
+abbrev pub exitedCode : ℕ
+exitedCode = 7
+
+abbrev pub trappedCode : ℕ
+trappedCode = 8
+
+abbrev pub wasCutCode : ℕ
+wasCutCode = 9
+
+abbrev pub nothingToCutCode : ℕ
+nothingToCutCode = 10
+
+-- ---- reasons of a trap
+
+abbrev pub absentRegisterCode : ℕ
+absentRegisterCode = 1
+
+abbrev pub noReturnLabelCode : ℕ
+noReturnLabelCode = 2
+
+abbrev pub returnsFullCode : ℕ
+returnsFullCode = 3
+
+abbrev pub pendingFullCode : ℕ
+pendingFullCode = 4
+
+abbrev pub foreignFdBlockCode : ℕ
+foreignFdBlockCode = 5

@@ -1,0 +1,163 @@
+-- What a step of a running thread comes to, statement by statement, from the values that the statement read.
+use mathlib.Core.Path.{_≡_, refl, _∙_}
+use mathlib.Core.Bool.{Bool, true, false, cond}
+use mathlib.Core.Option.{Option, none, some}
+use mathlib.Core.List.{List, [], _∷_, _++_, append-nil}
+use Prim.Native.Nat.{ℕ, _+_, _*_, _^_, _<_}
+use lib.Bits.{bitOr}
+use lib.Dec.{leb}
+use lib.ListN.{length, getD, set}
+use Rattle.rules.specs.Sorts
+use Rattle.rules.specs.Sizes.{returnCount, pendingCount}
+use Rattle.rules.specs.Image.{recordAt, labelA, labelB, rowAt}
+use Rattle.rules.specs.Statements.{statementOf, dataOf, reads}
+use Rattle.rules.specs.Effects.{trap, got, Cells, readAll, Results, compute, holds, assigned, overlaid, perform, outcome}
+use Rattle.rules.specs.Machine.{Signal, Job, idle, running, Machine, threadAt, fill, first, put, window, keep}
+use Rattle.rules.specs.Events.{step}
+use Rattle.rules.specs.Steps.{Rules, Effect, moves, newest, older, alien, blockAt, actBy, rulesBy, held, finished, react}
+use Rattle.rules.specs.declared.statement.Assignment.{Assignment}
+use Rattle.rules.specs.declared.statement.Condition.{Condition}
+use Rattle.rules.specs.declared.statement.Statement.{Statement}
+use Rattle.rules.specs.declared.statement.Statement.the-variants.{Skip, Assign, If, SendDirect, SendBuffered, Call, Return, Transfer, Exit}
+use Rattle.rules.specs.declared.answer.Answer.the-variants.{Waiting, Moved, Exited, Trapped}
+use Rattle.step_laws.specs.Same.{keep-window, put-same}
+use Rattle.step_laws.specs.Events.{withThread, reply}
+use Rattle.step_laws.specs.Running.{traps-by, exits-by, moves-by, moves-on, waits-for, enters}
+
+module _ (image table : List ℕ) (s : Machine) (t l : ℕ) (j : Job) (p : List Signal) (runs : threadAt s t ≡ running l j) (tree : first t (s .trees) ≡ some p) where
+  abbrev R : Rules
+  R = rulesBy image table
+
+  abbrev r : List ℕ
+  r = recordAt image (j .label)
+
+  abbrev own : ℕ
+  own = blockAt image (j .label)
+
+  abbrev pub cellsOf : Cells
+  cellsOf = record { registers = j .registers; words = window own (s .words) }
+
+  abbrev effect : Effect
+  effect = actBy image table t j (window own (s .words)) (length p)
+
+  -- an operand that cannot be read
+  pub unread : (S : Statement) (k : ℕ) → statementOf r ≡ S → readAll cellsOf (reads S (dataOf r)) ≡ trap k → react R s (step t) ≡ reply (finished R t s) (Trapped k)
+  unread S k e h = traps-by R s t l j p runs tree k (unfold actBy outcome in rw (e, h) refl)
+
+  -- the job at another label, with other registers
+  abbrev pub jobAt : ℕ → List ℕ → List (Option ℕ) → Job
+  jobAt a returns registers = record { label = a; returns = returns; registers = registers }
+
+  pub skips : statementOf r ≡ Skip → react R s (step t) ≡ reply (withThread s t (running l (jobAt (labelA r) (j .returns) (j .registers)))) Moved
+  skips e = moves-on R s t l j p runs tree _ (unfold actBy outcome readAll perform in rw e refl)
+
+  pub leaves : statementOf r ≡ Exit → react R s (step t) ≡ reply (finished R t s) Exited
+  leaves e = exits-by R s t l j p runs tree (unfold actBy outcome readAll perform in rw e refl)
+
+  -- the values that the statement read
+  module _ (vs : List ℕ) where
+    abbrev x : ℕ
+    x = getD vs 0 0
+
+    abbrev y : ℕ
+    y = getD vs 1 0
+
+    -- ---- ASSIGN
+
+    module _ (a : Assignment) (e : statementOf r ≡ Assign a) (h : readAll cellsOf (reads (Assign a) (dataOf r)) ≡ got vs) where
+      pub uncomputed : (k : ℕ) → compute (a .operation) x y ≡ trap k → react R s (step t) ≡ reply (finished R t s) (Trapped k)
+      uncomputed k c = traps-by R s t l j p runs tree k (unfold actBy outcome perform in rw (e, h, c) refl)
+
+      pub assigns : (z : Results) → compute (a .operation) x y ≡ got z
+          → react R s (step t)
+          ≡ reply (record { words = keep own (assigned a z cellsOf .words) (s .words); threads = set (s .threads) t (running l (jobAt (labelA r) (j .returns) (assigned a z cellsOf .registers))); trees = s .trees }) Moved
+      assigns z c =
+          moves-by R s t l j p runs tree (jobAt (labelA r) (j .returns) (assigned a z cellsOf .registers)) (assigned a z cellsOf .words) none (unfold actBy outcome perform in rw (e, h, c) refl)
+          ∙ rw (append-nil p, put-same t p (s .trees) tree) refl
+
+    -- ---- IF
+
+    pub branches : (c : Condition) → statementOf r ≡ If c → readAll cellsOf (reads (If c) (dataOf r)) ≡ got vs
+        → react R s (step t) ≡ reply (withThread s t (running l (jobAt (cond (holds (c .relation) x y) (labelA r) (labelB r)) (j .returns) (j .registers)))) Moved
+    branches c e h = case (holds (c .relation) x y) refl
+      where
+        case : (b : Bool) → holds (c .relation) x y ≡ b → react R s (step t) ≡ reply (withThread s t (running l (jobAt (cond b (labelA r) (labelB r)) (j .returns) (j .registers)))) Moved
+        case true q = moves-on R s t l j p runs tree _ (unfold actBy outcome perform in rw (e, h, q) refl)
+        case false q = moves-on R s t l j p runs tree _ (unfold actBy outcome perform in rw (e, h, q) refl)
+
+    -- ---- SEND direct: an FD block of another thread, then the lock
+
+    abbrev into : ℕ
+    into = blockAt image (labelA r)
+
+    abbrev lock : ℕ
+    lock = rowAt table into .lock
+
+    module _ (e : statementOf r ≡ SendDirect) (h : readAll cellsOf (dataOf r) ≡ got vs) where
+      pub send-alien : alien (rowAt table into) t ≡ true → react R s (step t) ≡ reply (finished R t s) (Trapped 5)
+      send-alien q = traps-by R s t l j p runs tree 5 (unfold actBy outcome perform in rw (e, h, q) refl)
+
+      module _ (q : alien (rowAt table into) t ≡ false) where
+        sends : effect ≡ moves (jobAt (labelA r) (j .returns) (fill vs)) (window own (s .words)) none (some into)
+        sends = unfold actBy outcome perform in rw (e, h, q) refl
+
+        pub send-waits : held lock (set (s .threads) t idle) ≡ true → react R s (step t) ≡ reply s (Waiting (Sorts.lock lock))
+        send-waits w = waits-for R s t l j p runs tree _ into sends w
+
+        pub send-enters : held lock (set (s .threads) t idle) ≡ false
+            → react R s (step t) ≡ reply (withThread s t (running (bitOr l (2 ^ lock)) (jobAt (labelA r) (j .returns) (fill vs)))) Moved
+        send-enters w = enters R s t l j p runs tree _ into sends w
+
+    -- ---- SEND buffered
+
+    module _ (e : statementOf r ≡ SendBuffered) (h : readAll cellsOf (dataOf r) ≡ got vs) where
+      pub buffer-full : leb pendingCount (length p) ≡ true → react R s (step t) ≡ reply (finished R t s) (Trapped 4)
+      buffer-full q = traps-by R s t l j p runs tree 4 (unfold actBy outcome perform in rw (e, h, q) refl)
+
+      pub buffers : leb pendingCount (length p) ≡ false
+          → react R s (step t)
+          ≡ reply (record {
+            words = s .words;
+            threads = set (s .threads) t (running l (jobAt (labelB r) (j .returns) (j .registers)));
+            trees = put t (some (p ++ record { label = labelA r; values = vs } ∷ [])) (s .trees);
+          }) Moved
+      buffers q =
+          moves-by R s t l j p runs tree (jobAt (labelB r) (j .returns) (j .registers)) (window own (s .words)) (some (record { label = labelA r; values = vs })) (unfold actBy outcome perform in rw (e, h, q) refl)
+          ∙ rw (keep-window own (s .words)) refl
+
+    -- ---- CALL: 8 return labels, an FD block of another thread, then the lock
+
+    module _ (e : statementOf r ≡ Call) (h : readAll cellsOf (dataOf r) ≡ got vs) where
+      pub call-deep : leb returnCount (length (j .returns)) ≡ true → react R s (step t) ≡ reply (finished R t s) (Trapped 3)
+      call-deep q = traps-by R s t l j p runs tree 3 (unfold actBy outcome perform in rw (e, h, q) refl)
+
+      module _ (d : leb returnCount (length (j .returns)) ≡ false) where
+        pub call-alien : alien (rowAt table into) t ≡ true → react R s (step t) ≡ reply (finished R t s) (Trapped 5)
+        call-alien q = traps-by R s t l j p runs tree 5 (unfold actBy outcome perform in rw (e, h, d, q) refl)
+
+        module _ (q : alien (rowAt table into) t ≡ false) where
+          calls : effect ≡ moves (jobAt (labelA r) (j .returns ++ labelB r ∷ []) (fill vs)) (window own (s .words)) none (some into)
+          calls = unfold actBy outcome perform in rw (e, h, d, q) refl
+
+          pub call-waits : held lock (set (s .threads) t idle) ≡ true → react R s (step t) ≡ reply s (Waiting (Sorts.lock lock))
+          call-waits w = waits-for R s t l j p runs tree _ into calls w
+
+          pub call-enters : held lock (set (s .threads) t idle) ≡ false
+              → react R s (step t) ≡ reply (withThread s t (running (bitOr l (2 ^ lock)) (jobAt (labelA r) (j .returns ++ labelB r ∷ []) (fill vs)))) Moved
+          call-enters w = enters R s t l j p runs tree _ into calls w
+
+    -- ---- RETURN
+
+    module _ (e : statementOf r ≡ Return) (h : readAll cellsOf (dataOf r) ≡ got vs) where
+      pub return-none : j .returns ≡ [] → react R s (step t) ≡ reply (finished R t s) (Trapped 2)
+      return-none q = traps-by R s t l j p runs tree 2 (unfold actBy outcome perform in rw (e, h, q) refl)
+
+      pub returns-to : (a : ℕ) (more : List ℕ) → j .returns ≡ a ∷ more
+          → react R s (step t) ≡ reply (withThread s t (running l (jobAt (newest a more) (older a more) (fill vs)))) Moved
+      returns-to a more q = moves-on R s t l j p runs tree _ (unfold actBy outcome perform in rw (e, h, q) refl)
+
+    -- ---- TRANSFER
+
+    pub transfers : statementOf r ≡ Transfer → readAll cellsOf (dataOf r) ≡ got vs
+        → react R s (step t) ≡ reply (withThread s t (running l (jobAt (labelA r) (j .returns) (overlaid vs cellsOf .registers)))) Moved
+    transfers e h = moves-on R s t l j p runs tree _ (unfold actBy outcome perform in rw (e, h) refl)
