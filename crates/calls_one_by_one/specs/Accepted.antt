@@ -10,8 +10,9 @@ use borrow.Author.Tests.{eqb-true}
 use Rattle.rules.specs.Sizes.{eventSize, eventCount}
 use Rattle.rules.specs.Events.{eventsIn, eventAtOk}
 use Rattle.rules.specs.Calls.{runReturn, eventsLengthFault, eventFault}
-use Rattle.one_by_one.specs.Faults.{and-both, first-of-zero, refusal-zero, fault-free}
-use Rattle.one_by_one.specs.Passed.{passed}
+use Rattle.laws.specs.Logic.{and-both}
+use Rattle.laws.specs.Faults.{first-of-zero, refusal-zero, fault-free}
+use Rattle.laws.specs.Passed.{passed}
 
 pub record EventsOk (image events : List ℕ) : Type 0 where
   pub whole : length events ≡ eventSize * eventsIn events

@@ -19,10 +19,10 @@ use Rattle.encoding.specs.Numbers.{AreBytes}
 use Rattle.encoding.specs.Sized.{Sized}
 use Rattle.encoding.specs.Machines.{machine-back}
 use Rattle.encoding.specs.Entries.{run-entries}
-use Rattle.invariants.specs.Sound.{Sound}
-use Rattle.invariants.specs.StaysWellFormed.{Accepted, sound-final}
-use Rattle.invariants.specs.StaysSized.{sized-final}
-use Rattle.invariants.specs.States.{events-accepted}
+use Rattle.soundness.specs.Sound.{Sound}
+use Rattle.soundness.specs.StaysWellFormed.{Accepted, sound-final}
+use Rattle.soundness.specs.StaysSized.{sized-final}
+use Rattle.soundness.specs.States.{events-accepted}
 use Rattle.calls_one_by_one.specs.CallList.{Run, returned, stateLeft, answersLeft, accepted, lastLeft, GoesOn, Follow, EventsAreBytes, entriesOf, eventList}
 use Rattle.calls_one_by_one.specs.Accepted.{EventsOk, events-ok}
 

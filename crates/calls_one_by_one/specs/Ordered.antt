@@ -9,7 +9,7 @@ use Rattle.rules.specs.Answers.{answerBytes}
 use Rattle.rules.specs.Steps.{Rules, answers}
 use Rattle.rules.specs.Order.{Entry, rowOf, order, events, log, byteOrder}
 use Rattle.fields.specs.Each.{Each}
-use Rattle.one_by_one.specs.Calls.{log-answers}
+use Rattle.laws.specs.EventLists.{log-answers}
 use Rattle.one_by_one.specs.ByteOrder.{bytesOf, order-over, byte-order}
 use Rattle.encoding.specs.Events.{SizedEvent, event-back}
 use Rattle.calls_one_by_one.specs.CallList.{eventsOf, answersOf}

@@ -15,18 +15,19 @@ use Rattle.rules.specs.Steps.{Rules, rulesBy, answers, final}
 use Rattle.rules.specs.Order.{Entry, order, orderBy, notesBy, events, byteOrder}
 use Rattle.rules.specs.Calls.{freshReturn, freshState, runReturn, stateLengthFault, stateFault, eventsLengthFault, eventFault, answersLengthFault}
 use Rattle.fields.specs.Each.{Each}
-use Rattle.one_by_one.specs.Faults.{checked-of, checked-rest}
+use Rattle.laws.specs.Faults.{checked-of, checked-rest}
 use Rattle.one_by_one.specs.Reading.{AllValid}
-use Rattle.one_by_one.specs.Checked.{checked-laws}
+use Rattle.soundness.specs.CheckedRules.{checked-laws}
 use Rattle.one_by_one.specs.Calls as values
-use Rattle.one_by_one.specs.Calls.{logs, log-events, logs-flatten}
+use Rattle.laws.specs.EventLists.{log-events}
+use Rattle.one_by_one.specs.Calls.{logs, logs-flatten}
 use Rattle.encoding.specs.Runs.{length-chunks}
 use Rattle.encoding.specs.Events.{SizedEvent}
 use Rattle.encoding.specs.Machines.{machine-back}
-use Rattle.invariants.specs.Members.{each-map}
-use Rattle.invariants.specs.StaysWellFormed.{Accepted, accepted-valid, sound-fresh}
-use Rattle.invariants.specs.StaysSized.{sized-fresh}
-use Rattle.invariants.specs.States.{Ready, fresh-leaves-ready, run-leaves-ready}
+use Rattle.soundness.specs.Members.{each-map}
+use Rattle.soundness.specs.StaysWellFormed.{Accepted, accepted-valid, sound-fresh}
+use Rattle.soundness.specs.StaysSized.{sized-fresh}
+use Rattle.soundness.specs.States.{Ready, fresh-leaves-ready, run-leaves-ready}
 use Rattle.calls_one_by_one.specs.CallList.{Run, returned, stateLeft, accepted, next, lastLeft, Follow, Calls, eventList, eventsOf, answersOf, OneByOneCalls, NoChange}
 use Rattle.calls_one_by_one.specs.Joined.{eventLists, Good, Joined, joined}
 use Rattle.calls_one_by_one.specs.Ordered.{events-ordered, answers-ordered}

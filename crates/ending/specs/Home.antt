@@ -10,11 +10,11 @@ use Rattle.rules.specs.Sizes.{blockCount, tableSize}
 use Rattle.rules.specs.Image.{labels, rowAt}
 use Rattle.rules.specs.Encoding.{noSignal, noTree, machineFrom}
 use Rattle.fields.specs.Each.{each-at}
-use Rattle.one_by_one.specs.Invariant.{never}
-use Rattle.one_by_one.specs.Passed.{Passed, passed}
-use Rattle.invariants.specs.Sound.{PendingIn, TreeIn}
-use Rattle.invariants.specs.Destinations.{block-below}
-use Rattle.invariants.specs.Trees.{pending-below}
+use Rattle.laws.specs.Logic.{never}
+use Rattle.laws.specs.Passed.{Passed, passed}
+use Rattle.soundness.specs.Sound.{PendingIn, TreeIn}
+use Rattle.soundness.specs.Destinations.{block-below}
+use Rattle.soundness.specs.Trees.{pending-below}
 use Rattle.step_ready.specs.Ready.{Ready}
 use Rattle.rules.specs.Machine.{Signal, Tree, Machine, idle, first}
 use Rattle.rules.specs.Steps.{rulesBy, blockAt, requeued, finished}

@@ -17,12 +17,12 @@ use Rattle.rules.specs.declared.answer.Answer.{Answer}
 use Rattle.fields.specs.Each.{Each, each-at}
 use Rattle.fields.specs.Put.{put, put-then, put-whole}
 use Rattle.fields.specs.Blocks.{blocks-append, blocks-one, length-blocks, chunks-suc}
-use Rattle.one_by_one.specs.Calls.{final-append}
+use Rattle.laws.specs.EventLists.{final-append}
 use Rattle.encoding.specs.Lengths.{length-answer}
 use Rattle.encoding.specs.Runs.{length-chunks, chunks-at}
 use Rattle.encoding.specs.Events.{length-events}
-use Rattle.invariants.specs.StaysWellFormed.{Accepted}
-use Rattle.invariants.specs.States.{events-accepted}
+use Rattle.soundness.specs.StaysWellFormed.{Accepted}
+use Rattle.soundness.specs.States.{events-accepted}
 use Rattle.step_ready.specs.Ready.{Ready, Done, replyTo, ready-again}
 use Rattle.sending.specs.Arrivals.{EventAt}
 

@@ -30,8 +30,8 @@ use Rattle.rules.specs.declared.statement.Role.the-variants.{Direct}
 use Rattle.fields.specs.Put.{put}
 use Rattle.encoding.specs.Encoded.{Encodes, Canonical}
 use Rattle.encoding.specs.Slots.{returnsIn, registersIn}
-use Rattle.one_by_one.specs.Passed.{passed}
-use Rattle.invariants.specs.Destinations.{block-below}
+use Rattle.laws.specs.Passed.{passed}
+use Rattle.soundness.specs.Destinations.{block-below}
 use Rattle.step_laws.specs.Events.{withThread, reply}
 use Rattle.step_laws.specs.Statements.{unread, send-alien, send-waits, send-enters, call-deep, call-alien, call-waits, call-enters}
 use Rattle.threads.specs.Returns.{TidyReturns, pushed, pushed-tidy}

@@ -9,7 +9,7 @@ use Rattle.rules.specs.Sizes.{returnCount}
 use Rattle.rules.specs.Image.{Row}
 use Rattle.rules.specs.Steps.{alien}
 use Rattle.rules.specs.declared.sorts.Lock.{Lock}
-use Rattle.one_by_one.specs.Invariant.{never}
+use Rattle.laws.specs.Logic.{never}
 use Rattle.entering.specs.declared.passage.Passage.{Passage}
 use Rattle.entering.specs.declared.passage.Passage.the-variants.{Trap, Ask}
 

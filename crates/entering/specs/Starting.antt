@@ -25,11 +25,11 @@ use Rattle.encoding.specs.Encoded.{Encodes, Canonical}
 use Rattle.encoding.specs.Slots.{returnsIn}
 use Rattle.encoding.specs.Stores.{withThread}
 use Rattle.encoding.specs.FirstTree.{firstTree, first-some}
-use Rattle.one_by_one.specs.Passed.{passed}
-use Rattle.one_by_one.specs.Invariant.{never}
-use Rattle.invariants.specs.Sound.{QueueIn}
-use Rattle.invariants.specs.Queues.{headPending, first-queue}
-use Rattle.invariants.specs.Destinations.{block-below}
+use Rattle.laws.specs.Passed.{passed}
+use Rattle.laws.specs.Logic.{never}
+use Rattle.soundness.specs.Sound.{QueueIn}
+use Rattle.soundness.specs.Queues.{headPending, first-queue}
+use Rattle.soundness.specs.Destinations.{block-below}
 use Rattle.step_laws.specs.Events.{reply, no-tree, start-waits, start-runs}
 use Rattle.threads.specs.Returns.{TidyReturns}
 use Rattle.threads.specs.Whole.{Whole}

@@ -8,7 +8,7 @@ use lib.ListN.{length}
 use borrow.Author.Tests.{eqb-true, leb-true}
 use Rattle.rules.specs.Calls.{eventsLengthFault, eventFault, answersLengthFault}
 use Rattle.image.specs.Faults.{refusal-none}
-use Rattle.one_by_one.specs.Faults.{and-both}
+use Rattle.laws.specs.Logic.{and-both}
 
 -- numbers 7 to 9
 abbrev pub eventsFaults : List ℕ → List ℕ → List ℕ → List ℕ

@@ -15,7 +15,7 @@ use Rattle.rules.specs.declared.statement.Operation.{Operation}
 use Rattle.rules.specs.declared.statement.Statement.{Statement}
 use Rattle.rules.specs.declared.statement.Statement.the-variants.{Assign}
 use Rattle.rules.specs.Check.{otherOk, shapeOk, headOk, slotOk, labelOk, ruleOk}
-use Rattle.one_by_one.specs.Heads.{few-by}
+use Rattle.laws.specs.Heads.{few-by}
 use Rattle.image.specs.Operands.{slotsOk}
 use Rattle.image.specs.Forms.{labelsOk, formOk, outlineOk}
 

@@ -4,7 +4,7 @@ use mathlib.Core.Option.{Option, none, some}
 use Rattle.rules.specs.declared.statement.Operation.{Operation}
 use Rattle.image.specs.declared.decode.Assigns.{Assigns}
 use Rattle.image.specs.declared.decode.Assigns.the-variants.{Nothing, Work}
-use Rattle.one_by_one.specs.Invariant.{never}
+use Rattle.laws.specs.Logic.{never}
 
 abbrev pub assignsOf : Option Operation → Assigns
 assignsOf none = Nothing

@@ -11,9 +11,9 @@ use Rattle.rules.specs.Answers.{close, sort}
 use Rattle.rules.specs.Events.{Event, threadOf}
 use Rattle.rules.specs.Steps.{Rules, Reply, react}
 use Rattle.rules.specs.declared.answer.Answer.the-variants.{Exited, Trapped, WasCut}
-use Rattle.one_by_one.specs.Locks.{getD-set-idle}
-use Rattle.one_by_one.specs.Invariant.{never}
-use Rattle.invariants.specs.Happens.{Happens, remains, founds, starts, goes, ends, happens}
+use Rattle.laws.specs.Locks.{getD-set-idle}
+use Rattle.laws.specs.Logic.{never}
+use Rattle.soundness.specs.Happens.{Happens, remains, founds, starts, goes, ends, happens}
 
 -- no lock, no return label, no register value: the thread has no job, and its bytes are the label 65,535 and zeros
 pub record Cleared (w : ThreadState) : Type 0 where

@@ -18,8 +18,8 @@ use Rattle.rules.specs.Answers.{out, sort}
 use Rattle.rules.specs.Steps.{Rules, rulesBy, Reply, react, final}
 use Rattle.rules.specs.declared.answer.Answer.{Answer}
 use Rattle.rules.specs.declared.answer.Answer.the-variants.{Taken, ListFull, NoWork, Waiting, Started, Moved, Exited, Trapped, WasCut, NothingToCut}
-use Rattle.one_by_one.specs.Invariant.{never, getD-same}
-use Rattle.invariants.specs.Happens.{Happens, remains, founds, starts, goes, ends, happens}
+use Rattle.laws.specs.Logic.{never, getD-same}
+use Rattle.soundness.specs.Happens.{Happens, remains, founds, starts, goes, ends, happens}
 use Rattle.invariants.specs.Paths.{opened, openAfter, openCalls, labelOf, noted, isOf, pathNext, pathFrom, pathOf}
 use Rattle.invariants.specs.Returns.{Turned, EffectTurned, act-turned}
 

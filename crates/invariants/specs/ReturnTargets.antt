@@ -16,10 +16,10 @@ use Rattle.rules.specs.Steps.{Rules, older, blockAt, rulesBy, Reply, react, fin
 use Rattle.rules.specs.declared.answer.Answer.the-variants.{Moved}
 use Rattle.rules.specs.declared.statement.Statement.{Statement}
 use Rattle.rules.specs.declared.statement.Statement.the-variants.{Skip, Assign, If, SendDirect, SendBuffered, Call, Return, Transfer, Exit}
-use Rattle.one_by_one.specs.Invariant.{never}
-use Rattle.one_by_one.specs.Passed.{passed, no-record}
-use Rattle.invariants.specs.Happens.{Happens, remains, founds, starts, goes, ends, happens}
-use Rattle.invariants.specs.Destinations.{label-in, parts}
+use Rattle.laws.specs.Logic.{never}
+use Rattle.laws.specs.Passed.{passed, no-record}
+use Rattle.soundness.specs.Happens.{Happens, remains, founds, starts, goes, ends, happens}
+use Rattle.soundness.specs.Destinations.{label-in, parts}
 use Rattle.invariants.specs.Paths.{withoutNewest, opened, openAfter, openCalls, pathOf}
 use Rattle.invariants.specs.Returns.{EffectTurned, act-turned}
 use Rattle.invariants.specs.OpenCalls.{set-here, returns-are-open-calls}

@@ -14,7 +14,7 @@ use Rattle.rules.specs.Steps.{Effect, traps, exits, moves, trapIf, newest, alie
 use Rattle.rules.specs.declared.statement.Operand.{Operand}
 use Rattle.rules.specs.declared.statement.Statement.{Statement}
 use Rattle.rules.specs.declared.statement.Statement.the-variants.{Skip, Assign, If, SendDirect, SendBuffered, Call, Return, Transfer, Exit}
-use Rattle.one_by_one.specs.Invariant.{never}
+use Rattle.laws.specs.Logic.{never}
 use Rattle.invariants.specs.Paths.{withoutNewest, opened}
 
 -- by where it leads

@@ -14,7 +14,7 @@ use Rattle.rules.specs.Encoding.{machineFrom}
 use Rattle.rules.specs.Effects.{Cells, store}
 use Rattle.rules.specs.declared.statement.Operand.{Operand}
 use Rattle.rules.specs.declared.statement.Operand.the-variants.{Number, Register, Word}
-use Rattle.one_by_one.specs.Invariant.{never}
+use Rattle.laws.specs.Logic.{never}
 use Rattle.encoding.specs.Encoded.{Encodes, Canonical, encoded-machine}
 use Rattle.step_laws.specs.Same.{keep-window, keep-set, keep-more}
 use Rattle.threads.specs.Threads.{job, jobOf, stateOf, returnsOf, registersOf, Says, Running}

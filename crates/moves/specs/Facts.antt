@@ -19,7 +19,7 @@ use Rattle.rules.specs.declared.statement.Statement.{Statement}
 use Rattle.rules.specs.declared.statement.Statement.the-variants.{Return}
 use Rattle.fields.specs.Each.{Each}
 use Rattle.encoding.specs.Slots.{returnsIn, registersIn}
-use Rattle.invariants.specs.Sound.{PlaceIn, ThreadIn}
+use Rattle.soundness.specs.Sound.{PlaceIn, ThreadIn}
 use Rattle.step_laws.specs.Events.{withThread, reply}
 use Rattle.step_laws.specs.Statements.{returns-to}
 use Rattle.threads.specs.Whole.{whole}

@@ -7,7 +7,8 @@ use Rattle.rules.specs.Events.{Event}
 use Rattle.rules.specs.Steps.{Rules, react, answers, final}
 use Rattle.rules.specs.Order.{Entry, order, events, log}
 use Rattle.rules.specs.declared.answer.Answer.{Answer}
-use Rattle.one_by_one.specs.Laws.{Laws}
+use Rattle.laws.specs.EventLists.{log-append, final-append}
+use Rattle.soundness.specs.Laws.{Laws}
 use Rattle.one_by_one.specs.Reading.{OneByOne, AllValid, one-by-one}
 
 module _ (R : Rules) where
@@ -20,36 +21,15 @@ module _ (R : Rules) where
   finals s [] = s
   finals s (a ∷ l) = finals (final R s a) l
 
-  -- a call's log is its events with the answers that it writes
-  pub log-events : (s : Machine) (l : List Event) → events (log R s l) ≡ l
-  unfolding log
-  log-events s [] = refl
-  log-events s (e ∷ l) = ap (λ (z : List Event). e ∷ z) (log-events (react R s e .state) l)
-
-  pub log-answers : (s : Machine) (l : List Event) → map (λ (n : Entry). n .answer) (log R s l) ≡ answers R s l
-  unfolding log answers
-  log-answers s [] = refl
-  log-answers s (e ∷ l) = ap (λ (z : List Answer). react R s e .answer ∷ z) (log-answers (react R s e .state) l)
-
-  pub log-append : (s : Machine) (a b : List Event) → log R s (a ++ b) ≡ log R s a ++ log R (final R s a) b
-  unfolding log final
-  log-append s [] b = refl
-  log-append s (e ∷ a) b = ap (λ (z : List Entry). record { event = e; answer = react R s e .answer } ∷ z) (log-append (react R s e .state) a b)
-
-  pub final-append : (s : Machine) (a b : List Event) → final R s (a ++ b) ≡ final R (final R s a) b
-  unfolding final
-  final-append s [] b = refl
-  final-append s (e ∷ a) b = final-append (react R s e .state) a b
-
   pub logs-flatten : (s : Machine) (l : List (List Event)) → logs s l ≡ log R s (flatten l)
   unfolding logs flatten log
   logs-flatten s [] = refl
-  logs-flatten s (a ∷ l) = ap (λ (z : List Entry). log R s a ++ z) (logs-flatten (final R s a) l) ∙ sym (log-append s a (flatten l))
+  logs-flatten s (a ∷ l) = ap (λ (z : List Entry). log R s a ++ z) (logs-flatten (final R s a) l) ∙ sym (log-append R s a (flatten l))
 
   pub finals-flatten : (s : Machine) (l : List (List Event)) → finals s l ≡ final R s (flatten l)
   unfolding finals flatten final
   finals-flatten s [] = refl
-  finals-flatten s (a ∷ l) = finals-flatten (final R s a) l ∙ sym (final-append s a (flatten l))
+  finals-flatten s (a ∷ l) = finals-flatten (final R s a) l ∙ sym (final-append R s a (flatten l))
 
   -- the reading of a list of calls: the second order of all their events, carried out from the state that Fresh left, gets the same
   -- answers and leaves what the last call left

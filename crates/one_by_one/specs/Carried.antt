@@ -7,8 +7,8 @@ use Rattle.rules.specs.Events.{Event, threadOf, Valid}
 use Rattle.rules.specs.Answers.{out, join, sort}
 use Rattle.rules.specs.Steps.{Rules, react, final}
 use Rattle.rules.specs.Order.{Entry, events, log}
-use Rattle.one_by_one.specs.Laws.{Laws}
-use Rattle.one_by_one.specs.Invariant.{Invariant, invariant-react}
+use Rattle.soundness.specs.Laws.{Laws}
+use Rattle.soundness.specs.Invariant.{Invariant, invariant-react}
 use Rattle.one_by_one.specs.Swap.{Swapped, swap}
 
 module _ (R : Rules) where

@@ -10,9 +10,9 @@ use Rattle.rules.specs.Bytes.{has}
 use Rattle.rules.specs.Machine.{Signal, Tree, Job, ThreadState, idle, running, Machine, threadAt, locksOf, jobOf, first, put, treeThreads, window}
 use Rattle.rules.specs.Events.{Event, arrive, step, cut, threadOf}
 use Rattle.rules.specs.Steps.{Rules, Move, plan, planStep, planArrive, written, applied, grown, finished, requeued}
-use Rattle.one_by_one.specs.Trees.{first-put-other, put-comm, first-append, put-append}
-use Rattle.one_by_one.specs.Words.{window-keep-other, keep-comm}
-use Rattle.one_by_one.specs.Invariant.{Invariant, Sound}
+use Rattle.laws.specs.Trees.{first-put-other, put-comm, first-append, put-append}
+use Rattle.laws.specs.Words.{window-keep-other, keep-comm}
+use Rattle.soundness.specs.Invariant.{Invariant, Sound}
 
 module _ (R : Rules) where
   -- two machines look the same to thread t

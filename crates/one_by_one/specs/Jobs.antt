@@ -18,9 +18,10 @@ use Rattle.rules.specs.Steps.{planArrive, planIdle, planRunning, planStep, plan
 use Rattle.rules.specs.Order.{Sheet, noteAs, notesBy, blank, Entry, rowOf, log}
 use Rattle.rules.specs.declared.answer.Answer.{Answer}
 use Rattle.rules.specs.declared.answer.Answer.the-variants.{ListFull, Started, Moved}
-use Rattle.one_by_one.specs.Laws.{Laws}
-use Rattle.one_by_one.specs.Locks.{getD-set-idle}
-use Rattle.one_by_one.specs.Invariant.{Invariant, Good, good, at-mover, at-other, invariant-fresh, invariant-react, getD-same}
+use Rattle.laws.specs.Logic.{getD-same}
+use Rattle.soundness.specs.Laws.{Laws}
+use Rattle.laws.specs.Locks.{getD-set-idle}
+use Rattle.soundness.specs.Invariant.{Invariant, Good, good, at-mover, at-other, invariant-fresh, invariant-react}
 use Rattle.one_by_one.specs.Reading.{AllValid, bySort, byRow, row-is}
 
 -- events of thread t, all answered 6

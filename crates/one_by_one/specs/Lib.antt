@@ -1,27 +1,14 @@
--- Demand 3 over the rules. The main theorems: `one-by-one` of Reading (any rules that keep the law of Laws), `checked-one-by-one` of
--- Checked (a checked image and its block table), `calls-one-by-one` of Calls (the events of call after call), `one-job-a-row` of Jobs,
--- `byte-order` of ByteOrder (the second order of the bytes is that of the values).
+-- Demand 3 over the rules. The main theorems: `one-by-one` of Reading (any rules that keep the law of soundness/specs/Laws),
+-- `checked-one-by-one` of Checked (a checked image and its block table), `calls-one-by-one` of Calls (the events of call after call),
+-- `one-job-a-row` of Jobs, `byte-order` of ByteOrder (the second order of the bytes is that of the values).
 
--- the parts of the machine: lock sets, job trees, shared words
-pub mod Sets
-pub mod Trees
-pub mod Words
 -- two events of different threads in either order
-pub mod Laws
-pub mod Locks
-pub mod Invariant
 pub mod Frame
 pub mod Swap
 -- the second order
 pub mod Carried
 pub mod Rows
 pub mod Reading
--- checked images
-pub mod Faults
-pub mod Roles
-pub mod Blocks
-pub mod Passed
-pub mod Heads
 pub mod Checked
 -- jobs, calls, bytes
 pub mod Jobs

@@ -14,8 +14,9 @@ use Rattle.rules.specs.Events.{Event, arrive, step, cut, threadOf, Valid}
 use Rattle.rules.specs.Answers.{Sort, out, now, join, close, sort}
 use Rattle.rules.specs.Steps.{Rules, Plan, stay, grow, move, finish, Move, plan, attempt, carry, react, final}
 use Rattle.rules.specs.Order.{Sheet, noteAs, notesBy, blank, spread, orderBy, Entry, rowOf, order, events, log}
-use Rattle.one_by_one.specs.Laws.{Laws}
-use Rattle.one_by_one.specs.Invariant.{Invariant, Good, good, invariant-fresh, getD-same, never}
+use Rattle.laws.specs.Logic.{never, getD-same}
+use Rattle.soundness.specs.Laws.{Laws}
+use Rattle.soundness.specs.Invariant.{Invariant, Good, good, invariant-fresh}
 use Rattle.one_by_one.specs.Carried.{Carried, carried-log, carried-final, carried-snoc, carried-invariant, Apart, AllApart, shift}
 use Rattle.one_by_one.specs.Rows.{before, behind, flatten-row, flatten-set, mem-flatten, mem-before, mem-behind}
 

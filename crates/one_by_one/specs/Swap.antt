@@ -13,11 +13,12 @@ use Rattle.rules.specs.Machine.{idle, Machine, threadAt, locksOf}
 use Rattle.rules.specs.Events.{Event, arrive, step, cut, threadOf, Valid}
 use Rattle.rules.specs.Answers.{out, join, sort}
 use Rattle.rules.specs.Steps.{Rules, Move, Plan, stay, grow, move, finish, Reply, plan, blocked, grant, applied, grown, finished, attempt, carry, react}
-use Rattle.one_by_one.specs.Sets.{has-none}
-use Rattle.one_by_one.specs.Trees.{threads-put}
-use Rattle.one_by_one.specs.Laws.{Laws}
-use Rattle.one_by_one.specs.Locks.{grant-keeps, grant-takes, grant-either, Clear, blocked-clear, clear-blocked, getD-set-idle}
-use Rattle.one_by_one.specs.Invariant.{Invariant, Sound, Good, good, at-mover, at-other, never, not-true}
+use Rattle.laws.specs.Logic.{never, not-true}
+use Rattle.laws.specs.Sets.{has-none}
+use Rattle.laws.specs.Trees.{threads-put}
+use Rattle.soundness.specs.Laws.{Laws}
+use Rattle.laws.specs.Locks.{grant-keeps, grant-takes, grant-either, Clear, blocked-clear, clear-blocked, getD-set-idle}
+use Rattle.soundness.specs.Invariant.{Invariant, Sound, Good, good, at-mover, at-other}
 use Rattle.one_by_one.specs.Frame.{Same, same-plan, same-arrive, same-applied, same-grown, same-finished, comm-applied, comm-grown, comm-finished, unlike}
 
 module _ (R : Rules) (L : Laws R) where

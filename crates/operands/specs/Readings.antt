@@ -9,7 +9,7 @@ use Rattle.rules.specs.Bytes.{pad}
 use Rattle.rules.specs.Effects.{Got, trap, got, Cells, present, read}
 use Rattle.rules.specs.declared.statement.Operand.{Operand}
 use Rattle.rules.specs.declared.statement.Operand.the-variants.{Number, Register, Word}
-use Rattle.one_by_one.specs.Invariant.{never}
+use Rattle.laws.specs.Logic.{never}
 use Rattle.operands.specs.declared.Reading.{Reading}
 use Rattle.operands.specs.declared.Reading.the-variants.{Value, Trap}
 

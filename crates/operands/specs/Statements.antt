@@ -20,9 +20,9 @@ use Rattle.rules.specs.declared.statement.Assignment.{Assignment}
 use Rattle.rules.specs.declared.statement.Condition.{Condition}
 use Rattle.rules.specs.declared.statement.Statement.{Statement}
 use Rattle.rules.specs.declared.statement.Statement.the-variants.{Skip, Assign, If, SendDirect, SendBuffered, Call, Return, Transfer, Exit}
-use Rattle.one_by_one.specs.Faults.{and-both}
-use Rattle.one_by_one.specs.Heads.{head-fields, Assigning, assigning}
-use Rattle.one_by_one.specs.Passed.{Parts}
+use Rattle.laws.specs.Logic.{and-both}
+use Rattle.laws.specs.Heads.{head-fields, Assigning, assigning}
+use Rattle.laws.specs.Passed.{Parts}
 use Rattle.operands.specs.Legal.{Fits, slot-fits}
 
 -- ---- which opcode a statement says

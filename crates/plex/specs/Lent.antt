@@ -18,12 +18,13 @@ use Rattle.rules.specs.Events.{eventsIn, eventsFrom, eventsLengthOk, eventAtOk}
 use Rattle.rules.specs.Steps.{rulesBy, answers, final}
 use Rattle.rules.specs.Walk.{walkFrom, metBytes, metCount}
 use Rattle.rules.specs.Calls.{stateLengthFault, stateFault, eventsLengthFault, eventFault, answersLengthFault, wordsLengthFault, threadFault, metLengthFault, freshReturn, freshState, runReturn, runState, runAnswers, walkFault, walkReturn, walkMet}
-use Rattle.one_by_one.specs.Faults.{and-both, first-of-zero, refusal-zero, fault-free, checked-of}
+use Rattle.laws.specs.Logic.{and-both}
+use Rattle.laws.specs.Faults.{first-of-zero, refusal-zero, fault-free, checked-of}
 use Rattle.encoding.specs.Sized.{Sized}
 use Rattle.encoding.specs.Numbers.{AreBytes}
 use Rattle.encoding.specs.Machines.{machine-forth, machine-sized}
 use Rattle.encoding.specs.Encoded.{encodes}
-use Rattle.invariants.specs.Sound.{sound-of}
+use Rattle.soundness.specs.Sound.{sound-of}
 use Rattle.step_ready.specs.Ready.{Ready}
 use Rattle.engine.specs.Runs.{Events}
 

@@ -18,8 +18,8 @@ use Rattle.rules.specs.Steps.{rulesBy, blockAt, founded, grown}
 use Rattle.rules.specs.declared.answer.Answer.the-variants.{Taken, ListFull}
 use Rattle.encoding.specs.Encoded.{Encodes, Canonical}
 use Rattle.encoding.specs.Events.{EventRead, arrival, stepping, cutting, event-read}
-use Rattle.invariants.specs.Trees.{pending-below}
-use Rattle.invariants.specs.StaysWellFormed.{Accepted}
+use Rattle.soundness.specs.Trees.{pending-below}
+use Rattle.soundness.specs.StaysWellFormed.{Accepted}
 use Rattle.trees.specs.Changes.{arrived}
 use Rattle.step_laws.specs.Events.{arrives, turned-away}
 use Rattle.step_ready.specs.Ready.{Ready, Done, replyTo, done}

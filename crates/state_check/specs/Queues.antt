@@ -11,7 +11,7 @@ use borrow.Author.Tests.{ltb-true}
 use Rattle.rules.specs.Bytes.{every, isZeros}
 use Rattle.rules.specs.Machine.{Tree, ThreadState, idle, running, queue}
 use Rattle.rules.specs.WellFormed.{pendingOk, treeOk, homed, queueOk, queuesOk}
-use Rattle.invariants.specs.Queues.{queue-here, queue-there}
+use Rattle.soundness.specs.Queues.{queue-here, queue-there}
 use Rattle.state_check.specs.Bools.{and-swap}
 
 abbrev pub flag : ThreadState → ℕ

@@ -24,7 +24,7 @@ ghost use Rattle.rules.specs.Sizes.{blockCount, threadCount, returnCount, threa
 ghost use Rattle.rules.specs.Bytes.{has, allFrom};
 ghost use Rattle.rules.specs.Image.{labels};
 ghost use Rattle.rules.specs.WellFormed.{placeOk};
-ghost use Rattle.one_by_one.specs.Passed.{Passed};
+ghost use Rattle.laws.specs.Passed.{Passed};
 ghost use Rattle.state_check.specs.Places.{placesOk, threadGood, threadAtGood};
 
 // Whether a lock is in a set.

@@ -23,7 +23,7 @@ ghost use Rattle.rules.specs.Image.{labels, rowAt};
 ghost use Rattle.rules.specs.Encoding.{treeFrom};
 ghost use Rattle.rules.specs.Steps.{blockAt};
 ghost use Rattle.rules.specs.WellFormed.{homed};
-ghost use Rattle.one_by_one.specs.Passed.{Passed};
+ghost use Rattle.laws.specs.Passed.{Passed};
 ghost use Rattle.state_check.specs.Passing.{treesGood};
 
 // The thread of a label's block; where there is no record, one that nobody has.

@@ -9,7 +9,7 @@ use lib.ListN.{length, getD, set}
 use lib.Seq.{set-getD, set-set, set-comm}
 use Rattle.rules.specs.Sizes.{wordCount}
 use Rattle.rules.specs.Machine.{Signal, Tree, first, put, cells, stores, window, keep}
-use Rattle.one_by_one.specs.Trees.{first-here, first-there, put-here, put-there}
+use Rattle.laws.specs.Trees.{first-here, first-there, put-here, put-there}
 
 -- ---- words
 

@@ -13,13 +13,13 @@ use Rattle.rules.specs.Statements.{statementOf, roleA, roleB}
 use Rattle.rules.specs.Check.{recordOk}
 use Rattle.rules.specs.Machine.{Signal, Job, threadAt, first, idle, running}
 use Rattle.rules.specs.Encoding.{machineFrom}
-use Rattle.one_by_one.specs.Passed.{Parts, passed, rule-parts}
-use Rattle.invariants.specs.Sound.{ThreadIn}
+use Rattle.laws.specs.Passed.{Parts, passed, rule-parts}
+use Rattle.soundness.specs.Sound.{ThreadIn}
 use Rattle.threads.specs.Threads.{stateOf, jobOf, Says, Running}
 use Rattle.threads.specs.Whole.{Whole, whole}
 use Rattle.threads.specs.declared.thread.ThreadState.{ThreadState}
 use Rattle.operands.specs.Legal.{Below, label-below}
-use Rattle.one_by_one.specs.Heads.{head-fields, few-operands}
+use Rattle.laws.specs.Heads.{head-fields, few-operands}
 use Rattle.step_ready.specs.Ready.{Ready}
 
 -- thread t runs a job

@@ -14,8 +14,8 @@ use Rattle.rules.specs.declared.answer.Answer.{Answer}
 use Rattle.fields.specs.Put.{put}
 use Rattle.encoding.specs.Encoded.{Encodes, Canonical, encoded-machine, encoded-canonical}
 use Rattle.encoding.specs.Stores.{withThread}
-use Rattle.invariants.specs.Sound.{Sound}
-use Rattle.invariants.specs.StaysWellFormed.{Accepted, sound-react}
+use Rattle.soundness.specs.Sound.{Sound}
+use Rattle.soundness.specs.StaysWellFormed.{Accepted, sound-react}
 use Rattle.threads.specs.Threads.{stateOf, Tidy, Says}
 use Rattle.threads.specs.Whole.{Whole, whole}
 use Rattle.threads.specs.Records.{headOf, rawThread, rawBytes, whole-read}

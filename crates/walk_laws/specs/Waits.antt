@@ -17,9 +17,9 @@ use Rattle.rules.specs.Steps.{Rules, Effect, traps, exits, moves, Move, Plan, s
 use Rattle.rules.specs.Walk.{turn, asked, holder, awaits, walkFrom}
 use Rattle.rules.specs.declared.answer.Answer.{Answer}
 use Rattle.rules.specs.declared.answer.Answer.the-variants.{Taken, ListFull, NoWork, Waiting, Started, Moved, Exited, Trapped, WasCut, NothingToCut}
-use Rattle.one_by_one.specs.Sets.{has-none}
-use Rattle.one_by_one.specs.Locks.{getD-set-idle}
-use Rattle.one_by_one.specs.Invariant.{never}
+use Rattle.laws.specs.Sets.{has-none}
+use Rattle.laws.specs.Locks.{getD-set-idle}
+use Rattle.laws.specs.Logic.{never}
 use Rattle.walk_laws.specs.Walked.{Walked, walked}
 
 module _ (R : Rules) where

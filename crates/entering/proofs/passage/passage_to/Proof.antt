@@ -5,8 +5,8 @@ use borrow.Author.Needs.{needs}
 use borrow.Author.Tests.{ne-eqb}
 use Rattle.rules.specs.Image.{Row, rowAt}
 use Rattle.rules.specs.Steps.{blockAt, alien}
-use Rattle.one_by_one.specs.Passed.{passed}
-use Rattle.invariants.specs.Destinations.{block-below}
+use Rattle.laws.specs.Passed.{passed}
+use Rattle.soundness.specs.Destinations.{block-below}
 use Rattle.entering.specs.Passages.{passageTo, passage-on}
 use Rattle.entering.proofs.passage.passage_to.Statement.{statement}
 use Rattle.entering.proofs.passage.passage_to.Tie as tie

@@ -2,7 +2,7 @@ use mathlib.Core.Path.{sym}
 use mathlib.Core.List.{[]}
 use borrow.Author.Needs.{needs}
 use denote.Ref.{now}
-use Rattle.one_by_one.specs.Passed.{passed}
+use Rattle.laws.specs.Passed.{passed}
 use Rattle.state_check.specs.States.{state-many, state-few}
 use Rattle.state_check.proofs.form.well_formed.Statement.{statement}
 use Rattle.state_check.proofs.form.well_formed.Tie as tie

@@ -2,7 +2,7 @@ use mathlib.Core.Path.{sym}
 use native.Mathlib.Omega.{arith}
 use borrow.Author.Needs.{needs}
 use denote.Ref.{now}
-use Rattle.invariants.specs.Destinations.{block-below}
+use Rattle.soundness.specs.Destinations.{block-below}
 use Rattle.state_check.specs.Places.{place-past, place-is}
 use Rattle.state_check.proofs.places.place_ok.Statement.{statement}
 use Rattle.state_check.proofs.places.place_ok.Tie as tie

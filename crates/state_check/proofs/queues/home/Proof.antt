@@ -3,7 +3,7 @@ use native.Mathlib.Omega.{arith}
 use borrow.Author.Needs.{needs}
 use denote.Ref.{now}
 use Rattle.rules.specs.Sorts.{thread}
-use Rattle.invariants.specs.Destinations.{block-below}
+use Rattle.soundness.specs.Destinations.{block-below}
 use Rattle.state_check.specs.Trees.{no-thread}
 use Rattle.state_check.proofs.queues.home.Statement.{statement}
 use Rattle.state_check.proofs.queues.home.Tie as tie

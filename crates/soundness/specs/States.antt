@@ -19,16 +19,16 @@ use Rattle.rules.specs.Steps.{rulesBy, final}
 use Rattle.rules.specs.WellFormed.{stateTidy, machineOk, wellFormed}
 use Rattle.rules.specs.Calls.{stateLengthFault, stateFault, eventsLengthFault, eventFault, freshReturn, freshState, runReturn, runState}
 use Rattle.fields.specs.Each.{Each}
-use Rattle.one_by_one.specs.Faults.{first-of-zero, refusal-zero, fault-free, checked-of}
+use Rattle.laws.specs.Faults.{first-of-zero, refusal-zero, fault-free, checked-of}
 use Rattle.encoding.specs.Sized.{Sized}
 use Rattle.encoding.specs.Tests.{both, both-hold}
 use Rattle.encoding.specs.Runs.{length-chunks, each-chunks}
 use Rattle.encoding.specs.Lengths.{length-encode}
 use Rattle.encoding.specs.Machines.{machine-back, machine-sized, machine-tidy}
 use Rattle.encoding.specs.Events.{SizedEvent, event-sized, event-valid}
-use Rattle.invariants.specs.Sound.{Sound, sound-of, sound-ok}
-use Rattle.invariants.specs.StaysWellFormed.{Accepted, sound-final, sound-fresh}
-use Rattle.invariants.specs.StaysSized.{sized-final, sized-fresh}
+use Rattle.soundness.specs.Sound.{Sound, sound-of, sound-ok}
+use Rattle.soundness.specs.StaysWellFormed.{Accepted, sound-final, sound-fresh}
+use Rattle.soundness.specs.StaysSized.{sized-final, sized-fresh}
 
 -- ---- an event that breaks no rule is accepted
 

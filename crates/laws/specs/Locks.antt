@@ -12,7 +12,7 @@ use lib.Seq.{getD-set-other}
 use Rattle.rules.specs.Bytes.{has}
 use Rattle.rules.specs.Machine.{ThreadState, idle, locksOf}
 use Rattle.rules.specs.Steps.{Rules, held, blocked, grant}
-use Rattle.one_by_one.specs.Sets.{has-none, has-same, has-other}
+use Rattle.laws.specs.Sets.{has-none, has-same, has-other}
 
 or-false : (a b : Bool) → a || b ≡ false → (a ≡ false) × (b ≡ false)
 or-false true b h = absurd (true≢false h)

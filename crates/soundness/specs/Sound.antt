@@ -17,12 +17,13 @@ use Rattle.rules.specs.Machine.{Signal, Tree, Job, ThreadState, idle, running, 
 use Rattle.rules.specs.Steps.{rulesBy, blockAt}
 use Rattle.rules.specs.WellFormed.{openTo, placeOk, threadOk, threadsOk, pendingOk, treeOk, homed, queueOk, queuesOk, apart, machineOk}
 use Rattle.fields.specs.Each.{Each}
-use Rattle.one_by_one.specs.Laws.{Needs}
-use Rattle.one_by_one.specs.Invariant.{never, Invariant}
+use Rattle.laws.specs.Logic.{never}
+use Rattle.soundness.specs.Laws.{Needs}
+use Rattle.soundness.specs.Invariant.{Invariant}
 use Rattle.encoding.specs.Tests.{both, both-hold}
-use Rattle.invariants.specs.Queues.{queue-there, headPending, first-queue}
-use Rattle.invariants.specs.Disjoint.{apart-disjoint, disjoint-apart}
-use Rattle.invariants.specs.Members.{each-member, member-each, every-each, each-every, member-map, map-member}
+use Rattle.soundness.specs.Queues.{queue-there, headPending, first-queue}
+use Rattle.soundness.specs.Disjoint.{apart-disjoint, disjoint-apart}
+use Rattle.soundness.specs.Members.{each-member, member-each, every-each, each-every, member-map, map-member}
 
 module _ (image table : List ℕ) where
   -- a label of thread t's job: it is below n, and its block is CMX or t's own

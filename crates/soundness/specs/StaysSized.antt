@@ -13,15 +13,15 @@ use Rattle.rules.specs.Events.{Event}
 use Rattle.rules.specs.Steps.{Rules, Effect, Reply, begin, added, pendingOf, founded, requeued, rulesBy, react, final}
 use Rattle.rules.specs.Check.{Checked}
 use Rattle.fields.specs.Each.{Each, each-at, each-set, each-append}
-use Rattle.one_by_one.specs.Passed.{Passed, passed}
-use Rattle.one_by_one.specs.Trees.{threads-put}
+use Rattle.laws.specs.Passed.{Passed, passed}
+use Rattle.laws.specs.Trees.{threads-put}
 use Rattle.encoding.specs.Sized.{SizedJob, SizedThread, SizedSignal, SizedTree, Sized}
-use Rattle.invariants.specs.Happens.{Happens, remains, founds, starts, goes, ends, happens}
-use Rattle.invariants.specs.Queues.{Place, place, FirstHas, first-has, put-each}
-use Rattle.invariants.specs.Places.{put-missing, requeued-one}
-use Rattle.invariants.specs.Sound.{PlaceIn, ThreadIn, Sound}
-use Rattle.invariants.specs.StatementLimits.{length-fill, SignalSized, EffectSized, act-sized, labels-limit}
-use Rattle.invariants.specs.StaysWellFormed.{Accepted, effect-in, start-in, sound-react}
+use Rattle.soundness.specs.Happens.{Happens, remains, founds, starts, goes, ends, happens}
+use Rattle.soundness.specs.Queues.{Place, place, FirstHas, first-has, put-each}
+use Rattle.soundness.specs.Places.{put-missing, requeued-one}
+use Rattle.soundness.specs.Sound.{PlaceIn, ThreadIn, Sound}
+use Rattle.soundness.specs.StatementLimits.{length-fill, SignalSized, EffectSized, act-sized, labels-limit}
+use Rattle.soundness.specs.StaysWellFormed.{Accepted, effect-in, start-in, sound-react}
 
 -- ---- words
 

@@ -18,9 +18,9 @@ use Rattle.rules.specs.declared.statement.Operand.{Operand}
 use Rattle.rules.specs.declared.statement.Operand.the-variants.{Number, Register, Word}
 use Rattle.rules.specs.declared.statement.Statement.{Statement}
 use Rattle.rules.specs.declared.statement.Statement.the-variants.{Skip, Assign, If, SendDirect, SendBuffered, Call, Return, Transfer, Exit}
-use Rattle.one_by_one.specs.Heads.{few-operands}
-use Rattle.one_by_one.specs.Passed.{Passed}
-use Rattle.invariants.specs.Destinations.{head}
+use Rattle.laws.specs.Heads.{few-operands}
+use Rattle.laws.specs.Passed.{Passed}
+use Rattle.soundness.specs.Destinations.{head}
 
 -- ---- how many operands a record has, and how many values are read
 

@@ -10,10 +10,6 @@ use borrow.Author.Tests.{eqb-true, eqb-false}
 use Rattle.rules.specs.Bytes.{firstBad}
 use Rattle.rules.specs.Check.{refusal, firstFault, firstOf, imageFaults, Checked}
 
-pub and-both : (a b : Bool) → a && b ≡ true → (a ≡ true) × (b ≡ true)
-and-both true b h = (refl, h)
-and-both false b h = absurd (false≢true h)
-
 -- the first of a list of refusals is 0, and so is the first of the rest
 pub first-of-zero : (x : ℕ) (xs : List ℕ) → firstOf (x ∷ xs) ≡ 0 → (x ≡ 0) × (firstOf xs ≡ 0)
 unfolding firstOf

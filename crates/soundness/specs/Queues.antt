@@ -8,8 +8,8 @@ use Prim.Native.Nat.{ℕ}
 use native.Mathlib.Decide.{ℕ-discrete}
 use Rattle.rules.specs.Machine.{Signal, Tree, queue, first, refit, put}
 use Rattle.fields.specs.Each.{Each}
-use Rattle.one_by_one.specs.Trees.{first-there, put-here, put-there}
-use Rattle.one_by_one.specs.Invariant.{never}
+use Rattle.laws.specs.Trees.{first-there, put-here, put-there}
+use Rattle.laws.specs.Logic.{never}
 
 module _ (t : ℕ) (x : Tree) (l : List Tree) where
   pub queue-here : x .thread ≡ t → queue t (x ∷ l) ≡ x ∷ queue t l

@@ -17,22 +17,11 @@ use Rattle.rules.specs.Answers.{out, now, join, close, sort}
 use Rattle.rules.specs.Steps.{Rules, Effect, traps, exits, moves, Move, Plan, stay, grow, move, finish, begin, pendingOf, home, founded}
 use Rattle.rules.specs.Steps.{planArrive, planIdle, planRunning, planStep, planCut, plan, blocked, grant, applied, grown, finished, attempt, carry, react}
 use Rattle.rules.specs.declared.answer.Answer.the-variants.{ListFull}
-use Rattle.one_by_one.specs.Sets.{has-none}
-use Rattle.one_by_one.specs.Trees.{first-put-other, first-put-same, first-append}
-use Rattle.one_by_one.specs.Laws.{Needs, Stays, Laws}
-use Rattle.one_by_one.specs.Locks.{grant-keeps, grant-takes, grant-either, Clear, blocked-clear, getD-set-idle}
-
-pub never : {A : Type 0} → _≡_ {A = ℕ} 0 1 → A
-never e = absurd (omega arith)
-
-pub not-true : (b : Bool) → ¬ (b ≡ true) → b ≡ false
-not-true true h = absurd (h refl)
-not-true false h = refl
-
-pub getD-same : {A : Type 0} (a : A) (n t : ℕ) → getD (replicate n a) t a ≡ a
-getD-same a zero t = refl
-getD-same a (suc n) zero = refl
-getD-same a (suc n) (suc t) = getD-same a n t
+use Rattle.laws.specs.Logic.{never, not-true, getD-same}
+use Rattle.laws.specs.Sets.{has-none}
+use Rattle.laws.specs.Trees.{first-put-other, first-put-same, first-append}
+use Rattle.soundness.specs.Laws.{Needs, Stays, Laws}
+use Rattle.laws.specs.Locks.{grant-keeps, grant-takes, grant-either, Clear, blocked-clear, getD-set-idle}
 
 module _ (R : Rules) where
   -- eight threads; no lock in two sets; a running thread holds the locks of its label's and return labels' blocks; and it has a tree

@@ -14,7 +14,7 @@ use Rattle.rules.specs.Statements.{shape, destinations, operationAt}
 use Rattle.rules.specs.Check.{assignOk, otherOk, shapeOk, headOk}
 use Rattle.rules.specs.declared.statement.Operation.{Operation}
 use Rattle.rules.specs.declared.statement.Shape.{Shape}
-use Rattle.one_by_one.specs.Faults.{and-both}
+use Rattle.laws.specs.Logic.{and-both}
 
 pub record Head (r : List ℕ) : Type 0 where
   pub block : blockField r < blockCount

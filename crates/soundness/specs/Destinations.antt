@@ -20,11 +20,11 @@ use Rattle.rules.specs.WellFormed.{openTo, pendingOk}
 use Rattle.rules.specs.declared.statement.Role.{Role}
 use Rattle.rules.specs.declared.statement.Role.the-variants.{Unused, Inner, Direct, Local, Buffered}
 use Rattle.fields.specs.Each.{Each, each-append}
-use Rattle.one_by_one.specs.Roles.{Leads, Sends, Refers, refers}
-use Rattle.one_by_one.specs.Heads.{Head, head-fields}
-use Rattle.one_by_one.specs.Passed.{Passed, Parts, rule-parts}
+use Rattle.laws.specs.Roles.{Leads, Sends, Refers, refers}
+use Rattle.laws.specs.Heads.{Head, head-fields}
+use Rattle.laws.specs.Passed.{Passed, Parts, rule-parts}
 use Rattle.encoding.specs.Tests.{both}
-use Rattle.invariants.specs.Sound.{PlaceIn, PendingIn}
+use Rattle.soundness.specs.Sound.{PlaceIn, PendingIn}
 
 module _ (image table : List ℕ) where
   -- what the check says of a label v of this role, in a record of block b

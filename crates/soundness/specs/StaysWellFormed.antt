@@ -17,17 +17,18 @@ use Rattle.rules.specs.Events.{Event, arrive, step, cut, threadOf, Valid}
 use Rattle.rules.specs.Steps.{Rules, Effect, Move, Reply, added, pendingOf, founded, requeued, rulesBy, grant, applied, finished, react, final}
 use Rattle.rules.specs.WellFormed.{pendingOk, machineOk}
 use Rattle.fields.specs.Each.{Each, each-append}
-use Rattle.one_by_one.specs.Invariant.{never, getD-same, invariant-react, invariant-fresh}
-use Rattle.one_by_one.specs.Locks.{getD-set-idle}
-use Rattle.one_by_one.specs.Passed.{Passed, passed}
-use Rattle.one_by_one.specs.Checked.{checked-laws}
-use Rattle.invariants.specs.Happens.{startOf, goOf, Happens, remains, founds, starts, goes, ends, happens}
-use Rattle.invariants.specs.Untouched.{words-of-other-blocks-stay}
-use Rattle.invariants.specs.Queues.{first-queue, queue-append, queue-put, queue-put-other}
-use Rattle.invariants.specs.Members.{getD-set}
-use Rattle.invariants.specs.Sound.{PlaceIn, ThreadIn, PendingIn, TreeIn, QueueIn, Sound, sound-of, sound-ok}
-use Rattle.invariants.specs.Destinations.{SentIn, EffectIn, act-in}
-use Rattle.invariants.specs.Trees.{FirstIn, first-in, put-trees, on-home, home-open, requeued-trees, requeued-homed, queue-homed, first-home, queue-longer, queue-runs, queue-idle}
+use Rattle.laws.specs.Logic.{never, getD-same}
+use Rattle.soundness.specs.Invariant.{invariant-react, invariant-fresh}
+use Rattle.laws.specs.Locks.{getD-set-idle}
+use Rattle.laws.specs.Passed.{Passed, passed}
+use Rattle.soundness.specs.CheckedRules.{checked-laws}
+use Rattle.soundness.specs.Happens.{startOf, goOf, Happens, remains, founds, starts, goes, ends, happens}
+use Rattle.soundness.specs.Untouched.{words-of-other-blocks-stay}
+use Rattle.soundness.specs.Queues.{first-queue, queue-append, queue-put, queue-put-other}
+use Rattle.soundness.specs.Members.{getD-set}
+use Rattle.soundness.specs.Sound.{PlaceIn, ThreadIn, PendingIn, TreeIn, QueueIn, Sound, sound-of, sound-ok}
+use Rattle.soundness.specs.Destinations.{SentIn, EffectIn, act-in}
+use Rattle.soundness.specs.Trees.{FirstIn, first-in, put-trees, on-home, home-open, requeued-trees, requeued-homed, queue-homed, first-home, queue-longer, queue-runs, queue-idle}
 
 -- an event that the image accepts: an arrival's label has entry 3 and it has at most 25 values; a step and a cut name a thread 0 to 7
 abbrev pub Accepted : List ℕ → Event → Type 0

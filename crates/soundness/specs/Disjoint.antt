@@ -15,7 +15,7 @@ use borrow.Author.Tests.{eqb-true, eq-eqb, ne-eqb}
 use Rattle.rules.specs.Bytes.{has, every}
 use Rattle.rules.specs.Machine.{ThreadState, idle, locksOf}
 use Rattle.rules.specs.WellFormed.{apart}
-use Rattle.one_by_one.specs.Sets.{has-none}
+use Rattle.laws.specs.Sets.{has-none}
 use Rattle.encoding.specs.Tests.{both, both-hold}
 
 -- no lock is in both

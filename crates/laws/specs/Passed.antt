@@ -12,7 +12,8 @@ use Rattle.rules.specs.Bytes.{allFrom}
 use Rattle.rules.specs.Image.{labels, recordAt, opcode, blockField, entry, operator, labelA, labelB, operands, kind}
 use Rattle.rules.specs.Statements.{statementOf, roleA, roleB}
 use Rattle.rules.specs.Check.{headOk, slotOk, labelOk, ruleOk, recordOk, rowOk, firstOf, imageFaults, imageLengthFault, tableLengthFault, tableFault, recordFault}
-use Rattle.one_by_one.specs.Faults.{and-both, first-of-zero, refusal-zero, fault-free}
+use Rattle.laws.specs.Logic.{and-both}
+use Rattle.laws.specs.Faults.{first-of-zero, refusal-zero, fault-free}
 
 -- numbers 1 to 4 do not apply
 pub record Passed (image table : List ℕ) : Type 0 where

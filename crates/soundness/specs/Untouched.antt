@@ -10,9 +10,10 @@ use Rattle.rules.specs.Bytes.{has}
 use Rattle.rules.specs.Machine.{Signal, Tree, idle, Machine, threadAt, locksOf, jobOf, first, put, window}
 use Rattle.rules.specs.Events.{Event, arrive, threadOf}
 use Rattle.rules.specs.Steps.{Rules, Reply, founded, requeued, react}
-use Rattle.one_by_one.specs.Words.{window-keep-other}
-use Rattle.one_by_one.specs.Invariant.{never, Invariant}
-use Rattle.invariants.specs.Happens.{Happens, remains, founds, starts, goes, ends, happens}
+use Rattle.laws.specs.Logic.{never}
+use Rattle.laws.specs.Words.{window-keep-other}
+use Rattle.soundness.specs.Invariant.{Invariant}
+use Rattle.soundness.specs.Happens.{Happens, remains, founds, starts, goes, ends, happens}
 
 module _ (R : Rules) (s : Machine) where
   -- ---- the threads: only the event's own thread may change

@@ -10,11 +10,11 @@ use lib.ListN.{length}
 use Rattle.rules.specs.Machine.{Signal, Tree, Machine, queue, first, put}
 use Rattle.rules.specs.Events.{Event, threadOf}
 use Rattle.rules.specs.Steps.{Rules, Reply, founded, requeued, react}
-use Rattle.one_by_one.specs.Trees.{first-there, put-there, first-here}
-use Rattle.one_by_one.specs.Invariant.{never}
-use Rattle.invariants.specs.Happens.{Happens, remains, founds, starts, goes, ends, happens}
-use Rattle.invariants.specs.Queues.{queue-here, queue-there, queue-append, queue-put-other, Place, place}
-use Rattle.invariants.specs.Untouched.{Changed, same, given, taken, only-the-first-tree-changes}
+use Rattle.laws.specs.Trees.{first-there, put-there, first-here}
+use Rattle.laws.specs.Logic.{never}
+use Rattle.soundness.specs.Happens.{Happens, remains, founds, starts, goes, ends, happens}
+use Rattle.soundness.specs.Queues.{queue-here, queue-there, queue-append, queue-put-other, Place, place}
+use Rattle.soundness.specs.Untouched.{Changed, same, given, taken, only-the-first-tree-changes}
 
 -- at most one tree, and it is t's
 pub record OneOf (t : ℕ) (l : List Tree) : Type 0 where

@@ -15,8 +15,8 @@ use Rattle.rules.specs.declared.statement.Operand.{Operand}
 use Rattle.rules.specs.declared.statement.Role.{Role}
 use Rattle.rules.specs.declared.statement.Role.the-variants.{Unused, Inner, Direct, Local, Buffered}
 use Rattle.rules.specs.declared.statement.Statement.{Statement}
-use Rattle.one_by_one.specs.Laws.{Needs, Stays}
-use Rattle.one_by_one.specs.Roles.{Leads, Refers, refers}
+use Rattle.soundness.specs.Laws.{Needs, Stays}
+use Rattle.laws.specs.Roles.{Leads, Refers, refers}
 
 module _ (R : Rules) where
   -- a label of this role, in a statement of block b

@@ -15,13 +15,13 @@ use Rattle.rules.specs.Machine.{Signal, Tree, Job, ThreadState, idle, running, 
 use Rattle.rules.specs.Steps.{home, requeued, blockAt, rulesBy}
 use Rattle.rules.specs.WellFormed.{pendingOk, homed, homedAs}
 use Rattle.fields.specs.Each.{Each, each-append}
-use Rattle.one_by_one.specs.Trees.{first-here, first-there}
-use Rattle.one_by_one.specs.Invariant.{never}
-use Rattle.one_by_one.specs.Passed.{Passed, no-record}
+use Rattle.laws.specs.Trees.{first-here, first-there}
+use Rattle.laws.specs.Logic.{never}
+use Rattle.laws.specs.Passed.{Passed, no-record}
 use Rattle.encoding.specs.Tests.{both}
-use Rattle.invariants.specs.Queues.{queue-here, queue-there, headPending, refitted, FirstHas, first-has, put-each}
-use Rattle.invariants.specs.Sound.{PlaceIn, PendingIn, TreeIn, Homed, QueueIn}
-use Rattle.invariants.specs.Destinations.{block-below}
+use Rattle.soundness.specs.Queues.{queue-here, queue-there, headPending, refitted, FirstHas, first-has, put-each}
+use Rattle.soundness.specs.Sound.{PlaceIn, PendingIn, TreeIn, Homed, QueueIn}
+use Rattle.soundness.specs.Destinations.{block-below}
 
 -- a label with an entry is below n
 entry-below : (image : List ℕ) (l : ℕ) → (entry (recordAt image l) ≡ 0 → ⊥) → l < labels image

@@ -1,0 +1,1 @@
+// Small laws of the rules that the layers share: theorems only, in specs/.

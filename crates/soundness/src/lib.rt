@@ -1,0 +1,1 @@
+// Well-formed states stay well formed: theorems only, in specs/.
