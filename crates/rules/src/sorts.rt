@@ -58,6 +58,12 @@ pub fn thread_number(t: Thread) -> u8
     t.0
 }
 
+pub fn same_thread(a: Thread, b: Thread) -> bool
+    ensures { λ r. ⌜ r ≡ eqb (a .0) (b .0) ⌝ }
+{
+    a.0 == b.0
+}
+
 pub fn lock_of(b: Block) -> Lock
     ensures { λ r. ⌜ r ≡ lock (b .0) ⌝ }
 {
