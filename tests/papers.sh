@@ -8,8 +8,12 @@ shift
 root=$PWD
 folder=$(mktemp -d)
 trap 'rm -rf "$folder"' EXIT
-for entry in "$root"/*; do ln -s "$entry" "$folder/"; done
-rm -f "$folder/target"
+for entry in "$root"/*; do
+    [ -d "$entry" ] || { ln -s "$entry" "$folder/"; continue; }
+    mkdir "$folder/${entry##*/}"
+    ln -s "$entry"/* "$folder/${entry##*/}/"
+done
+rm -rf "$folder/target"
 mkdir -p "$folder/target/staticlib"
 ln -s "$library" "$folder/target/staticlib/libplex.a"
 
