@@ -34,6 +34,7 @@ SOURCES_one_by_one = examples/one_by_one.c $(COMMON)
 SOURCES_scheduler = $(wildcard examples/scheduler/*.c) host/common/build.c
 FLAGS_bench = -O3
 FLAGS_header = -Wc++-compat
+FLAGS_stack = -Wl,-z,now
 HEADERS = $(wildcard include/*.h host/*/*.h tests/*.h examples/*/*.h)
 COMPILE = $(CC) $(CFLAGS) $(FLAGS_$*) -Iinclude -Ihost/common -Ihost/command -Ihost/bench
 
@@ -70,8 +71,9 @@ sorts:
 CASES = $(sort $(basename $(wildcard crates/trials/data/[0-9]*.image)))
 host: $(addprefix build/,header header++ words-safe explanations-safe lending lending-safe stack demo-safe)
 	sh tests/library.sh $(LIBRARY)
-	for program in header header++ words-safe explanations-safe "lending $(CASES)" "lending-safe $(CASES)" "stack $(CASES)"; do \
+	@for program in header header++ words-safe explanations-safe "lending $(CASES)" "lending-safe $(CASES)"; do \
 	    ./build/$$program || exit 1; done
+	@sh tests/stack.sh $(CASES)
 	./build/demo-safe | diff - host/demo/expected.txt
 
 command: build/plex build/demo build/plex-safe build/demo-safe
@@ -79,7 +81,8 @@ command: build/plex build/demo build/plex-safe build/demo-safe
 	sh tests/command.sh build/plex-safe build/demo-safe
 
 examples: $(addprefix build/,one_by_one-safe scheduler scheduler-safe scheduler-race)
-	for program in one_by_one-safe scheduler scheduler-safe scheduler-race; do timeout 120 ./build/$$program || exit 1; done
+	./build/one_by_one-safe >build/one_by_one.txt
+	for program in scheduler scheduler-safe scheduler-race; do timeout 120 ./build/$$program || exit 1; done
 
 # the commands that the papers show, with what they print
 papers: build/plex build/demo build/one_by_one

@@ -11,7 +11,7 @@
 #include <stdlib.h>
 #include <string.h>
 
-enum { LIMIT = 64 * 1024, SPACE = 1024 * 1024, FILLED = 0xA5, RING_EVENTS = 3 * PLEX_THREADS };
+enum { SPACE = 1024 * 1024, FILLED = 0xA5, RING_EVENTS = 3 * PLEX_THREADS };
 
 static struct trial trial;
 static uint8_t state[PLEX_STATE_SIZE], answers[PLEX_EVENTS_MAX * PLEX_ANSWER_SIZE], met[PLEX_MET_SIZE];
@@ -122,7 +122,7 @@ int main(int count, char **names)
     int failed = 0;
     for (size_t i = 0; i < sizeof calls / sizeof calls[0]; i++) {
         printf("stack: %s needs at most %zu bytes\n", calls[i].name, calls[i].most);
-        failed |= calls[i].most > LIMIT;
+        failed |= calls[i].most > PLEX_STACK_MAX;
     }
     return failed;
 }
