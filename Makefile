@@ -70,6 +70,7 @@ sorts:
 # what the library asks of a host and of the system; the demo's output is held to a file
 CASES = $(sort $(basename $(wildcard crates/trials/data/[0-9]*.image)))
 host: $(addprefix build/,header header++ words-safe explanations-safe lending lending-safe stack demo-safe)
+	sh tests/progress.sh
 	sh tests/library.sh $(LIBRARY)
 	@for program in header header++ words-safe explanations-safe "lending $(CASES)" "lending-safe $(CASES)"; do \
 	    ./build/$$program || exit 1; done

@@ -25,15 +25,20 @@ echo "libplex.a: $total crates to prove, some minutes on a fresh machine; the pr
     rt staticlib plex 2>&1
     echo $? >"$status"
 } | {
-    left=$total
+    left=$total since=$(date +%s)
+    # tell CRATE TIME
+    tell() {
+        left=$((left - 1))
+        since=$(date +%s)
+        printf '%-12s %-10s %2d left\n' "$1" "$2" "$left"
+    }
     while IFS= read -r line; do
         printf '%s\n' "$line" >&3
+        crate=${line#rt: }
         case $line in
-            'rt: '*' proved ('*)
-                left=$((left - 1))
-                crate=${line#rt: } took=${line#*proved (}
-                printf '%-12s %-10s %2d left\n' "${crate%% *}" "$(echo "${took%)}" | cut -d ' ' -f 1-2 | sed 's/ since//')" "$left"
-                ;;
+            'rt: '*' proved (unchanged'*) tell "${crate%% *}" unchanged ;;
+            'rt: '*' proved ('*) tell "${crate%% *}" "$(expr "$line" : '.*(\(.*\))')" ;;
+            'rt: target/staticlib/libplex.a '*) tell plex "$(($(date +%s) - since)) s" ;;
         esac
     done
 } 3>"$log"
