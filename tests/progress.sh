@@ -5,15 +5,15 @@ set -u
 root=$PWD
 folder=$(mktemp -d)
 trap 'rm -rf "$folder"' EXIT
-cp crates.txt "$folder"
+printf '# a comment: rules\nrules:\nfields: rules\none_by_one: rules\nwaits: rules fields\nplex: rules waits\ntrials: plex io\n' \
+    >"$folder/crates.txt"
 cat >"$folder/rt" <<'END'
 #!/bin/sh
 [ "$*" = 'staticlib plex' ] || exit 9
 echo 'fn rules::sorts::block_of: proved'
 echo 'rt: rules proved (9 s)'
-for crate in $(sed -n 's/^\([a-z_]*\):.*/\1/p' crates.txt); do
-    case $crate in rules | calls | plex | trials) ;; *) echo "rt: $crate proved (unchanged since it was last proved)" ;; esac
-done
+echo 'rt: fields proved (unchanged since it was last proved)'
+echo 'rt: waits proved (12 s)'
 [ "$FAILING" = 0 ] || { echo 'rt: plex NOT PROVED (exit 3, 1 s)' >&2; exit 3; }
 echo 'rt: target/staticlib/libplex.a has the functions of plex'
 END
@@ -32,10 +32,11 @@ holds() {
 
 tried 0
 holds 'status 0' [ $? = 0 ]
-holds 'a time' grep -q '^rules  *9 s  *21 left$' said
-holds 'one that is unchanged' grep -q '^fields  *unchanged  *20 left$' said
+holds 'how many there are' grep -q '^libplex.a: 4 crates to prove' said
+holds 'a time' grep -q '^rules  *9 s  *3 left$' said
+holds 'one that is unchanged' grep -q '^fields  *unchanged  *2 left$' said
 holds 'the last one' grep -q '^plex  *[0-9]* s  *0 left$' said
-holds 'a line for each crate' [ "$(grep -c ' left$' said)" = 22 ]
+holds 'a line for each crate' [ "$(grep -c ' left$' said)" = 4 ]
 holds 'the log has the rest' grep -q 'block_of: proved' build/prove.log
 tried 1
 holds 'status 3' [ $? = 3 ]
