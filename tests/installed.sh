@@ -8,7 +8,7 @@ libdir=$place/lib/elsewhere
 
 # put DESTDIR TARGET
 put() {
-    "$MAKE" --no-print-directory "$2" "DESTDIR=$1" "PREFIX=$place" "LIBDIR=$libdir" >>build/install.log
+    make --no-print-directory "$2" "DESTDIR=$1" "PREFIX=$place" "LIBDIR=$libdir" >>build/install.log
 }
 # files FOLDER: what is there that is no folder
 files() {
