@@ -195,7 +195,7 @@ int main(void)
     drain();
     demand(balances_right(machine.state, TRANSFERS), "every transfer carried out once");
     demand(machine.rings > 0, "a ring cut");
-    printf("scheduler: %u events in %u calls; %d transfers, each carried out once; %d endless jobs and %u rings cut\n",
+    printf("scheduler: %u events in %u calls; %d transfers, each carried out once; endless jobs cut: %d; rings cut: %u\n",
            machine.events, machine.calls, PLEX_THREADS * TRANSFERS, PLEX_THREADS * LOOPS, machine.rings);
     return 0;
 }
