@@ -1,46 +1,55 @@
 # make demo   builds the proved library and runs the main job from a C host
 # make test   passes the tests: the proofs, the must-fail edits, the trials, the hosts, the second implementation
 CFLAGS = -std=c11 -O2 -Wall -Wextra -Werror
-SANITIZE = -fsanitize=address,undefined -fno-sanitize-recover=all -g
-LIBRARY = target/staticlib/libplex.a
-PREFIX ?= /usr/local
-DESTDIR ?=
-VERSION = 0.1.0
-SECONDS ?= 60
-INSTALL = install
 CXX ?= g++
 CXXFLAGS = -std=c++11 -O2 -Wall -Wextra -Werror
+LDLIBS = -lm -pthread
+LIBRARY = target/staticlib/libplex.a
+SECONDS ?= 60
 
-.PHONY: all demo bench test prove sorts host stack header command second compare soak replay install installed clean
+.PHONY: all demo bench test prove sorts host command examples papers second compare soak replay \
+    install uninstall installed clean
 
 all: $(LIBRARY) build/plex build/demo
 
 # the library is built from the proved crates: rt proves what changed and nothing else
-$(LIBRARY): $(shell find crates -name '*.rt' -o -name '*.antt' 2>/dev/null) crates.txt
-	rt staticlib plex
+$(LIBRARY): $(shell find crates -name '*.rt' -o -name '*.antt' 2>/dev/null) crates.txt | build
+	sh tools/library.sh
 
 build:
 	mkdir -p build
 
-INCLUDES = -Iinclude -Ihost/common
-HEADERS = include/plex.h $(wildcard host/*/*.h)
+# ---- programs: build/NAME is made of SOURCES_NAME, build/NAME-safe and build/NAME-race with sanitizers
 COMMON = $(wildcard host/common/*.c)
-DEMO = $(wildcard host/demo/*.c) $(COMMON)
-COMMAND = $(wildcard host/command/*.c) $(COMMON)
-BENCH = $(wildcard host/bench/*.c) host/common/build.c
-IN_WORDS = host/common/build.c host/common/names.c host/common/words.c
-WORDS = tests/words.c $(IN_WORDS)
-EXPLANATIONS = tests/explanations.c $(wildcard host/command/explain*.c) \
-    host/bench/bench_image.c $(IN_WORDS)
+SOURCES_demo = $(wildcard host/demo/*.c) $(COMMON)
+SOURCES_plex = $(wildcard host/command/*.c) $(COMMON)
+SOURCES_bench = $(wildcard host/bench/*.c) host/common/build.c
+SOURCES_words = tests/words.c $(COMMON)
+SOURCES_explanations = tests/explanations.c $(wildcard host/command/explain*.c) \
+    host/bench/bench_image.c $(COMMON)
+SOURCES_lending = tests/lending.c tests/cases.c
+SOURCES_stack = tests/stack.c tests/cases.c host/common/build.c
+SOURCES_header = tests/header.c
+SOURCES_one_by_one = examples/one_by_one.c $(COMMON)
+SOURCES_scheduler = $(wildcard examples/scheduler/*.c) host/common/build.c
+FLAGS_bench = -O3
+FLAGS_header = -Wc++-compat
+FLAGS_stack = -Wl,-z,now
+HEADERS = $(wildcard include/*.h host/*/*.h tests/*.h examples/*/*.h)
+COMPILE = $(CC) $(CFLAGS) $(FLAGS_$*) -Iinclude -Ihost/common -Ihost/command -Ihost/bench
 
-build/demo: $(DEMO) $(HEADERS) $(LIBRARY) | build
-	$(CC) $(CFLAGS) $(INCLUDES) -o $@ $(DEMO) $(LIBRARY)
+.SECONDEXPANSION:
+build/%-safe: $$(SOURCES_$$*) $(HEADERS) $(LIBRARY) | build
+	$(COMPILE) -g -fsanitize=address,undefined -fno-sanitize-recover=all -o $@ $(SOURCES_$*) $(LIBRARY) $(LDLIBS)
 
-build/plex: $(COMMAND) $(HEADERS) $(LIBRARY) | build
-	$(CC) $(CFLAGS) $(INCLUDES) -o $@ $(COMMAND) $(LIBRARY)
+build/%-race: $$(SOURCES_$$*) $(HEADERS) $(LIBRARY) | build
+	$(COMPILE) -g -fsanitize=thread -o $@ $(SOURCES_$*) $(LIBRARY) $(LDLIBS)
 
-build/bench: $(BENCH) $(HEADERS) $(LIBRARY) | build
-	$(CC) $(CFLAGS) -O3 $(INCLUDES) -Ihost/bench -o $@ $(BENCH) $(LIBRARY) -lm
+build/header++: tests/header.c include/plex.h $(LIBRARY) | build
+	$(CXX) $(CXXFLAGS) -Iinclude -o $@ -x c++ tests/header.c -x none $(LIBRARY)
+
+build/%: $$(SOURCES_$$*) $(HEADERS) $(LIBRARY) | build
+	$(COMPILE) -o $@ $(SOURCES_$*) $(LIBRARY) $(LDLIBS)
 
 demo: build/demo
 	./build/demo
@@ -58,46 +67,30 @@ prove: | build
 sorts:
 	sh tests/sorts.sh
 
-# the hosts' own code, with the sanitizers; the demo's output is held to a file
-build/demo-safe: $(DEMO) $(HEADERS) $(LIBRARY) | build
-	$(CC) $(CFLAGS) $(SANITIZE) $(INCLUDES) -o $@ $(DEMO) $(LIBRARY)
-
-build/plex-safe: $(COMMAND) $(HEADERS) $(LIBRARY) | build
-	$(CC) $(CFLAGS) $(SANITIZE) $(INCLUDES) -o $@ $(COMMAND) $(LIBRARY)
-
-build/words-safe: $(WORDS) $(HEADERS) | build
-	$(CC) $(CFLAGS) $(SANITIZE) $(INCLUDES) -o $@ $(WORDS)
-
-build/explanations-safe: $(EXPLANATIONS) $(HEADERS) $(LIBRARY) | build
-	$(CC) $(CFLAGS) $(SANITIZE) $(INCLUDES) -Ihost/command -Ihost/bench -o $@ \
-	    $(EXPLANATIONS) $(LIBRARY)
-
-build/header: tests/header.c include/plex.h $(LIBRARY) | build
-	$(CC) $(CFLAGS) -Wc++-compat -Iinclude -o $@ tests/header.c $(LIBRARY)
-
-build/header++: tests/header.c include/plex.h $(LIBRARY) | build
-	$(CXX) $(CXXFLAGS) -Iinclude -o $@ -x c++ tests/header.c -x none $(LIBRARY)
-
-header: build/header build/header++
-	./build/header
-	./build/header++
-
-host: header build/words-safe build/explanations-safe build/demo-safe
-	./build/words-safe
-	./build/explanations-safe
+# what the library asks of a host and of the system; the demo's output is held to a file
+CASES = $(sort $(basename $(wildcard crates/trials/data/[0-9]*.image)))
+host: $(addprefix build/,header header++ words-safe explanations-safe lending lending-safe stack demo-safe)
+	sh tests/progress.sh
+	sh tests/library.sh $(LIBRARY)
+	@for program in header header++ words-safe explanations-safe "lending $(CASES)" "lending-safe $(CASES)"; do \
+	    ./build/$$program || exit 1; done
+	@sh tests/stack.sh $(CASES)
 	./build/demo-safe | diff - host/demo/expected.txt
 
 command: build/plex build/demo build/plex-safe build/demo-safe
 	sh tests/command.sh build/plex build/demo
 	sh tests/command.sh build/plex-safe build/demo-safe
 
-build/stack: tests/stack.c include/plex.h $(LIBRARY) | build
-	$(CC) $(CFLAGS) -Iinclude -pthread -o $@ tests/stack.c $(LIBRARY)
+# the thread sanitizer wants addresses that are not random, where the system lets a program choose
+FIXED = $(shell setarch -R true 2>/dev/null && echo setarch -R)
+examples: $(addprefix build/,one_by_one-safe scheduler scheduler-safe scheduler-race)
+	./build/one_by_one-safe >build/one_by_one.txt
+	for program in scheduler scheduler-safe; do timeout 120 ./build/$$program || exit 1; done
+	$(FIXED) timeout 120 ./build/scheduler-race
 
-# the stack that each call needs, on the largest case of the trials
-CASE = crates/trials/data/025
-stack: build/stack
-	./build/stack $(CASE).image $(CASE).table $(CASE).words $(CASE).events
+# the commands that the papers show, with what they print
+papers: build/plex build/demo build/one_by_one
+	sh tests/papers.sh $(abspath $(LIBRARY)) README.md docs/MACHINE.md
 
 second:
 	cd second && CARGO_TARGET_DIR=$(CURDIR)/build/cargo cargo test --offline --quiet
@@ -116,35 +109,42 @@ replay: $(LIBRARY) | build
 	$(COMPARE) replay $(SEED)
 
 test: prove
-	$(MAKE) --no-print-directory sorts host stack command second compare installed
+	$(MAKE) --no-print-directory sorts host command examples papers second compare installed
 	@tail -n 1 build/ci.log
 
-# ---- installation
+# ---- installation: the places have GNU's names; DESTDIR goes before each of them
+PREFIX ?= /usr/local
+BINDIR ?= $(PREFIX)/bin
+LIBDIR ?= $(PREFIX)/lib
+INCLUDEDIR ?= $(PREFIX)/include
+MANDIR ?= $(PREFIX)/share/man
+DOCDIR ?= $(PREFIX)/share/doc/plex
+DESTDIR ?=
+INSTALL = install
+VERSION = $(shell sed -n 's/^\#define PLEX_VERSION "\(.*\)"$$/\1/p' include/plex.h)
+CALLS = check fresh run walk
+PAPERS = docs/HOSTS.md docs/MACHINE.md
 
-# make install PREFIX=..: library, header, pkg-config file, command, manual pages
-PLACE = $(DESTDIR)$(PREFIX)
 install: all
-	$(INSTALL) -d $(PLACE)/lib/pkgconfig $(PLACE)/include $(PLACE)/bin \
-	    $(PLACE)/share/man/man1 $(PLACE)/share/man/man3
-	$(INSTALL) -m 644 $(LIBRARY) $(PLACE)/lib/libplex.a
-	$(INSTALL) -m 644 include/plex.h $(PLACE)/include/plex.h
-	$(INSTALL) -m 755 build/plex $(PLACE)/bin/plex
-	sed -e 's|@PREFIX@|$(PREFIX)|' -e 's|@VERSION@|$(VERSION)|' host/plex.pc.in \
-	    >$(PLACE)/lib/pkgconfig/plex.pc
-	$(INSTALL) -m 644 man/plex.1 $(PLACE)/share/man/man1/plex.1
-	$(INSTALL) -m 644 man/plex.3 $(PLACE)/share/man/man3/plex.3
-	for call in check fresh run walk; do \
-	    ln -sf plex.3 $(PLACE)/share/man/man3/plex_$$call.3; done
+	$(INSTALL) -d $(addprefix $(DESTDIR),$(BINDIR) $(LIBDIR)/pkgconfig $(INCLUDEDIR) $(MANDIR)/man1 $(MANDIR)/man3 $(DOCDIR))
+	$(INSTALL) -m 755 build/plex $(DESTDIR)$(BINDIR)
+	$(INSTALL) -m 644 $(LIBRARY) $(DESTDIR)$(LIBDIR)/libplex.a
+	sed -e 's|@PREFIX@|$(PREFIX)|' -e 's|@LIBDIR@|$(LIBDIR:$(PREFIX)/%=$${prefix}/%)|' \
+	    -e 's|@INCLUDEDIR@|$(INCLUDEDIR:$(PREFIX)/%=$${prefix}/%)|' -e 's|@VERSION@|$(VERSION)|' \
+	    host/plex.pc.in >$(DESTDIR)$(LIBDIR)/pkgconfig/plex.pc
+	$(INSTALL) -m 644 include/plex.h $(DESTDIR)$(INCLUDEDIR)
+	$(INSTALL) -m 644 man/plex.1 $(DESTDIR)$(MANDIR)/man1
+	$(INSTALL) -m 644 man/plex.3 $(DESTDIR)$(MANDIR)/man3
+	for call in $(CALLS); do ln -sf plex.3 $(DESTDIR)$(MANDIR)/man3/plex_$$call.3; done
+	$(INSTALL) -m 644 $(PAPERS) $(DESTDIR)$(DOCDIR)
 
-# an installation by itself: a program built with what pkg-config says of it
-INSTALLED = $(CURDIR)/build/installed
-installed: | build
-	rm -rf $(INSTALLED)
-	$(MAKE) --no-print-directory install PREFIX=$(INSTALLED) DESTDIR= >build/install.log
-	flags=$$(PKG_CONFIG_PATH=$(INSTALLED)/lib/pkgconfig pkg-config --cflags --libs plex) && \
-	    $(CC) $(CFLAGS) -o build/header-installed tests/header.c $$flags
-	./build/header-installed
-	$(INSTALLED)/bin/plex --help >build/install.log
+uninstall:
+	rm -f $(addprefix $(DESTDIR),$(BINDIR)/plex $(LIBDIR)/libplex.a $(LIBDIR)/pkgconfig/plex.pc $(INCLUDEDIR)/plex.h \
+	    $(MANDIR)/man1/plex.1 $(MANDIR)/man3/plex.3 $(CALLS:%=$(MANDIR)/man3/plex_%.3) $(PAPERS:docs/%=$(DOCDIR)/%))
+	rmdir $(DESTDIR)$(DOCDIR) 2>/dev/null || true
+
+installed: all
+	CC='$(CC)' sh tests/installed.sh $(VERSION)
 
 clean:
 	rm -rf build target

@@ -1,9 +1,30 @@
 /* The Core PLEX plug-in machine: four calls on lent bytes.
  *
- * Every buffer is a pointer and its length in bytes. The buffers of one call do not overlap. A
- * call reads and alters nothing but the buffers that it is lent, keeps no pointer, keeps nothing
- * between calls and uses no heap: the machine is the bytes of its state, and calls on different
- * states may go on side by side. A pointer whose length is 0 is not used.
+ * docs/MACHINE.md is the reference of the formats and rules, docs/HOSTS.md the guide for hosts.
+ *
+ * Every buffer is a pointer and its length in bytes. A call reads and alters nothing but the
+ * buffers that it is lent, keeps no pointer and keeps nothing between calls: the machine is the
+ * bytes of its state. What is promised below holds if the host keeps these rules:
+ *
+ * - From a call's begin to its end nobody else alters a lent byte: no other thread, no signal
+ *   handler, no device, no other process through shared memory or a mapped file. A call tests
+ *   the bytes once and then relies on them. If a byte changes after its test, the call may write
+ *   outside the buffers. So copy an image out of memory that a guest or a file can still change,
+ *   and hand the copy over.
+ * - One call at a time on one state. Calls on different states may go on side by side, also with
+ *   the same image and table, which are only read.
+ * - The buffers of one call do not overlap: no byte lies in two of them. If a buffer that the
+ *   call alters has a byte in common with another one, that is an alteration during the call, as
+ *   above. Buffers that meet end to end do not overlap.
+ *
+ * The host need not see to these:
+ *
+ * - Alignment is free: any address will do for any buffer.
+ * - A pointer of length 0 is not used. It may be NULL.
+ * - A call needs at most PLEX_STACK_MAX bytes of stack, 64 KiB. Measured: 1,536 bytes.
+ * - No heap, no locks, no globals, no system calls; of the C library memcpy, memmove and memset
+ *   alone. The calls are safe in any thread and in a signal handler, also while another call is
+ *   interrupted, on another state.
  *
  * Each call returns 65,536 x number + place if it refuses, and then it has altered no lent byte.
  * PLEX_NUMBER and PLEX_PLACE take a return value apart; PLEX_NUMBER is 0 exactly if the call was
@@ -21,6 +42,11 @@
 extern "C" {
 #endif
 
+/* ---- Versions: of the library and its papers, and of the formats. The latter is raised by each
+ * change of a format; no buffer holds it, so a host notes it beside the bytes that it keeps. */
+#define PLEX_VERSION "0.2.0"
+#define PLEX_FORMAT_VERSION 1
+
 /* ---- Limits. */
 #define PLEX_THREADS 8        /* threads of a machine */
 #define PLEX_BLOCKS 16        /* blocks of a machine; lock b guards block b */
@@ -31,6 +57,7 @@ extern "C" {
 #define PLEX_PENDING_MAX 8    /* pending signals of a tree */
 #define PLEX_RECORDS_MAX 512  /* records of an image; at least 1 */
 #define PLEX_EVENTS_MAX 1024  /* events of one Run; at least 0 */
+#define PLEX_STACK_MAX 65536  /* bytes of stack that a call needs at most */
 
 /* ---- Sizes in bytes. */
 #define PLEX_RECORD_SIZE 84   /* a record of the image; its index is its label */

@@ -24,6 +24,12 @@ HOLDS(PLEX_TREE_SIGNALS + PLEX_PENDING_MAX * PLEX_SIGNAL_SIZE == PLEX_TREE_SIZE)
 HOLDS(PLEX_SIGNAL_VALUES + 2 * PLEX_REGISTERS == PLEX_SIGNAL_SIZE);
 HOLDS(PLEX_EVENT_SIGNAL + PLEX_SIGNAL_SIZE == PLEX_EVENT_SIZE);
 
+/* Version 1 of the formats: whoever changes one of them raises the version. */
+HOLDS(PLEX_FORMAT_VERSION == 1);
+HOLDS(PLEX_RECORD_SIZE == 84 && PLEX_TABLE_SIZE == 32 && PLEX_WORDS_SIZE == 512);
+HOLDS(PLEX_STATE_SIZE == 7929 && PLEX_EVENT_SIZE == 55 && PLEX_ANSWER_SIZE == 2);
+HOLDS(PLEX_EXIT == 10 && PLEX_CUT == 3 && PLEX_NOTHING_TO_CUT == 10 && PLEX_FOREIGN_FD_BLOCK == 5);
+
 enum { RECORDS = 2, EVENTS = 5 };
 
 static uint8_t image[RECORDS * PLEX_RECORD_SIZE], table[PLEX_TABLE_SIZE], words[PLEX_WORDS_SIZE];
@@ -85,8 +91,16 @@ static void refuse(void)
     expect("empty image", PLEX_NUMBER(result) == PLEX_BAD_IMAGE_LENGTH);
 }
 
+static void versions(void)
+{
+    unsigned major, minor, patch;
+    char after;
+    expect("version", sscanf(PLEX_VERSION, "%u.%u.%u%c", &major, &minor, &patch, &after) == 3);
+}
+
 int main(void)
 {
+    versions();
     fill();
     carry_out();
     refuse();

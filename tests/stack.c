@@ -1,68 +1,67 @@
-/* How much stack the calls need: each is made on a thread whose stack was filled with one byte beforehand, and the bytes that
-   another value stands in afterwards were used. The files are a case of the trials: IMAGE TABLE WORDS EVENTS. */
+/* How much stack the calls need: each is made on a thread whose stack was filled with one byte
+ * beforehand, and the bytes that another value stands in afterwards were used. The walk goes along
+ * a ring of all eight threads, the longest that there is. Use: stack CASE.. */
 #define _POSIX_C_SOURCE 200809L
+
+#include "build.h"
+#include "cases.h"
+
 #include <pthread.h>
 #include <stdio.h>
 #include <stdlib.h>
 #include <string.h>
-#include "plex.h"
 
-enum { LIMIT = 64 * 1024, SPACE = 1024 * 1024, FILLED = 0xA5 };
+enum { SPACE = 1024 * 1024, FILLED = 0xA5, RING_EVENTS = 3 * PLEX_THREADS };
 
-static uint8_t image[PLEX_RECORDS_MAX * PLEX_RECORD_SIZE], table[PLEX_TABLE_SIZE], words[PLEX_WORDS_SIZE];
-static uint8_t events[PLEX_EVENTS_MAX * PLEX_EVENT_SIZE], answers[PLEX_EVENTS_MAX * PLEX_ANSWER_SIZE];
-static uint8_t state[PLEX_STATE_SIZE], met[PLEX_MET_SIZE];
-static size_t image_len, table_len, words_len, events_len;
+static struct trial trial;
+static uint8_t state[PLEX_STATE_SIZE], answers[PLEX_EVENTS_MAX * PLEX_ANSWER_SIZE], met[PLEX_MET_SIZE];
 
-static size_t load(const char *name, uint8_t *into, size_t room) {
-    FILE *file = fopen(name, "rb");
-    if (file == NULL) {
-        fprintf(stderr, "stack: %s cannot be read\n", name);
-        exit(2);
-    }
-    size_t count = fread(into, 1, room, file);
-    fclose(file);
-    return count;
-}
-
-static void *nothing(void *result) {
+static void *nothing(void *result)
+{
     *(uint32_t *)result = 0;
     return NULL;
 }
 
-static void *check(void *result) {
-    *(uint32_t *)result = plex_check(image, image_len, table, table_len);
+static void *check(void *result)
+{
+    *(uint32_t *)result = plex_check(trial.image, trial.image_len, trial.table, sizeof trial.table);
     return NULL;
 }
 
-static void *fresh(void *result) {
-    *(uint32_t *)result = plex_fresh(image, image_len, table, table_len, words, words_len, state, sizeof state);
+static void *fresh(void *result)
+{
+    *(uint32_t *)result = plex_fresh(trial.image, trial.image_len, trial.table, sizeof trial.table,
+                                     trial.words, sizeof trial.words, state, sizeof state);
     return NULL;
 }
 
-static void *run(void *result) {
-    size_t room = events_len / PLEX_EVENT_SIZE * PLEX_ANSWER_SIZE;
-    *(uint32_t *)result =
-        plex_run(image, image_len, table, table_len, state, sizeof state, events, events_len, answers, room);
+static void *run(void *result)
+{
+    *(uint32_t *)result = plex_run(trial.image, trial.image_len, trial.table, sizeof trial.table, state,
+                                   sizeof state, trial.events, trial.events_len, answers, trial.answers_len);
     return NULL;
 }
 
-static void *walk(void *result) {
-    uint32_t found = plex_walk(image, image_len, table, table_len, state, sizeof state, 0, met, sizeof met);
-    *(uint32_t *)result = PLEX_NUMBER(found);
+/* 0 if the walk met all threads in a ring. */
+static void *walk(void *result)
+{
+    *(uint32_t *)result = plex_walk(trial.image, trial.image_len, trial.table, sizeof trial.table, state,
+                                    sizeof state, 0, met, sizeof met) ^ (PLEX_RING + PLEX_THREADS);
     return NULL;
 }
 
 /* The stack that a thread with this work used; the thread's own part is in it. */
-static size_t used(void *(*work)(void *)) {
+static size_t used(void *(*work)(void *))
+{
     static _Alignas(4096) uint8_t stack[SPACE];
     memset(stack, FILLED, sizeof stack);
     pthread_attr_t attributes;
     pthread_t thread;
     uint32_t result = 1;
     pthread_attr_init(&attributes);
-    if (pthread_attr_setstack(&attributes, stack, sizeof stack) != 0 ||
-        pthread_create(&thread, &attributes, work, &result) != 0 || pthread_join(thread, NULL) != 0 || result != 0) {
+    if (pthread_attr_setstack(&attributes, stack, sizeof stack) != 0
+        || pthread_create(&thread, &attributes, work, &result) != 0
+        || pthread_join(thread, NULL) != 0 || result != 0) {
         fprintf(stderr, "stack: a call was not carried out, result %u\n", result);
         exit(2);
     }
@@ -73,24 +72,57 @@ static size_t used(void *(*work)(void *)) {
     return sizeof stack - first;
 }
 
-int main(int count, char **names) {
-    if (count != 5) {
-        fprintf(stderr, "stack: IMAGE TABLE WORDS EVENTS\n");
+/* Block t is thread t's, and its guest calls block t + 1: once all have started, all wait. */
+static void make_ring(void)
+{
+    memset(&trial, 0, sizeof trial);
+    for (uint32_t t = 0; t < PLEX_THREADS; t++) {
+        uint16_t after = (uint16_t)(3 * t + 1), called = (uint16_t)(3 * ((t + 1) % PLEX_THREADS) + 2);
+        struct statement guest[] = {
+            {(uint8_t)t, PLEX_EXTERNAL, PLEX_CALL, 0, called, after, 0, {NUMBER(0)}},
+            {(uint8_t)t, PLEX_NO_ENTRY, PLEX_EXIT, 0, 0, 0, 0, {NUMBER(0)}},
+            {(uint8_t)t, PLEX_DIRECT, PLEX_RETURN, 0, 0, 0, 0, {NUMBER(0)}}};
+        for (uint32_t i = 0; i < 3; i++)
+            put_statement(trial.image + PLEX_RECORD_SIZE * (3 * t + i), &guest[i]);
+        trial.table[PLEX_ROW_SIZE * t + PLEX_ROW_THREAD] = (uint8_t)t;
+        trial.table[PLEX_ROW_SIZE * t + PLEX_ROW_KIND] = PLEX_CMX;
+        put_arrival(trial.events + PLEX_EVENT_SIZE * t, 3 * t, NULL, 0);
+        put_step(trial.events + PLEX_EVENT_SIZE * (PLEX_THREADS + t), t);
+        put_step(trial.events + PLEX_EVENT_SIZE * (2 * PLEX_THREADS + t), t);
+    }
+    trial.image_len = 3 * PLEX_THREADS * PLEX_RECORD_SIZE;
+    trial.events_len = RING_EVENTS * PLEX_EVENT_SIZE;
+    trial.answers_len = RING_EVENTS * PLEX_ANSWER_SIZE;
+}
+
+static struct { const char *name; void *(*work)(void *); size_t most; } calls[] = {
+    {"check", check, 0}, {"fresh", fresh, 0}, {"run", run, 0}, {"walk", walk, 0}};
+
+static void measure(size_t count)
+{
+    size_t thread = used(nothing);
+    for (size_t i = 0; i < count; i++) {
+        size_t all = used(calls[i].work), own = all > thread ? all - thread : 0;
+        calls[i].most = own > calls[i].most ? own : calls[i].most;
+    }
+}
+
+int main(int count, char **names)
+{
+    if (count < 2) {
+        fprintf(stderr, "stack: CASE..\n");
         return 2;
     }
-    image_len = load(names[1], image, sizeof image);
-    table_len = load(names[2], table, sizeof table);
-    words_len = load(names[3], words, sizeof words);
-    events_len = load(names[4], events, sizeof events);
-    size_t thread = used(nothing);
-    struct { const char *name; void *(*work)(void *); } calls[] = {
-        {"check", check}, {"fresh", fresh}, {"run", run}, {"walk", walk}};
+    for (int i = 1; i < count; i++) {
+        load_trial(&trial, names[i]);
+        measure(3);
+    }
+    make_ring();
+    measure(4);
     int failed = 0;
     for (size_t i = 0; i < sizeof calls / sizeof calls[0]; i++) {
-        size_t all = used(calls[i].work);
-        size_t own = all > thread ? all - thread : 0;
-        printf("stack: %s needs %zu bytes\n", calls[i].name, own);
-        failed |= own > LIMIT;
+        printf("stack: %s needs at most %zu bytes\n", calls[i].name, calls[i].most);
+        failed |= calls[i].most > PLEX_STACK_MAX;
     }
     return failed;
 }

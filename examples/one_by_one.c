@@ -1,0 +1,156 @@
+/* The one-by-one reading, worked on two threads: an event list is carried out, the second order is
+ * made from its events and answers, and the second order is carried out on a fresh machine. Both
+ * have to leave the same state bytes, and each event to get the same answer. */
+#include "build.h"
+#include "words.h"
+
+#include <stdio.h>
+#include <string.h>
+
+enum { RECORDS = 6, EVENTS = 16, COUNTER = 4, ASKER = 5 };
+
+/* Block 4, thread 0: adds what it is sent to its word; tells its word to a caller. Block 5, thread
+ * 1: asks block 4 and keeps what it is told. */
+static const struct statement program[RECORDS] = {
+    {COUNTER, PLEX_EXTERNAL, PLEX_ASSIGN, PLEX_ADD, 1, 0, 3, {WORD(0), WORD(0), REGISTER(0)}},
+    {COUNTER, PLEX_NO_ENTRY, PLEX_EXIT, 0, 0, 0, 0, {NUMBER(0)}},
+    {COUNTER, PLEX_DIRECT, PLEX_RETURN, 0, 0, 0, 1, {WORD(0)}},
+    {ASKER, PLEX_EXTERNAL, PLEX_CALL, 0, 2, 4, 0, {NUMBER(0)}},
+    {ASKER, PLEX_NO_ENTRY, PLEX_ASSIGN, PLEX_COPY, 5, 0, 2, {WORD(0), REGISTER(0)}},
+    {ASKER, PLEX_NO_ENTRY, PLEX_EXIT, 0, 0, 0, 0, {NUMBER(0)}},
+};
+
+static const uint8_t table[PLEX_TABLE_SIZE] = {
+    [PLEX_ROW_SIZE * COUNTER + PLEX_ROW_KIND] = PLEX_CMX,
+    [PLEX_ROW_SIZE * ASKER + PLEX_ROW_THREAD] = 1, [PLEX_ROW_SIZE * ASKER + PLEX_ROW_KIND] = PLEX_CMX};
+static const uint8_t words[PLEX_WORDS_SIZE];
+static uint8_t image[RECORDS * PLEX_RECORD_SIZE];
+
+/* An event list with its answers, and the number that each event has in the first order. */
+struct list {
+    uint8_t events[EVENTS * PLEX_EVENT_SIZE], answers[EVENTS * PLEX_ANSWER_SIZE];
+    uint32_t numbers[EVENTS], count;
+};
+
+static void print_image(void)
+{
+    for (uint32_t label = 0; label < RECORDS; label++) {
+        struct line line = {0};
+        add_statement(&line, record_at(image, label));
+        printf("label %u, block %u: %-30s", label, program[label].block, line.text);
+        uint32_t size = PLEX_RECORD_OPERANDS + PLEX_OPERAND_SIZE * program[label].count;
+        for (uint32_t i = 0; i < size; i++)
+            printf(" %02x", record_at(image, label)[i]);
+        printf("\n");
+    }
+}
+
+static void make_events(struct list *list)
+{
+    static const uint16_t five = 5, nine = 9;
+    static const uint8_t stepped[] = {1, 0, 1, 0, 0, 1, 1, 0};
+    uint8_t *event = list->events;
+    put_arrival(event, 0, &five, 1);
+    put_arrival(event += PLEX_EVENT_SIZE, 3, NULL, 0);
+    for (size_t i = 0; i < sizeof stepped; i++)
+        put_step(event += PLEX_EVENT_SIZE, stepped[i]);
+    put_arrival(event += PLEX_EVENT_SIZE, 0, &nine, 1);
+    put_step(event += PLEX_EVENT_SIZE, 0);
+    put_step(event += PLEX_EVENT_SIZE, 1);
+    put_step(event += PLEX_EVENT_SIZE, 1);
+    put_step(event += PLEX_EVENT_SIZE, 0);
+    put_cut(event += PLEX_EVENT_SIZE, 2);
+    for (list->count = 0; list->count < EVENTS; list->count++)
+        list->numbers[list->count] = list->count;
+}
+
+static int carry_out(struct list *list, uint8_t *state)
+{
+    return plex_fresh(image, sizeof image, table, sizeof table, words, sizeof words, state, PLEX_STATE_SIZE) == 0
+        && plex_run(image, sizeof image, table, sizeof table, state, PLEX_STATE_SIZE, list->events,
+                    PLEX_EVENT_SIZE * list->count, list->answers, PLEX_ANSWER_SIZE * list->count) == 0;
+}
+
+static void print_list(const char *name, const struct list *list)
+{
+    printf("%s\n", name);
+    for (uint32_t i = 0; i < list->count; i++) {
+        struct line event = {0}, answer = {0};
+        const uint8_t *answered = list->answers + PLEX_ANSWER_SIZE * i;
+        add_event(&event, list->events + PLEX_EVENT_SIZE * i);
+        add_answer(&answer, answered);
+        printf("%4u  %-20s %02x %02x  %s\n", list->numbers[i], event.text, answered[PLEX_ANSWER_CODE],
+               answered[PLEX_ANSWER_DETAIL], answer.text);
+    }
+}
+
+/* Writes event i of one list to the end of another, with its number. */
+static void write_out(struct list *to, const struct list *from, uint32_t i)
+{
+    memcpy(to->events + PLEX_EVENT_SIZE * to->count, from->events + PLEX_EVENT_SIZE * i, PLEX_EVENT_SIZE);
+    to->numbers[to->count++] = i;
+}
+
+struct row {
+    uint32_t events[EVENTS], count;
+};
+
+static void write_row(struct list *to, const struct list *from, struct row *row)
+{
+    for (uint32_t i = 0; i < row->count; i++)
+        write_out(to, from, row->events[i]);
+    row->count = 0;
+}
+
+/* The second order, from the events and their answers and from nothing else. */
+static void make_second_order(struct list *second, const struct list *first)
+{
+    struct row rows[PLEX_THREADS] = {{{0}, 0}};
+    second->count = 0;
+    for (uint32_t i = 0; i < first->count; i++) {
+        struct row *row = &rows[first->events[PLEX_EVENT_SIZE * i + PLEX_EVENT_THREAD]];
+        uint32_t code = first->answers[PLEX_ANSWER_SIZE * i + PLEX_ANSWER_CODE];
+        if (code == PLEX_NO_WORK || code == PLEX_WAITING || code == PLEX_NOTHING_TO_CUT)
+            continue;
+        if (code == PLEX_ARRIVED || code == PLEX_LIST_FULL) {
+            write_out(second, first, i);
+            continue;
+        }
+        row->events[row->count++] = i;
+        if (code == PLEX_EXITED || code == PLEX_TRAPPED || code == PLEX_WAS_CUT)
+            write_row(second, first, row);
+    }
+    for (uint32_t t = 0; t < PLEX_THREADS; t++)
+        write_row(second, first, &rows[t]);
+}
+
+static int same_answers(const struct list *first, const struct list *second)
+{
+    int same = 1;
+    for (uint32_t i = 0; i < second->count; i++)
+        same &= memcmp(second->answers + PLEX_ANSWER_SIZE * i,
+                       first->answers + PLEX_ANSWER_SIZE * second->numbers[i], PLEX_ANSWER_SIZE) == 0;
+    return same;
+}
+
+int main(void)
+{
+    static struct list first, second;
+    static uint8_t left[PLEX_STATE_SIZE], left_again[PLEX_STATE_SIZE];
+    for (uint32_t label = 0; label < RECORDS; label++)
+        put_statement(image + PLEX_RECORD_SIZE * label, &program[label]);
+    print_image();
+    make_events(&first);
+    if (!carry_out(&first, left))
+        return 1;
+    print_list("the event list", &first);
+    make_second_order(&second, &first);
+    if (!carry_out(&second, left_again))
+        return 1;
+    print_list("the second order", &second);
+    int same_state = memcmp(left, left_again, sizeof left) == 0, answered = same_answers(&first, &second);
+    printf("the state bytes are %s, the answers are %s\n", same_state ? "the same" : "OTHERS", answered ? "the same" : "OTHERS");
+    printf("word 0 of block %d is %u, word 0 of block %d is %u\n", COUNTER, get16(word_at(left, COUNTER, 0)), ASKER,
+           get16(word_at(left, ASKER, 0)));
+    return !same_state || !answered;
+}

@@ -1,0 +1,98 @@
+#include "accounts.h"
+
+#include <string.h>
+
+enum { FIRST_BALANCE = 1000, BALANCE = 0, SENT = 1, RECEIVED = 2, ROUNDS = 50 };
+
+static uint16_t account_label(uint32_t t, uint32_t index)
+{
+    return (uint16_t)(ACCOUNT_LABELS * (t % ACCOUNTS) + index);
+}
+
+static uint16_t nuisance_label(uint32_t t, uint32_t index)
+{
+    return (uint16_t)(ACCOUNTS * ACCOUNT_LABELS + NUISANCE_LABELS * t + index);
+}
+
+/* What account t moves to the next one at each transfer. */
+static uint16_t amount(uint32_t t)
+{
+    return (uint16_t)(t % ACCOUNTS + 1);
+}
+
+/* Labels 0 to 6, a transfer of r0: it counts to ROUNDS, calls the next account, and writes only after
+ * that, so a transfer that was cut while it waited has written nothing and can be sent again. Labels
+ * 7 to 9, called by the account before. */
+static void put_account(uint8_t *image, uint32_t t)
+{
+    uint8_t b = (uint8_t)t;
+    const struct statement account[ACCOUNT_LABELS] = {
+        {b, PLEX_EXTERNAL, PLEX_ASSIGN, PLEX_COPY, account_label(t, 1), 0, 2, {REGISTER(1), NUMBER(0)}},
+        {b, PLEX_NO_ENTRY, PLEX_ASSIGN, PLEX_ADD, account_label(t, 2), 0, 3, {REGISTER(1), REGISTER(1), NUMBER(1)}},
+        {b, PLEX_NO_ENTRY, PLEX_IF, PLEX_LESS, account_label(t, 1), account_label(t, 3), 2, {REGISTER(1), NUMBER(ROUNDS)}},
+        {b, PLEX_NO_ENTRY, PLEX_CALL, 0, account_label(t + 1, 7), account_label(t, 4), 1, {REGISTER(0)}},
+        {b, PLEX_NO_ENTRY, PLEX_ASSIGN, PLEX_SUBTRACT, account_label(t, 5), 0, 3, {WORD(BALANCE), WORD(BALANCE), REGISTER(0)}},
+        {b, PLEX_NO_ENTRY, PLEX_ASSIGN, PLEX_ADD, account_label(t, 6), 0, 3, {WORD(SENT), WORD(SENT), NUMBER(1)}},
+        {b, PLEX_NO_ENTRY, PLEX_EXIT, 0, 0, 0, 0, {NUMBER(0)}},
+        {b, PLEX_DIRECT, PLEX_ASSIGN, PLEX_ADD, account_label(t, 8), 0, 3, {WORD(BALANCE), WORD(BALANCE), REGISTER(0)}},
+        {b, PLEX_NO_ENTRY, PLEX_ASSIGN, PLEX_ADD, account_label(t, 9), 0, 3, {WORD(RECEIVED), WORD(RECEIVED), NUMBER(1)}},
+        {b, PLEX_NO_ENTRY, PLEX_RETURN, 0, 0, 0, 1, {REGISTER(0)}},
+    };
+    for (uint32_t i = 0; i < ACCOUNT_LABELS; i++)
+        put_statement(image + PLEX_RECORD_SIZE * account_label(t, i), &account[i]);
+}
+
+/* Label 0 goes to itself. Labels 1 and 2 send a signal to 2, which the tree then has pending. */
+static void put_nuisance(uint8_t *image, uint32_t t)
+{
+    uint8_t b = (uint8_t)(ACCOUNTS + t);
+    uint16_t refill = nuisance_label(t, 2), exit = nuisance_label(t, 3);
+    const struct statement nuisance[NUISANCE_LABELS] = {
+        {b, PLEX_EXTERNAL, PLEX_GOTO, 0, nuisance_label(t, 0), 0, 0, {NUMBER(0)}},
+        {b, PLEX_EXTERNAL, PLEX_SEND_BUFFERED, 0, refill, exit, 0, {NUMBER(0)}},
+        {b, PLEX_BUFFERED, PLEX_SEND_BUFFERED, 0, refill, exit, 0, {NUMBER(0)}},
+        {b, PLEX_NO_ENTRY, PLEX_EXIT, 0, 0, 0, 0, {NUMBER(0)}},
+    };
+    for (uint32_t i = 0; i < NUISANCE_LABELS; i++)
+        put_statement(image + PLEX_RECORD_SIZE * nuisance_label(t, i), &nuisance[i]);
+}
+
+void make_accounts(uint8_t *image, uint8_t *table, uint8_t *words)
+{
+    memset(table, 0, PLEX_TABLE_SIZE);
+    memset(words, 0, PLEX_WORDS_SIZE);
+    for (uint32_t t = 0; t < ACCOUNTS; t++) {
+        put_account(image, t);
+        put_nuisance(image, t);
+        uint8_t *row = table + PLEX_ROW_SIZE * t, *nuisance_row = row + PLEX_ROW_SIZE * ACCOUNTS;
+        row[PLEX_ROW_THREAD] = nuisance_row[PLEX_ROW_THREAD] = (uint8_t)t;
+        row[PLEX_ROW_KIND] = PLEX_CMX;
+        nuisance_row[PLEX_ROW_KIND] = PLEX_FD;
+        put16(words + 2 * PLEX_BLOCK_WORDS * t, FIRST_BALANCE);
+    }
+}
+
+void put_order(uint8_t *event, uint32_t t, enum order order)
+{
+    uint16_t moved = amount(t);
+    if (order == TRANSFER)
+        put_arrival(event, account_label(t, 0), &moved, 1);
+    else
+        put_arrival(event, nuisance_label(t, order == LOOP ? 0 : 1), NULL, 0);
+}
+
+uint32_t transfers_sent(const uint8_t *state, uint32_t t)
+{
+    return get16(word_at(state, t, SENT));
+}
+
+int balances_right(const uint8_t *state, uint32_t transfers)
+{
+    int right = 1;
+    for (uint32_t t = 0; t < ACCOUNTS; t++) {
+        uint32_t balance = FIRST_BALANCE - transfers * amount(t) + transfers * amount(t + ACCOUNTS - 1);
+        right &= get16(word_at(state, t, BALANCE)) == (balance & 0xFFFF) && transfers_sent(state, t) == transfers
+            && get16(word_at(state, t, RECEIVED)) == transfers;
+    }
+    return right;
+}

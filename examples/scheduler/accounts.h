@@ -1,0 +1,30 @@
+/* The guests of the scheduler: on each of the eight threads an account and a nuisance. */
+#ifndef ACCOUNTS_H
+#define ACCOUNTS_H
+
+#include "build.h"
+
+enum { ACCOUNTS = PLEX_THREADS, ACCOUNT_LABELS = 10, NUISANCE_LABELS = 4 };
+enum { RECORDS = ACCOUNTS * (ACCOUNT_LABELS + NUISANCE_LABELS) };
+
+/* What a guest is sent: a transfer to the next account; a job that loops for ever; a job that
+ * leaves a signal in its tree for the next one, for ever. */
+enum order { TRANSFER, LOOP, REFILL };
+
+/* The image, the block table and the initial words; every account begins with the same balance. */
+void make_accounts(uint8_t *image, uint8_t *table, uint8_t *words);
+
+/* The arrival that brings thread t an order. */
+void put_order(uint8_t *event, uint32_t t, enum order order);
+
+/* The steps that a transfer takes at most, so that a budget can be set. */
+enum { TRANSFER_STEPS = 120 };
+
+/* The transfers that account t has sent. */
+uint32_t transfers_sent(const uint8_t *state, uint32_t t);
+
+/* Whether every account has sent so many transfers and received as many, and has the balance that
+ * follows from them. */
+int balances_right(const uint8_t *state, uint32_t transfers);
+
+#endif

@@ -1,0 +1,17 @@
+/* The cases of the trials: what is lent, and what a fresh machine and one Run leave. */
+#ifndef CASES_H
+#define CASES_H
+
+#include "plex.h"
+
+struct trial {
+    uint8_t image[PLEX_RECORDS_MAX * PLEX_RECORD_SIZE], table[PLEX_TABLE_SIZE], words[PLEX_WORDS_SIZE];
+    uint8_t events[PLEX_EVENTS_MAX * PLEX_EVENT_SIZE];
+    uint8_t state[PLEX_STATE_SIZE], answers[PLEX_EVENTS_MAX * PLEX_ANSWER_SIZE];
+    size_t image_len, events_len, answers_len;
+};
+
+/* Reads NAME.image, NAME.table and so on, or ends the program with status 2. */
+void load_trial(struct trial *trial, const char *name);
+
+#endif

@@ -1,0 +1,14 @@
+#!/bin/sh
+# The library has no data of its own that can change, and calls nothing but three functions of the C library that take no lock and no
+# memory: so no heap, no locks, no globals, no system calls. Use: library.sh LIBRARY
+set -u
+symbols=$(nm -g "$1") && sections=$(objdump -h "$1") || exit 2
+called=$(echo "$symbols" | awk '$1 == "U" { print $2 }' | grep -vx -e memcpy -e memmove -e memset)
+offered=$(echo "$symbols" | awk '$2 == "T" { print $3 }' | sort | tr '\n' ' ')
+changing=$(echo "$sections" | awk '$2 ~ /^\.(data|bss|tdata|tbss|init_array|ctors)/ && $3 !~ /^0+$/ { print $2 }')
+common=$(echo "$symbols" | awk '$2 ~ /^[BCDSGbdsg]$/ { print $3 }')
+if [ -n "$called$changing$common" ] || [ "$offered" != 'plex_check plex_fresh plex_run plex_walk ' ]; then
+    echo "library: offers $offered; calls $called; has data $changing $common"
+    exit 1
+fi
+echo 'library: four calls, no data of its own, calls memcpy, memmove and memset alone'
