@@ -37,7 +37,7 @@ build/demo: $(DEMO) $(HEADERS) $(LIBRARY) | build
 	$(CC) $(CFLAGS) $(INCLUDES) -o $@ $(DEMO) $(LIBRARY)
 
 build/plex: $(COMMAND) $(HEADERS) $(LIBRARY) | build
-	$(CC) $(CFLAGS) $(INCLUDES) -o $@ $(COMMAND) $(LIBRARY)
+	$(CC) $(CFLAGS) $(INCLUDES) -o $@ $(COMMAND) $(LIBRARY) -lm
 
 build/bench: $(BENCH) $(HEADERS) $(LIBRARY) | build
 	$(CC) $(CFLAGS) -O3 $(INCLUDES) -Ihost/bench -o $@ $(BENCH) $(LIBRARY) -lm
@@ -63,7 +63,7 @@ build/demo-safe: $(DEMO) $(HEADERS) $(LIBRARY) | build
 	$(CC) $(CFLAGS) $(SANITIZE) $(INCLUDES) -o $@ $(DEMO) $(LIBRARY)
 
 build/plex-safe: $(COMMAND) $(HEADERS) $(LIBRARY) | build
-	$(CC) $(CFLAGS) $(SANITIZE) $(INCLUDES) -o $@ $(COMMAND) $(LIBRARY)
+	$(CC) $(CFLAGS) $(SANITIZE) $(INCLUDES) -o $@ $(COMMAND) $(LIBRARY) -lm
 
 build/words-safe: $(WORDS) $(HEADERS) | build
 	$(CC) $(CFLAGS) $(SANITIZE) $(INCLUDES) -o $@ $(WORDS)
@@ -87,9 +87,12 @@ host: header build/words-safe build/explanations-safe build/demo-safe
 	./build/explanations-safe
 	./build/demo-safe | diff - host/demo/expected.txt
 
-command: build/plex build/demo build/plex-safe build/demo-safe
-	sh tests/command.sh build/plex build/demo
-	sh tests/command.sh build/plex-safe build/demo-safe
+build/terminal: tests/terminal.c | build
+	$(CC) $(CFLAGS) -o $@ $<
+
+command: build/plex build/demo build/plex-safe build/demo-safe build/terminal
+	sh tests/command.sh build/plex build/demo build/terminal
+	sh tests/command.sh build/plex-safe build/demo-safe build/terminal
 
 build/stack: tests/stack.c include/plex.h $(LIBRARY) | build
 	$(CC) $(CFLAGS) -Iinclude -pthread -o $@ tests/stack.c $(LIBRARY)

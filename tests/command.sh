@@ -1,9 +1,11 @@
 #!/bin/sh
 # The command plex on good and bad files; each subject has a file in the folder command.
-# Use: command.sh PLEX DEMO, two programs; the demo writes the files of the case from the field.
+# Use: command.sh PLEX DEMO TERMINAL, three programs; the demo writes the files of the case from the
+# field, and the last one runs a command on a terminal.
 set -u
 plex=$(realpath "$1")
 demo=$(realpath "$2")
+terminal=$(realpath "$3")
 tests=$(realpath "$(dirname "$0")")/command
 folder=$(mktemp -d)
 trap 'rm -rf "$folder"' EXIT
@@ -52,6 +54,24 @@ byte() {
     printf '%b' "\\0$3" | dd of="$4" bs=1 seek="$2" conv=notrunc 2>/dev/null
 }
 
+# look_around, and later nothing_left NAME: there are the same files as then
+look_around() {
+    there=$(ls -A)
+}
+nothing_left() {
+    holds "$1: a file is left" [ "$(ls -A)" = "$there" ]
+}
+
+# soon COMMAND..: the command succeeds within ten seconds
+soon() {
+    tries=0
+    until "$@" 2>/dev/null; do
+        tries=$((tries + 1))
+        [ "$tries" -lt 500 ] || return 1
+        sleep 0.02
+    done
+}
+
 # repeated FILE TIMES NEW
 repeated() {
     : >"$3"
@@ -74,7 +94,7 @@ cp old kept
 head -c 7928 left >short-state
 cat left empty "$table" >long-state
 
-for subject in arguments check show run refused state waits terminal; do
+for subject in arguments check show run refused outputs streams signals state waits terminal; do
     . "$tests/$subject.sh"
 done
 

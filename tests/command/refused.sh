@@ -27,6 +27,9 @@ byte many 109727 5 bad
 refused 'bad event' 'bad: event 1995 breaks a rule: arrival at 5' "$image" "$table" "$words" bad
 refused 'bad event, summary' 'bad: event 1995 breaks a rule: arrival at 5' \
     "$image" "$table" "$words" bad --summary
+refused 'its place in the file' 'refused with number 8, place 1995' "$image" "$table" "$words" bad
+refused 'its place in the file, summary' 'refused with number 8, place 1995' \
+    "$image" "$table" "$words" bad --summary
 refused 'its cause' 'whose entry is none, and arrivals go to entry external' \
     "$image" "$table" "$words" bad --summary
 byte "$events" 165 11 bad
@@ -43,13 +46,7 @@ tried 'no folder for --out' 1 'nowhere/s: cannot be written: No such file' \
 head -c 824 "$events" | "$plex" run "$image" "$table" "$words" /dev/stdin --out kept >said 2>&1
 holds 'short pipe' grep -q 'stdin: 824 bytes; events are 55 bytes each' said
 same 'short pipe: the file of --out' kept old
-"$plex" run "$image" "$table" "$words" many --out kept --answers new 2>said | head -n 1 >first
+look_around
+"$plex" run "$image" "$table" "$words" many --out kept --answers new 2>said | head -n 1 >said
 same 'a reader that goes away: the file of --out' kept old
-holds 'a reader that goes away: a file is left' [ "$(find . -name 'kept.*' -o -name 'new*')" = '' ]
-tried 'one file for both' 2 '--out and --answers name the same file' \
-    run "$image" "$table" "$words" "$events" --out kept --answers kept
-if [ -w /dev/full ]; then
-    "$plex" show "$image" >/dev/full 2>said
-    holds 'full standard output: status' [ $? = 1 ]
-    holds 'full standard output' grep -q 'standard output cannot be written' said
-fi
+nothing_left 'a reader that goes away'

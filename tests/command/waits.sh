@@ -9,24 +9,41 @@ tried 'waits in a short state' 1 'short-state: 7928 bytes; a state is' \
 byte "$image" 256 12 ring-1
 byte ring-1 842 1 ring
 tried 'into a ring' 0 '2  waiting' run ring "$table" "$words" eight --summary --out closed
-tried 'a ring' 0 '^thread 1 --lock 1--> thread 0 --lock 4--> thread 1 again: a ring' \
+tried 'a ring' 3 '^thread 1 --lock 1--> thread 0 --lock 4--> thread 1 again: a ring' \
     waits ring "$table" closed
-tried 'a ring in the graph' 0 't0 -> t1 \[label="lock 4", color=red\]' \
+tried 'a ring in the graph' 3 't0 -> t1 \[label="lock 4", color=red\]' \
     waits ring "$table" closed --dot
-# a program dot that only copies, one that fails, and none
-mkdir copies fails none
-printf '#!/bin/sh\nwhile read -r line; do echo "$line"; done\n' >copies/dot
-printf '#!/bin/sh\nexit 3\n' >fails/dot
-chmod +x copies/dot fails/dot
-# drawn FOLDER FILE: plex waits --svg with the program dot of the folder alone before all others
+"$plex" waits ring "$table" closed --quiet >said 2>&1
+holds 'a ring, quietly: status' [ $? = 3 ]
+holds 'a ring, quietly' [ ! -s said ]
+"$plex" waits ring "$table" closed >/dev/full 2>said
+holds 'a ring to a full standard output: status' [ $? = 1 ]
+
+# ---- the graph: short boxes, one below the other
+"$plex" waits ring "$table" closed --dot >graph
+holds 'a graph down the page' grep -q 'rankdir=TB' graph
+holds 'a graph that fits a page' grep -q 'size="7.5,10"' graph
+holds 'a box' grep -q 't1 \[label="thread 1\\nat label 9\\nholds 1 lock"\]' graph
+
+# ---- the picture
+# drawn NAME STATUS ARGUMENT..: plex draws a picture and says nothing
 drawn() {
-    PATH="$folder/$1" "$plex" waits "$image" "$table" waiting --svg "$2" >said 2>&1
+    name=$1 status=$2
+    shift 2
+    "$plex" waits "$@" --svg picture >said 2>&1
+    holds "$name: status" [ $? = "$status" ]
+    holds "$name: words" [ ! -s said ]
 }
-holds 'a drawing' drawn copies drawing
-holds 'a drawing holds the graph' grep -q 't1 -> t0' drawing
-drawn fails kept
-holds 'a failing dot: status' [ $? = 1 ]
-holds 'a failing dot' grep -q 'kept: not drawn: the program dot' said
-drawn none kept
-holds 'no dot' grep -q 'kept: not drawn: the program dot (Graphviz) did not run: No such' said
-same 'a drawing that failed' kept old
+drawn 'a picture' 0 "$image" "$table" waiting
+holds 'an arrow in the picture' grep -q 'marker-end="url(#wait)"' picture
+holds 'a lock in the picture' grep -q '>lock 1</text>' picture
+holds 'a ring in a picture without one' lacks picture 'url(#ring)'
+drawn 'a picture of a ring' 3 ring "$table" closed
+holds 'two arrows of the ring' [ "$(grep -c 'url(#ring)' picture)" = 2 ]
+drawn 'a picture of no waits' 0 "$image" "$table" left
+holds 'a picture of no waits says so' grep -q '>no thread waits</text>' picture
+tried 'a picture that cannot be written' 1 '/dev/full: cannot be written: No space left' \
+    waits "$image" "$table" waiting --svg /dev/full
+"$plex" waits "$image" "$table" waiting --dot --svg kept >/dev/full 2>said
+holds 'a graph to a full standard output: status' [ $? = 1 ]
+same 'a graph to a full standard output: the picture' kept old
