@@ -32,6 +32,8 @@ IN_WORDS = host/common/build.c host/common/names.c host/common/words.c
 WORDS = tests/words.c $(IN_WORDS)
 EXPLANATIONS = tests/explanations.c $(wildcard host/command/explain*.c) \
     host/bench/bench_image.c $(IN_WORDS)
+PICTURES = tests/pictures.c tests/svg.c host/bench/bench_plot.c \
+    host/command/waits_picture.c host/command/waits_walks.c
 
 build/demo: $(DEMO) $(HEADERS) $(LIBRARY) | build
 	$(CC) $(CFLAGS) $(INCLUDES) -o $@ $(DEMO) $(LIBRARY)
@@ -72,6 +74,9 @@ build/explanations-safe: $(EXPLANATIONS) $(HEADERS) $(LIBRARY) | build
 	$(CC) $(CFLAGS) $(SANITIZE) $(INCLUDES) -Ihost/command -Ihost/bench -o $@ \
 	    $(EXPLANATIONS) $(LIBRARY)
 
+build/pictures-safe: $(PICTURES) tests/svg.h $(HEADERS) | build
+	$(CC) $(CFLAGS) $(SANITIZE) $(INCLUDES) -Ihost/command -Ihost/bench -o $@ $(PICTURES) -lm
+
 build/header: tests/header.c include/plex.h $(LIBRARY) | build
 	$(CC) $(CFLAGS) -Wc++-compat -Iinclude -o $@ tests/header.c $(LIBRARY)
 
@@ -82,9 +87,10 @@ header: build/header build/header++
 	./build/header
 	./build/header++
 
-host: header build/words-safe build/explanations-safe build/demo-safe
+host: header build/words-safe build/explanations-safe build/pictures-safe build/demo-safe
 	./build/words-safe
 	./build/explanations-safe
+	mkdir -p build/pictures && ./build/pictures-safe build/pictures
 	./build/demo-safe | diff - host/demo/expected.txt
 
 build/terminal: tests/terminal.c | build

@@ -63,6 +63,26 @@ static void print_walks(const struct walk *walks)
         print("no thread waits\n");
 }
 
+/* The graph grows down the page, and is made smaller if it does not fit. */
+static void print_graph(const uint8_t *state, const struct walk *walks)
+{
+    print("digraph waits {\n  rankdir=TB;\n  size=\"7.5,10\";\n"
+          "  node [shape=box, fontname=\"sans-serif\"];\n  edge [fontname=\"sans-serif\"];\n");
+    for (uint32_t thread = 0; thread < PLEX_THREADS; thread++) {
+        char lines[BOX_LINES][BOX_LINE_SIZE];
+        if (!is_in_waits(walks, thread))
+            continue;
+        write_box(lines, state, walks, thread);
+        print("  t%u [label=\"%s\\n%s\\n%s\\n%s\"];\n", thread, lines[0], lines[1], lines[2],
+              lines[3]);
+    }
+    for (uint32_t thread = 0; thread < PLEX_THREADS; thread++)
+        if (does_wait(&walks[thread]))
+            print("  t%u -> t%u [label=\"lock %u\"%s];\n", thread, walks[thread].met[1],
+                  walks[thread].block, is_on_ring(walks, thread) ? ", color=red" : "");
+    print("}\n");
+}
+
 static bool has_ring(const struct walk *walks)
 {
     bool any = false;

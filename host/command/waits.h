@@ -22,12 +22,11 @@ bool is_on_ring(const struct walk *walks, uint32_t thread);
 /* Whether the thread waits or is waited for. */
 bool is_in_waits(const struct walk *walks, uint32_t thread);
 
-/* What a box says of its thread: its number, where it is, how many locks it holds. */
-enum { BOX_LINES = 3, BOX_LINE_SIZE = 24 };
-void write_box(char lines[BOX_LINES][BOX_LINE_SIZE], const uint8_t *state, uint32_t thread);
-
-/* The waits as a graph for Graphviz, on standard output. */
-void print_graph(const uint8_t *state, const struct walk *walks);
+/* What a box says of its thread: its number, where it is, how many locks it holds, and for which it
+ * waits. */
+enum { BOX_LINES = 4, BOX_LINE_SIZE = 24 };
+void write_box(char lines[BOX_LINES][BOX_LINE_SIZE], const uint8_t *state,
+               const struct walk *walks, uint32_t thread);
 
 /* The waits as a picture in the format SVG, which fits a page. */
 void draw_picture(FILE *stream, const uint8_t *state, const struct walk *walks);

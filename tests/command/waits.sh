@@ -23,7 +23,7 @@ holds 'a ring to a full standard output: status' [ $? = 1 ]
 "$plex" waits ring "$table" closed --dot >graph
 holds 'a graph down the page' grep -q 'rankdir=TB' graph
 holds 'a graph that fits a page' grep -q 'size="7.5,10"' graph
-holds 'a box' grep -q 't1 \[label="thread 1\\nat label 9\\nholds 1 lock"\]' graph
+holds 'a box' grep -q 't1 \[label="thread 1\\nat label 9\\nholds 1 lock\\nwaits for lock 1"\]' graph
 
 # ---- the picture
 # drawn NAME STATUS ARGUMENT..: plex draws a picture and says nothing
@@ -36,7 +36,7 @@ drawn() {
 }
 drawn 'a picture' 0 "$image" "$table" waiting
 holds 'an arrow in the picture' grep -q 'marker-end="url(#wait)"' picture
-holds 'a lock in the picture' grep -q '>lock 1</text>' picture
+holds 'a lock in the picture' grep -q '>waits for lock 1</text>' picture
 holds 'a ring in a picture without one' lacks picture 'url(#ring)'
 drawn 'a picture of a ring' 3 ring "$table" closed
 holds 'two arrows of the ring' [ "$(grep -c 'url(#ring)' picture)" = 2 ]

@@ -1,6 +1,7 @@
-/* What the graph and the picture of the waits share, and the graph. */
-#include "command.h"
+/* What the text, the graph and the picture of the waits share. */
 #include "waits.h"
+
+#include <stdio.h>
 
 bool does_wait(const struct walk *walk)
 {
@@ -22,7 +23,8 @@ bool is_in_waits(const struct walk *walks, uint32_t thread)
     return is_in;
 }
 
-void write_box(char lines[BOX_LINES][BOX_LINE_SIZE], const uint8_t *state, uint32_t thread)
+void write_box(char lines[BOX_LINES][BOX_LINE_SIZE], const uint8_t *state,
+               const struct walk *walks, uint32_t thread)
 {
     const uint8_t *bytes = thread_at(state, thread);
     uint32_t label = get16(bytes + PLEX_THREAD_LABEL), count = 0;
@@ -34,23 +36,8 @@ void write_box(char lines[BOX_LINES][BOX_LINE_SIZE], const uint8_t *state, uint3
     else
         snprintf(lines[1], BOX_LINE_SIZE, "at label %u", label);
     snprintf(lines[2], BOX_LINE_SIZE, "holds %u %s", count, count == 1 ? "lock" : "locks");
-}
-
-/* The graph grows down the page, and is made smaller if it does not fit. */
-void print_graph(const uint8_t *state, const struct walk *walks)
-{
-    print("digraph waits {\n  rankdir=TB;\n  size=\"7.5,10\";\n"
-          "  node [shape=box, fontname=\"sans-serif\"];\n  edge [fontname=\"sans-serif\"];\n");
-    for (uint32_t thread = 0; thread < PLEX_THREADS; thread++) {
-        char lines[BOX_LINES][BOX_LINE_SIZE];
-        if (!is_in_waits(walks, thread))
-            continue;
-        write_box(lines, state, thread);
-        print("  t%u [label=\"%s\\n%s\\n%s\"];\n", thread, lines[0], lines[1], lines[2]);
-    }
-    for (uint32_t thread = 0; thread < PLEX_THREADS; thread++)
-        if (does_wait(&walks[thread]))
-            print("  t%u -> t%u [label=\"lock %u\"%s];\n", thread, walks[thread].met[1],
-                  walks[thread].block, is_on_ring(walks, thread) ? ", color=red" : "");
-    print("}\n");
+    if (does_wait(&walks[thread]))
+        snprintf(lines[3], BOX_LINE_SIZE, "waits for lock %u", walks[thread].block);
+    else
+        snprintf(lines[3], BOX_LINE_SIZE, "does not wait");
 }
