@@ -99,11 +99,11 @@ static int carry_out_all(int argc, char **argv)
     const struct part *part = argc < 2 ? NULL : find_part(argv[1]);
     if (part != NULL)
         return carry_out(part, argc - 2, argv + 2);
-    if (argc == 2 && is_help(argv[1])) {
+    if (argc >= 2 && is_help(argv[1])) {
         print_help();
         return DONE;
     }
-    if (argc == 2 && strcmp(argv[1], "--version") == 0) {
+    if (argc >= 2 && strcmp(argv[1], "--version") == 0) {
         print("plex %s, format %d\n", PLEX_VERSION, PLEX_FORMAT_VERSION);
         return DONE;
     }

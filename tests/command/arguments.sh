@@ -29,6 +29,13 @@ tried 'a value after =' 0 '^15 events in 1 call$' \
 holds 'a value after =: the state' [ -s after ]
 holds 'a value after =: the answers' [ -s answered ]
 
+# ---- the manual page names every option that the help does
+helped=$("$plex" --help; for part in check show run state waits; do "$plex" "$part" --help; done)
+for option in $(echo "$helped" | grep -oe '--[a-z][a-z]*' | sort -u); do
+    holds "the manual page lacks $option" \
+        grep -qFe "\\-\\-${option#--}" "$tests/../../man/plex.1"
+done
+
 # ---- quiet
 "$plex" check --quiet "$image" "$table" >said 2>&1
 holds 'a quiet check: status' [ $? = 0 ]

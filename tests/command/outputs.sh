@@ -84,6 +84,11 @@ mode() {
 mode 640
 mode 666
 mode 4711
+if [ "$(id -u)" = 0 ]; then
+    chown 12345:23456 kept
+    written --out kept
+    holds 'a file got another owner' [ "$(stat -c %u:%g kept)" = 12345:23456 ]
+fi
 rm -f new-2
 (umask 027; written --out new-2)
 holds 'a new file follows the umask' [ "$(stat -c %a new-2)" = 640 ]
