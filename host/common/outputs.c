@@ -58,16 +58,19 @@ static int create_beside(struct output *output, mode_t mode)
     return ENOMEM;
 }
 
-/* A file that changes its owner does not keep rights that act for the owner. */
-static int keep_rights(int descriptor, const struct stat *found)
+/* A file that changes its owner or group does not keep rights that act for them. Writing takes such
+ * rights away too, so this comes after it. */
+static int keep_rights(const struct output *output)
 {
-    bool same_owner = fchown(descriptor, found->st_uid, found->st_gid) == 0;
-    bool same_group = same_owner || fchown(descriptor, (uid_t)-1, found->st_gid) == 0;
+    int descriptor = output->descriptor;
+    bool same_owner = fchown(descriptor, output->owner, output->group) == 0;
+    bool same_group = same_owner || fchown(descriptor, (uid_t)-1, output->group) == 0;
     mode_t kept = same_owner ? 07777 : same_group ? 0777 : 0707;
-    return fchmod(descriptor, found->st_mode & kept) == 0 ? 0 : errno;
+    return fchmod(descriptor, output->mode & kept) == 0 ? 0 : errno;
 }
 
-/* A regular file that no name leads to any more is written in place too. */
+/* A regular file that no name leads to any more is written in place too. One that may not be
+ * written is not replaced. */
 static int begin(struct output *output)
 {
     struct stat found, at_target;
@@ -81,10 +84,18 @@ static int begin(struct output *output)
         return errno;
     if (exists && (stat(output->target, &at_target) != 0 || !are_same_file(&found, &at_target)))
         return open_in_place(output);
+    if (exists && faccessat(AT_FDCWD, output->target, W_OK, AT_EACCESS) != 0)
+        return errno;
+    if (exists) {
+        output->replaces = true;
+        output->mode = found.st_mode;
+        output->owner = found.st_uid;
+        output->group = found.st_gid;
+    }
     hold_signals();
     int failed = create_beside(output, exists ? 0600 : 0666);
     let_signals_through();
-    return !failed && exists ? keep_rights(output->descriptor, &found) : failed;
+    return failed;
 }
 
 int begin_output(struct output *output, const char *path)
@@ -112,8 +123,8 @@ int write_output(struct output *output, const void *bytes, size_t size)
 /* Some file systems say only here that there was no room for what was written. */
 int close_output(struct output *output)
 {
-    int failed = 0;
-    if (output->temporary != NULL && fsync(output->descriptor) != 0 && errno != EINVAL)
+    int failed = output->replaces ? keep_rights(output) : 0;
+    if (output->temporary != NULL && fsync(output->descriptor) != 0 && errno != EINVAL && !failed)
         failed = errno;
     if (close(output->descriptor) != 0 && !failed)
         failed = errno;

@@ -5,6 +5,7 @@
 
 #include <stdbool.h>
 #include <stddef.h>
+#include <sys/types.h>
 
 /* A file in the making. What stood under its name stays until it is put in place. A pipe or a
  * device is written as it goes, and what it got cannot be taken back. */
@@ -13,6 +14,10 @@ struct output {
     int descriptor;
     char *target;     /* the file that the name leads to, through links */
     char *temporary;  /* its name until it is put in place; NULL if it is written as it goes */
+    bool replaces;    /* whether a file was there, with the rights that it keeps */
+    mode_t mode;
+    uid_t owner;
+    gid_t group;
     char *former;     /* the name of what it replaced, for as long as that may have to come back */
 };
 

@@ -88,6 +88,12 @@ if [ "$(id -u)" = 0 ]; then
     chown 12345:23456 kept
     written --out kept
     holds 'a file got another owner' [ "$(stat -c %u:%g kept)" = 12345:23456 ]
+else
+    cp old read-only
+    chmod 444 read-only
+    tried 'a file that may not be written' 1 'read-only: cannot be written: Permission denied' \
+        run "$image" "$table" "$words" "$events" --out read-only
+    same 'a file that may not be written' read-only old
 fi
 rm -f new-2
 (umask 027; written --out new-2)
