@@ -90,7 +90,7 @@ header: build/header build/header++
 host: header build/words-safe build/explanations-safe build/pictures-safe build/demo-safe
 	./build/words-safe
 	./build/explanations-safe
-	mkdir -p build/pictures && ./build/pictures-safe build/pictures
+	./build/pictures-safe build/pictures
 	./build/demo-safe | diff - host/demo/expected.txt
 
 build/terminal: tests/terminal.c | build

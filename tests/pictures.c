@@ -1,7 +1,8 @@
 /* The plots of the benchmark and the picture of the waits: no two texts lie on each other, every
  * text is on the page, a value stands at its own line, and an arrow goes through no box.
  *
- * Use: pictures FOLDER    writes some of the pictures there, for a person to look at */
+ * Use: pictures FOLDER    writes some of the pictures there, for a person to look at; the folder is
+ *                         made if it is not there */
 #define _POSIX_C_SOURCE 200809L
 
 #include "bench_plot.h"
@@ -11,6 +12,7 @@
 #include <math.h>
 #include <stdlib.h>
 #include <string.h>
+#include <sys/stat.h>
 
 /* The width of a sheet of A4 or Letter within margins of 10 mm, in SVG's units of 1/96 inch. */
 static const double page_width = 718;
@@ -199,6 +201,7 @@ int main(int argc, char **argv)
     if (argc != 2)
         return 2;
     folder = argv[1];
+    mkdir(folder, 0777);
     try_plots();
     try_waits("none", none, true);
     try_waits("ring", ring, true);
