@@ -49,13 +49,13 @@ static bool read_more(struct event_source *source, struct file *events, size_t *
     return is_read(events, got < 0 ? errno : 0);
 }
 
-bool next_events(struct event_source *source, struct file *events)
+bool next_events(struct event_source *source, struct file *events, size_t fewest)
 {
     size_t size = 1;
     source->in_buffer -= source->handed_out;
     memmove(events->bytes, events->bytes + source->handed_out, source->in_buffer);
     source->handed_out = 0;
-    while (source->in_buffer < PLEX_EVENT_SIZE && size != 0)
+    while (source->in_buffer < PLEX_EVENT_SIZE * fewest && size != 0)
         if (!read_more(source, events, &size))
             return false;
     events->size = source->in_buffer - source->in_buffer % PLEX_EVENT_SIZE;

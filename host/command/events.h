@@ -17,9 +17,9 @@ struct event_source {
  * events; a sentence if not. Gives the file its path and its buffer. */
 bool open_events(struct event_source *source, struct file *events, const char *path);
 
-/* The events that have come since, at least one unless the file is at its end. Whether all is
+/* The events that have come since, at least so many unless the file ends before. Whether all is
  * well; a sentence if not. */
-bool next_events(struct event_source *source, struct file *events);
+bool next_events(struct event_source *source, struct file *events, size_t fewest);
 
 void close_events(struct event_source *source);
 

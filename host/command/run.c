@@ -105,11 +105,19 @@ static bool carry_out_events(struct run *run)
     return true;
 }
 
+/* How many events a call waits for: one is enough if somebody may be waiting for what it says. */
+static size_t fewest_events(const struct run *run)
+{
+    const struct output *answers = &run->outputs[ANSWERS];
+    bool are_awaited = answers->path != NULL && answers->temporary == NULL;
+    return are_awaited || !(run->summary_alone || is_quiet) ? 1 : PLEX_EVENTS_MAX;
+}
+
 /* The whole file; one call is made even if it has no events, for the library to see the state. */
 static bool carry_out_file(struct run *run)
 {
     do {
-        if (!next_events(&run->source, &run->lent.events))
+        if (!next_events(&run->source, &run->lent.events, fewest_events(run)))
             return false;
         if (run->lent.events.size == 0 && run->tally.calls != 0)
             return true;

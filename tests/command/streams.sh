@@ -29,5 +29,6 @@ wait
 
 # ---- a pipe that gives many events in pieces of another size
 { head -c 70000 many; tail -c +70001 many; } | dd bs=997 2>/dev/null \
-    | "$plex" run "$image" "$table" "$words" - --quiet --out state-2
+    | "$plex" run "$image" "$table" "$words" - --summary --out state-2 >said
 same 'the state of pieces' state-2 left
+holds 'the calls of pieces' grep -q '^4500 events in 5 calls$' said
