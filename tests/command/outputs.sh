@@ -9,10 +9,12 @@ written() {
 # ---- both or none
 cp waiting own
 look_around
-"$plex" run "$image" "$table" "$events" --state own --out own >/dev/full 2>said
-holds 'a full standard output: status' [ $? = 1 ]
-holds 'a full standard output' grep -q "standard output $full" said
-same 'a full standard output: the state' own waiting
+for option in --out=own --summary; do
+    "$plex" run "$image" "$table" "$events" --state own --out own $option >/dev/full 2>said
+    holds "a full standard output, $option: status" [ $? = 1 ]
+    holds "a full standard output, $option" grep -q "standard output $full" said
+    same "a full standard output, $option: the state" own waiting
+done
 tried 'a full device for --out' 1 "/dev/full: $full" \
     run "$image" "$table" "$words" "$events" --answers kept --out /dev/full
 same 'a full device for --out: the answers' kept old
@@ -58,10 +60,15 @@ holds 'a new file after a limit on files' [ ! -e new ]
 nothing_left 'full disks'
 
 # ---- closed standard streams
-"$plex" run "$image" "$table" "$words" "$events" --out kept >&- 2>said
+"$plex" run "$image" "$table" "$words" "$events" --out kept <&- >&- 2>said
 holds 'closed standard output: status' [ $? = 1 ]
 holds 'closed standard output' grep -q 'standard output cannot be written: Bad file descr' said
 same 'closed standard output: the file of --out' kept old
+mkfifo not-printed
+timeout 20 cat not-printed >got &
+"$plex" run "$image" "$table" "$words" "$events" --answers not-printed <&- >&- 2>said
+wait
+holds 'closed standard output: the trace among the answers' lacks got arrival
 "$plex" run "$image" "$table" "$words" "$events" --quiet --out new-2 <&- >&- 2>&-
 holds 'all closed: status' [ $? = 0 ]
 written --out new
