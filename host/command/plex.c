@@ -22,8 +22,8 @@ static const struct part {
      "w0 shared word 0 of the record's block.\n"},
     {"run", run_command, "IMAGE TABLE WORDS|--state STATE EVENTS [OPTIONS]",
      "Carries the events of a file out, from a fresh machine with the initial words or from a\n"
-     "state, and prints a line for each event: its index, the event, the statement carried out,\n"
-     "the answer and the thread after it. A summary follows.\n"
+     "state, and prints a line for each event: its place in the file, the event, the statement\n"
+     "carried out, the answer and the thread after it. A summary follows.\n"
      "\n"
      "  --state STATE   begin with this state and not with a fresh machine\n"
      "  --out STATE     write the state left\n"

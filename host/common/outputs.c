@@ -184,6 +184,15 @@ static void take_back(struct output *output)
     output->former = NULL;
 }
 
+/* Whether an output waits to be put in place. */
+static bool does_any_wait(const struct output *outputs, size_t count)
+{
+    bool any = false;
+    for (size_t i = 0; i < count; i++)
+        any |= outputs[i].temporary != NULL;
+    return any;
+}
+
 int place_outputs(struct output *outputs, size_t count, const struct output **at_fault)
 {
     int failed = 0;
@@ -192,7 +201,8 @@ int place_outputs(struct output *outputs, size_t count, const struct output **at
     for (; placed < count && !failed; placed++) {
         *at_fault = &outputs[placed];
         if (outputs[placed].temporary != NULL)
-            failed = place(&outputs[placed], placed + 1 < count);
+            failed = place(&outputs[placed],
+                           does_any_wait(&outputs[placed + 1], count - placed - 1));
     }
     for (size_t i = 0; i < placed; i++) {
         if (failed)
