@@ -7,7 +7,7 @@ LDLIBS = -lm -pthread
 LIBRARY = target/staticlib/libplex.a
 SECONDS ?= 60
 
-.PHONY: all demo bench test prove sorts host command examples papers second compare soak replay \
+.PHONY: all demo bench test prove try sorts style format map host command examples papers second compare soak replay \
     install uninstall installed clean
 
 all: $(LIBRARY) build/plex build/demo
@@ -30,6 +30,8 @@ SOURCES_explanations = tests/explanations.c $(wildcard host/command/explain*.c) 
 SOURCES_lending = tests/lending.c tests/cases.c
 SOURCES_stack = tests/stack.c tests/cases.c host/common/build.c
 SOURCES_header = tests/header.c
+SOURCES_terminal = tests/terminal.c
+SOURCES_pictures = tests/pictures.c tests/svg.c host/bench/bench_plot.c $(wildcard host/command/waits_*.c)
 SOURCES_one_by_one = examples/one_by_one.c $(COMMON)
 SOURCES_scheduler = $(wildcard examples/scheduler/*.c) host/common/build.c
 FLAGS_bench = -O3
@@ -64,22 +66,41 @@ bench: build/bench
 prove: | build
 	rt ci >build/ci.log 2>&1; status=$$?; cat build/ci.log; exit $$status
 
+# the trials compiled three ways, once with the compiler's assumptions checked
+try:
+	rt try trials
+
 sorts:
 	sh tests/sorts.sh
 
+# the layout of every text, and what the house asks of names and sizes
+style:
+	sh tests/style.sh
+
+format:
+	rt fmt
+	for crate in second compare; do (cd $$crate && cargo fmt) || exit 1; done
+	clang-format -i $$(git ls-files '*.c' '*.h')
+
+# the picture of the crates
+map:
+	awk -f tools/map.awk crates.txt >docs/map.dot
+	dot -Tsvg docs/map.dot >docs/map.svg
+
 # what the library asks of a host and of the system; the demo's output is held to a file
 CASES = $(sort $(basename $(wildcard crates/trials/data/[0-9]*.image)))
-host: $(addprefix build/,header header++ words-safe explanations-safe lending lending-safe stack demo-safe)
+HOST_TESTS = header header++ words-safe explanations-safe lending lending-safe pictures-safe
+host: $(addprefix build/,$(HOST_TESTS) stack demo-safe)
 	sh tests/progress.sh
 	sh tests/library.sh $(LIBRARY)
-	@for program in header header++ words-safe explanations-safe "lending $(CASES)" "lending-safe $(CASES)"; do \
-	    ./build/$$program || exit 1; done
+	@for program in header header++ words-safe explanations-safe "lending $(CASES)" "lending-safe $(CASES)" \
+	    "pictures-safe build/pictures"; do ./build/$$program || exit 1; done
 	@sh tests/stack.sh $(CASES)
 	./build/demo-safe | diff - host/demo/expected.txt
 
-command: build/plex build/demo build/plex-safe build/demo-safe
-	sh tests/command.sh build/plex build/demo
-	sh tests/command.sh build/plex-safe build/demo-safe
+command: $(addprefix build/,plex demo plex-safe demo-safe terminal)
+	sh tests/command.sh build/plex build/demo build/terminal
+	sh tests/command.sh build/plex-safe build/demo-safe build/terminal
 
 # the thread sanitizer wants addresses that are not random, where the system lets a program choose
 FIXED = $(shell setarch -R true 2>/dev/null && echo setarch -R)
@@ -109,7 +130,7 @@ replay: $(LIBRARY) | build
 	$(COMPARE) replay $(SEED)
 
 test: prove
-	$(MAKE) --no-print-directory sorts host command examples papers second compare installed
+	$(MAKE) --no-print-directory style try sorts host command examples papers second compare installed
 	@tail -n 1 build/ci.log
 
 # ---- installation: the places have GNU's names; DESTDIR goes before each of them

@@ -1,14 +1,19 @@
-/* The plot is drawn by hand: a frame, a tick for each point's number, a tick
- * for each power of ten of nanoseconds, and a line for each engine. */
+/* The plot is drawn by hand: a frame, a tick for each point's number, a tick for each power of ten of
+ * nanoseconds, and a line for each engine with its values. */
 #include "bench_plot.h"
 
 #include <math.h>
 #include <stdio.h>
 
-enum { WIDTH = 720, HEIGHT = 460, LEFT = 90, RIGHT = 690, TOP = 60, BOTTOM = 390 };
+/* The points keep away from the frame, so that there is room for their values. */
+enum {
+    WIDTH = 720, HEIGHT = 460, LEFT = 90, RIGHT = 690, TOP = 60, BOTTOM = 390, ROOM_ACROSS = 66,
+    ROOM_DOWN = 36
+};
+enum engine { PLEX, PLAIN, ENGINES };
 
-static const char plex_colour[] = "#1f5fa8";
-static const char plain_colour[] = "#c4571b";
+static const char *const colours[] = {[PLEX] = "#1f5fa8", [PLAIN] = "#c4571b"};
+static const char *const names[] = {[PLEX] = "proved engine (plex)", [PLAIN] = "plain C engine"};
 
 /* The ends of the axes, as logarithms to base ten. */
 struct axes {
@@ -24,7 +29,7 @@ static struct axes axes_for(const struct bench_point *points, size_t count)
     }
     return (struct axes){
         log10((double)points[0].number), log10((double)points[count - 1].number),
-        floor(log10(low / 2)), ceil(log10(high * 2))
+        floor(log10(low)), fmax(ceil(log10(high)), floor(log10(low)) + 1)
     };
 }
 
@@ -32,13 +37,18 @@ static double x_of(const struct axes *axes, size_t number)
 {
     double share = (log10((double)number) - axes->number_low)
                  / (axes->number_high - axes->number_low);
-    return LEFT + share * (RIGHT - LEFT);
+    return LEFT + ROOM_ACROSS + share * (RIGHT - LEFT - 2 * ROOM_ACROSS);
 }
 
 static double y_of(const struct axes *axes, double ns)
 {
     double share = (log10(ns) - axes->ns_low) / (axes->ns_high - axes->ns_low);
-    return BOTTOM - share * (BOTTOM - TOP);
+    return BOTTOM - ROOM_DOWN - share * (BOTTOM - TOP - 2 * ROOM_DOWN);
+}
+
+static double ns_of(const struct bench_point *point, enum engine engine)
+{
+    return engine == PLEX ? point->plex_ns : point->plain_ns;
 }
 
 static void draw_frame(FILE *file, const char *title, enum bench_axis axis)
@@ -54,7 +64,7 @@ static void draw_frame(FILE *file, const char *title, enum bench_axis axis)
     fprintf(file, "<text x=\"%d\" y=\"%d\" text-anchor=\"middle\">"
             "%s (logarithmic)</text>\n", (LEFT + RIGHT) / 2, BOTTOM + 45,
             by_call ? "records in the image" : "events in a call");
-    fprintf(file, "<text transform=\"translate(24 %d) rotate(-90)\" "
+    fprintf(file, "<text transform=\"translate(16 %d) rotate(-90)\" "
             "text-anchor=\"middle\">time %s, ns (logarithmic)</text>\n", (TOP + BOTTOM) / 2,
             by_call ? "a call" : "an event");
 }
@@ -76,29 +86,46 @@ static void draw_ticks(FILE *file, const struct axes *axes,
     }
 }
 
-/* The times stand above plex's points and below plain's. */
-static void draw_engine(FILE *file, const struct axes *axes,
-                        const struct bench_point *points, size_t count, int is_plex)
+static void draw_line(FILE *file, const struct axes *axes, const struct bench_point *points,
+                      size_t count, enum engine engine)
 {
-    const char *colour = is_plex ? plex_colour : plain_colour;
     fprintf(file, "<polyline fill=\"none\" stroke=\"%s\" stroke-width=\"2\" points=\"",
-            colour);
+            colours[engine]);
     for (size_t i = 0; i < count; i++)
         fprintf(file, "%.1f,%.1f ", x_of(axes, points[i].number),
-                y_of(axes, is_plex ? points[i].plex_ns : points[i].plain_ns));
+                y_of(axes, ns_of(&points[i], engine)));
     fprintf(file, "\"/>\n");
-    for (size_t i = 0; i < count; i++) {
-        double ns = is_plex ? points[i].plex_ns : points[i].plain_ns;
-        double x = x_of(axes, points[i].number), y = y_of(axes, ns);
-        const char *anchor = i == 0 ? "start" : i == count - 1 ? "end" : "middle";
+    for (size_t i = 0; i < count; i++)
         fprintf(file, "<circle cx=\"%.1f\" cy=\"%.1f\" r=\"4\" fill=\"%s\"/>\n",
-                x, y, colour);
-        fprintf(file, "<text x=\"%.1f\" y=\"%.1f\" text-anchor=\"%s\" fill=\"%s\">"
-                "%.0f</text>\n", x, is_plex ? y - 10 : y + 21, anchor, colour, ns);
+                x_of(axes, points[i].number), y_of(axes, ns_of(&points[i], engine)),
+                colours[engine]);
+}
+
+/* How far the lines go down the page from the point before to the point after. */
+static double fall_at(const struct axes *axes, const struct bench_point *points, size_t count,
+                      size_t i)
+{
+    const struct bench_point *before = &points[i == 0 ? 0 : i - 1];
+    const struct bench_point *after = &points[i + 1 == count ? i : i + 1];
+    return (y_of(axes, after->plex_ns) - y_of(axes, before->plex_ns)
+            + y_of(axes, after->plain_ns) - y_of(axes, before->plain_ns)) / 2;
+}
+
+/* Of the two values at a point, the greater stands above its line and the other below its own, each
+ * on the side that the lines lead away from. */
+static void draw_values(FILE *file, const struct axes *axes, const struct bench_point *points,
+                        size_t count, enum engine engine)
+{
+    static const char *const anchors[] = {"end", "middle", "start"};
+    for (size_t i = 0; i < count; i++) {
+        double own = ns_of(&points[i], engine), other = ns_of(&points[i], 1 - engine);
+        double fall = fall_at(axes, points, count, i);
+        int is_above = own > other || (own == other && engine == PLEX);
+        int side = fabs(fall) < 12 ? 0 : (fall > 0) == is_above ? 1 : -1;
+        fprintf(file, "<text x=\"%.1f\" y=\"%.1f\" text-anchor=\"%s\" fill=\"%s\">%.0f</text>\n",
+                x_of(axes, points[i].number) + 5 * side, y_of(axes, own) + (is_above ? -9 : 19),
+                anchors[1 + side], colours[engine], own);
     }
-    fprintf(file, "<text x=\"%d\" y=\"%d\" fill=\"%s\">%s</text>\n",
-            is_plex ? LEFT : LEFT + 160, TOP - 10, colour,
-            is_plex ? "proved engine (plex)" : "plain C engine");
 }
 
 int bench_plot(const char *path, const char *title, enum bench_axis axis,
@@ -110,8 +137,13 @@ int bench_plot(const char *path, const char *title, enum bench_axis axis,
     struct axes axes = axes_for(points, count);
     draw_frame(file, title, axis);
     draw_ticks(file, &axes, points, count);
-    draw_engine(file, &axes, points, count, 1);
-    draw_engine(file, &axes, points, count, 0);
+    for (enum engine engine = 0; engine < ENGINES; engine++)
+        draw_line(file, &axes, points, count, engine);
+    for (enum engine engine = 0; engine < ENGINES; engine++)
+        draw_values(file, &axes, points, count, engine);
+    for (enum engine engine = 0; engine < ENGINES; engine++)
+        fprintf(file, "<text x=\"%d\" y=\"%d\" fill=\"%s\">%s</text>\n",
+                LEFT + 190 * (int)engine, TOP - 10, colours[engine], names[engine]);
     fprintf(file, "</svg>\n");
     int failed = ferror(file);
     return fclose(file) != 0 || failed ? -1 : 0;

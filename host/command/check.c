@@ -15,14 +15,14 @@ static void print_accepted(const struct lent *lent)
 {
     uint32_t records = (uint32_t)(lent->image.size / PLEX_RECORD_SIZE);
     uint32_t blocks = count_blocks(lent->image.bytes, records);
-    printf("%saccepted%s: %s, %u %s in %u %s, with %s\n", colour_on(stdout, GREEN),
-           colour_off(stdout), lent->image.path, records, records == 1 ? "record" : "records",
-           blocks, blocks == 1 ? "block" : "blocks", lent->table.path);
+    print("%saccepted%s: %s, %u %s in %u %s, with %s\n", colour_on(stdout, GREEN),
+          colour_off(stdout), lent->image.path, records, records == 1 ? "record" : "records",
+          blocks, blocks == 1 ? "block" : "blocks", lent->table.path);
 }
 
 int check_command(int argc, char **argv)
 {
-    static const struct option no_options[] = {{NULL, NULL, NULL}};
+    static const struct option no_options[] = {{0}};
     const char *paths[2];
     struct lent lent = {0};
     if (!are_so_many(take_arguments(argc, argv, no_options, paths, 2), 2))

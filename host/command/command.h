@@ -6,9 +6,11 @@
 #include "words.h"
 
 #include <stdbool.h>
+#include <stdio.h>
 
-/* The status of the command: DONE, a file or what it holds turned back, or wrong use. */
-enum { DONE = 0, TURNED_BACK = 1, MISUSED = 2 };
+/* The status of the command: DONE; a file or what it holds turned back, and no file altered; wrong
+ * use; or, of plex waits, done and a ring found. */
+enum { DONE = 0, TURNED_BACK = 1, MISUSED = 2, RING_FOUND = 3 };
 
 /* ---- The parts, each given the arguments after its name. */
 int check_command(int argc, char **argv);
@@ -19,30 +21,42 @@ int waits_command(int argc, char **argv);
 
 /* ---- Arguments. */
 
-/* An option: with a value where it is to be put, or a flag. */
+/* An option: the place for the name of a file to be read or to be written, or a flag. */
 struct option {
     const char *name;
-    const char **value;
+    const char **read, **written;
     bool *flag;
 };
 
-/* Takes the options (a list that ends with a nameless one) and up to limit other arguments; the
- * count of those, or -1 after a sentence about what is wrong. */
+/* Takes the options (a list that ends with a nameless one) and up to limit other arguments, names
+ * of files to be read; the count of those, or -1 after a sentence about what is wrong. */
 int take_arguments(int argc, char **argv, const struct option *options, const char **others,
                    int limit);
 
 /* Whether the count of other arguments is the one wanted; a sentence if not. */
 bool are_so_many(int count, int wanted);
 
-/* ---- Sentences on standard error. */
+/* ---- Standard output. */
+
+/* Whether nothing is printed there, and no bar is shown. */
+extern bool is_quiet;
+
+/* As printf; an error is kept for is_printed. */
+void print(const char *format, ...) __attribute__((format(printf, 1, 2)));
+void flush_printed(void);
+
+/* Whether everything printed has reached standard output; a sentence if not. */
+bool is_printed(void);
+
+/* ---- Sentences on standard error, each on a line of its own. */
 void complain(const char *format, ...) __attribute__((format(printf, 1, 2)));
+
+/* Whether no error came up; a sentence about the file if one did. */
+bool is_read(const struct file *file, int failed);
+bool is_written(const char *path, int failed);
 
 /* Whether the file could be read; a sentence if not. */
 bool lend(struct file *file, const char *path, size_t limit);
-
-/* Whether a file to be written could be begun, and kept; a sentence if not. */
-bool is_begun(struct output *output, const char *path);
-bool is_kept(struct output *output, const char *path);
 
 /* The files lent to a call; those that it was not lent are empty. */
 struct lent {
@@ -58,9 +72,6 @@ bool is_state_long(const struct file *state);
 /* Whether the call was accepted; sentences about the cause, the file and the place if not. */
 bool was_accepted(const struct lent *lent, uint32_t result);
 
-/* Whether everything printed has reached standard output; a sentence if not. */
-bool is_printed(void);
-
 /* ---- Colour, which is only for a terminal. */
 enum colour { PLAIN, GREEN, YELLOW, RED, BOLD };
 
@@ -68,7 +79,7 @@ enum colour { PLAIN, GREEN, YELLOW, RED, BOLD };
 const char *colour_on(FILE *stream, enum colour colour);
 const char *colour_off(FILE *stream);
 
-/* A bar on standard error if that is a terminal; a total below what is done is not known. */
+/* A bar on standard error if that is a terminal; a total of 0 or below what is done is not known. */
 void show_progress(uint64_t done, uint64_t total);
 void clear_progress(void);
 

@@ -1,7 +1,12 @@
 /* The command plex: the library's four calls on files. */
-#include "command.h"
+#define _POSIX_C_SOURCE 200809L
 
+#include "command.h"
+#include "unfinished.h"
+
+#include <fcntl.h>
 #include <string.h>
+#include <unistd.h>
 
 static const struct part {
     const char *name;
@@ -17,38 +22,43 @@ static const struct part {
      "w0 shared word 0 of the record's block.\n"},
     {"run", run_command, "IMAGE TABLE WORDS|--state STATE EVENTS [OPTIONS]",
      "Carries the events of a file out, from a fresh machine with the initial words or from a\n"
-     "state, and prints a line for each event: its index, the event, the statement carried out,\n"
-     "the answer and the thread after it. A summary follows.\n"
+     "state, and prints a line for each event: its place in the file, the event, the statement\n"
+     "carried out, the answer and the thread after it. A summary follows.\n"
      "\n"
      "  --state STATE   begin with this state and not with a fresh machine\n"
      "  --out STATE     write the state left\n"
      "  --answers FILE  write the answers, 2 bytes an event\n"
      "  --summary       print the summary alone; events go 1,024 to a call\n"
      "\n"
-     "The event file may have any length. The files named by --out and --answers are written\n"
-     "only if every event was carried out.\n"},
-    {"state", state_command, "STATE",
+     "The event file may have any length, and may be a pipe: what its events say is printed as they\n"
+     "come. The files named by --out and --answers are put in place only after every event was\n"
+     "carried out and the summary printed, both or none.\n"},
+    {"state", state_command, "[IMAGE TABLE] STATE",
      "Shows a state: threads, locks held, queues, trees with their pending signals, and the\n"
-     "shared words that are not 0.\n"},
+     "shared words that are not 0. With its image and table, says whether it is well formed.\n"},
     {"waits", waits_command, "IMAGE TABLE STATE [--dot|--svg FILE]",
-     "Says which thread waits for which, and where a ring closes.\n"
+     "Says which thread waits for which, and where a ring closes; the status is then 3.\n"
      "\n"
      "  --dot       print the waits as a Graphviz graph instead\n"
-     "  --svg FILE  draw that graph with the program dot, which has to be installed\n"},
+     "  --svg FILE  draw a picture of the waits instead\n"},
 };
 enum { PARTS = sizeof parts / sizeof parts[0] };
 
-static const char formats[] =
+static const char common[] =
+    "The file - is standard input. --out=FILE is --out FILE, and so for each option; after -- come\n"
+    "files alone. --quiet prints nothing but what goes wrong.\n"
+    "\n"
     "An image is 84 bytes a record, 1 to 512 records; a block table 32 bytes; initial words 512\n"
     "bytes; a state 7,929 bytes; an event 55 bytes; an answer 2 bytes.\n";
 
 static void print_help(void)
 {
-    printf("Use: plex PART ARGUMENTS; plex PART --help says more.\n\n");
+    print("Use: plex PART ARGUMENTS; plex PART --help says more, plex --version the version.\n\n");
     for (size_t i = 0; i < PARTS; i++)
-        printf("  plex %s %s\n", parts[i].name, parts[i].use);
-    printf("\n%s\nThe status is 0; 1 if a file cannot be read or written or is refused; 2 if the "
-           "command is\nused wrongly.\n", formats);
+        print("  plex %s %s\n", parts[i].name, parts[i].use);
+    print("\n%s\nThe status is 0; 1 if a file cannot be read or written or is refused, and then no "
+          "file is\naltered; 2 if the command is used wrongly; 3 if plex waits finds a ring.\n",
+          common);
 }
 
 static const struct part *find_part(const char *name)
@@ -59,10 +69,15 @@ static const struct part *find_part(const char *name)
     return NULL;
 }
 
+static bool is_help(const char *argument)
+{
+    return strcmp(argument, "--help") == 0 || strcmp(argument, "-h") == 0;
+}
+
 static bool asks_for_help(int argc, char **argv)
 {
-    for (int i = 0; i < argc; i++)
-        if (strcmp(argv[i], "--help") == 0)
+    for (int i = 0; i < argc && strcmp(argv[i], "--") != 0; i++)
+        if (is_help(argv[i]))
             return true;
     return false;
 }
@@ -70,7 +85,7 @@ static bool asks_for_help(int argc, char **argv)
 static int carry_out(const struct part *part, int argc, char **argv)
 {
     if (asks_for_help(argc, argv)) {
-        printf("Use: plex %s %s\n\n%s\n%s", part->name, part->use, part->help, formats);
+        print("Use: plex %s %s\n\n%s\n%s", part->name, part->use, part->help, common);
         return DONE;
     }
     int status = part->carry_out(argc, argv);
@@ -79,20 +94,41 @@ static int carry_out(const struct part *part, int argc, char **argv)
     return status;
 }
 
-int main(int argc, char **argv)
+static int carry_out_all(int argc, char **argv)
 {
     const struct part *part = argc < 2 ? NULL : find_part(argv[1]);
-    int status = MISUSED;
-    remove_outputs_on_signals();
-    if (part != NULL) {
-        status = carry_out(part, argc - 2, argv + 2);
-    } else if (argc >= 2 && strcmp(argv[1], "--help") == 0) {
+    if (part != NULL)
+        return carry_out(part, argc - 2, argv + 2);
+    if (argc >= 2 && is_help(argv[1])) {
         print_help();
-        status = DONE;
-    } else {
-        if (argc >= 2)
-            complain("there is no part %s", argv[1]);
-        fprintf(stderr, "Use: plex check|show|run|state|waits ARGUMENTS; see plex --help\n");
+        return DONE;
     }
-    return is_printed() || status != DONE ? status : TURNED_BACK;
+    if (argc >= 2 && strcmp(argv[1], "--version") == 0) {
+        print("plex %s, format %d\n", PLEX_VERSION, PLEX_FORMAT_VERSION);
+        return DONE;
+    }
+    if (argc >= 2)
+        complain("there is no part %s", argv[1]);
+    fprintf(stderr, "Use: plex check|show|run|state|waits ARGUMENTS; see plex --help\n");
+    return MISUSED;
+}
+
+/* The next file opened would take the place of a standard stream that is closed. Each of those is
+ * opened the wrong way round, so that it still cannot be read or written. */
+static bool are_standard_streams_taken(void)
+{
+    for (int descriptor = STDIN_FILENO; descriptor <= STDERR_FILENO; descriptor++)
+        if (fcntl(descriptor, F_GETFD) < 0
+            && open("/dev/null", descriptor == STDIN_FILENO ? O_WRONLY : O_RDONLY) != descriptor)
+            return false;
+    return true;
+}
+
+int main(int argc, char **argv)
+{
+    if (!are_standard_streams_taken())
+        return TURNED_BACK;
+    remove_unfinished_on_signals();
+    int status = carry_out_all(argc, argv);
+    return is_printed() || status == MISUSED ? status : TURNED_BACK;
 }

@@ -3,7 +3,6 @@
 #include "explain.h"
 #include "names.h"
 
-#include <errno.h>
 #include <inttypes.h>
 #include <stdarg.h>
 #include <stdlib.h>
@@ -12,7 +11,8 @@
 void complain(const char *format, ...)
 {
     va_list arguments;
-    fflush(stdout);
+    flush_printed();
+    clear_progress();
     va_start(arguments, format);
     fprintf(stderr, "%splex:%s ", colour_on(stderr, RED), colour_off(stderr));
     vfprintf(stderr, format, arguments);
@@ -20,29 +20,23 @@ void complain(const char *format, ...)
     va_end(arguments);
 }
 
-bool lend(struct file *file, const char *path, size_t limit)
+bool is_read(const struct file *file, int failed)
 {
-    int failed = read_file(file, path, limit);
     if (failed)
-        complain("%s: cannot be read: %s", path, strerror(failed));
+        complain("%s: cannot be read: %s", file->path, strerror(failed));
     return !failed;
 }
 
-static bool is_written(const char *path, int failed)
+bool lend(struct file *file, const char *path, size_t limit)
+{
+    return is_read(file, read_file(file, path, limit));
+}
+
+bool is_written(const char *path, int failed)
 {
     if (failed)
         complain("%s: cannot be written: %s", path, strerror(failed));
     return !failed;
-}
-
-bool is_begun(struct output *output, const char *path)
-{
-    return is_written(path, begin_output(output, path));
-}
-
-bool is_kept(struct output *output, const char *path)
-{
-    return is_written(path, keep_output(output));
 }
 
 void free_lent(struct lent *lent)
@@ -125,6 +119,7 @@ static void report_event(const struct lent *lent, uint32_t index)
 bool was_accepted(const struct lent *lent, uint32_t result)
 {
     uint32_t number = PLEX_NUMBER(result), place = PLEX_PLACE(result);
+    uint64_t place_in_file = place;
     switch (number) {
     case 0: return true;
     case PLEX_BAD_IMAGE_LENGTH:
@@ -138,21 +133,15 @@ bool was_accepted(const struct lent *lent, uint32_t result)
     case PLEX_BAD_RECORD: report_record(lent, place); break;
     case PLEX_BAD_STATE_LENGTH: is_state_long(&lent->state); break;
     case PLEX_BAD_STATE: report_state(lent); break;
-    case PLEX_BAD_EVENT: report_event(lent, place); break;
+    case PLEX_BAD_EVENT:
+        report_event(lent, place);
+        place_in_file += lent->events_before;
+        break;
     case PLEX_BAD_WORDS_LENGTH:
         report_length(&lent->words, PLEX_WORDS_SIZE, "initial words are 512 bytes");
         break;
     default: complain("%s", refusal_name(number));
     }
-    fprintf(stderr, "      refused with number %u, place %u\n", number, place);
+    fprintf(stderr, "      refused with number %u, place %" PRIu64 "\n", number, place_in_file);
     return false;
-}
-
-bool is_printed(void)
-{
-    errno = 0;
-    bool printed = fflush(stdout) == 0 && !ferror(stdout);
-    if (!printed)
-        complain("standard output cannot be written: %s", strerror(errno != 0 ? errno : EIO));
-    return printed;
 }

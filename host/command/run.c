@@ -1,81 +1,59 @@
 /* plex run: an event file carried out, in calls of at most 1,024 events. */
 #define _POSIX_C_SOURCE 200809L
 
-#include "command.h"
+#include "events.h"
+#include "outputs.h"
 #include "trace.h"
 
 #include <errno.h>
-#include <inttypes.h>
 #include <stdlib.h>
 #include <string.h>
-#include <sys/stat.h>
 #include <unistd.h>
 
-/* One run of the command. The events in hand are lent from a buffer of PLEX_EVENTS_MAX events. */
+/* The files that a run writes. */
+enum { ANSWERS, STATE_LEFT, OUTPUTS };
+
+/* One run of the command. */
 struct run {
     struct lent lent;
-    FILE *stream;
-    uint64_t total; /* events of the file; 0 if its length is not known */
+    struct event_source source;
     bool summary_alone;
-    struct output state_output, answers_output;
+    const char *state_path, *output_paths[OUTPUTS]; /* NULL where there is none */
+    struct output outputs[OUTPUTS];
     struct tally tally;
 };
 
-static bool is_file_read(struct run *run, int failed)
-{
-    if (failed)
-        complain("%s: cannot be read: %s", run->lent.events.path, strerror(failed));
-    return !failed;
-}
-
-static bool are_whole_events(const struct run *run, uint64_t size)
-{
-    if (size % PLEX_EVENT_SIZE != 0)
-        complain("%s: %" PRIu64 " bytes; events are 55 bytes each, and %" PRIu64 " bytes are left "
-                 "over", run->lent.events.path, size, size % PLEX_EVENT_SIZE);
-    return size % PLEX_EVENT_SIZE == 0;
-}
-
-static bool open_events(struct run *run, const char *path)
-{
-    struct stat found;
-    run->lent.events.path = path;
-    run->lent.events.bytes = malloc(PLEX_EVENT_SIZE * PLEX_EVENTS_MAX);
-    run->stream = fopen(path, "rb");
-    if (run->lent.events.bytes == NULL || run->stream == NULL)
-        return is_file_read(run, errno);
-    if (fstat(fileno(run->stream), &found) != 0 || !S_ISREG(found.st_mode))
-        return true;
-    run->total = (uint64_t)found.st_size / PLEX_EVENT_SIZE;
-    return are_whole_events(run, (uint64_t)found.st_size);
-}
-
-/* The next events of the file into the buffer; their size is 0 at its end. */
-static bool read_events(struct run *run)
-{
-    struct file *events = &run->lent.events;
-    errno = 0;
-    events->size = fread(events->bytes, 1, PLEX_EVENT_SIZE * PLEX_EVENTS_MAX, run->stream);
-    return is_file_read(run, ferror(run->stream) ? errno : 0)
-        && are_whole_events(run, PLEX_EVENT_SIZE * run->tally.events + events->size);
-}
-
 /* The fresh machine, or the state of the file. */
-static bool begin_machine(struct run *run, const char *words_path, const char *state_path)
+static bool begin_machine(struct run *run, const char *words_path)
 {
     struct lent *lent = &run->lent;
-    if (state_path != NULL)
-        return lend(&lent->state, state_path, PLEX_STATE_SIZE);
+    if (run->state_path != NULL)
+        return lend(&lent->state, run->state_path, PLEX_STATE_SIZE);
     if (!lend(&lent->words, words_path, PLEX_WORDS_SIZE))
         return false;
     lent->state = (struct file){"the fresh state", malloc(PLEX_STATE_SIZE), PLEX_STATE_SIZE};
-    if (lent->state.bytes == NULL) {
-        complain("no memory");
+    if (!is_read(&lent->state, lent->state.bytes == NULL ? ENOMEM : 0))
         return false;
-    }
     return was_accepted(lent, plex_fresh(lent->image.bytes, lent->image.size, lent->table.bytes,
                                          lent->table.size, lent->words.bytes, lent->words.size,
                                          lent->state.bytes, lent->state.size));
+}
+
+static bool begin_outputs(struct run *run)
+{
+    for (int i = 0; i < OUTPUTS; i++) {
+        const char *path = run->output_paths[i];
+        if (path != NULL && !is_written(path, begin_output(&run->outputs[i], path)))
+            return false;
+    }
+    return true;
+}
+
+/* Writes to an output if it is wanted. */
+static bool put(struct run *run, int output, const uint8_t *bytes, size_t size)
+{
+    const char *path = run->output_paths[output];
+    return path == NULL || is_written(path, write_output(&run->outputs[output], bytes, size));
 }
 
 /* One Run with so many of the events in hand, from the given one on. */
@@ -112,26 +90,34 @@ static bool trace(struct run *run, size_t count, uint8_t *answers)
     return true;
 }
 
-/* The events in hand, and their answers written. */
+/* The events in hand; what they say is not held back until more have come. */
 static bool carry_out_events(struct run *run)
 {
     uint8_t answers[PLEX_ANSWER_SIZE * PLEX_EVENTS_MAX];
     size_t count = run->lent.events.size / PLEX_EVENT_SIZE;
-    bool at_once = run->summary_alone || count == 0;
+    bool at_once = run->summary_alone || is_quiet || count == 0;
     if (!(at_once ? carry_out(run, 0, count, answers) : trace(run, count, answers)))
         return false;
-    if (run->answers_output.stream != NULL)
-        fwrite(answers, PLEX_ANSWER_SIZE, count, run->answers_output.stream);
+    if (!put(run, ANSWERS, answers, PLEX_ANSWER_SIZE * count) || !is_printed())
+        return false;
     if (run->summary_alone || !isatty(STDOUT_FILENO))
-        show_progress(run->tally.events, run->total);
+        show_progress(run->tally.events, run->source.total);
     return true;
+}
+
+/* How many events a call waits for: one is enough if somebody may be waiting for what it says. */
+static size_t fewest_events(const struct run *run)
+{
+    const struct output *answers = &run->outputs[ANSWERS];
+    bool are_awaited = answers->path != NULL && answers->temporary == NULL;
+    return are_awaited || !(run->summary_alone || is_quiet) ? 1 : PLEX_EVENTS_MAX;
 }
 
 /* The whole file; one call is made even if it has no events, for the library to see the state. */
 static bool carry_out_file(struct run *run)
 {
     do {
-        if (!read_events(run))
+        if (!next_events(&run->source, &run->lent.events, fewest_events(run)))
             return false;
         if (run->lent.events.size == 0 && run->tally.calls != 0)
             return true;
@@ -141,27 +127,42 @@ static bool carry_out_file(struct run *run)
     return true;
 }
 
-/* The state left and the answers, each under its name; both only if the run went through. */
-static bool write_outputs(struct run *run, const char *state_path, const char *answers_path)
+/* The state left and the answers, complete and closed, but not yet in place. */
+static bool complete_outputs(struct run *run)
 {
-    if (run->state_output.stream != NULL)
-        fwrite(run->lent.state.bytes, 1, PLEX_STATE_SIZE, run->state_output.stream);
-    return (answers_path == NULL || is_kept(&run->answers_output, answers_path))
-        && (state_path == NULL || is_kept(&run->state_output, state_path));
+    if (!put(run, STATE_LEFT, run->lent.state.bytes, PLEX_STATE_SIZE))
+        return false;
+    for (int i = 0; i < OUTPUTS; i++) {
+        const char *path = run->output_paths[i];
+        if (path != NULL && !is_written(path, close_output(&run->outputs[i])))
+            return false;
+    }
+    return true;
+}
+
+/* The summary is out before the first file is put in place: if it fails, nothing was altered. */
+static bool finish(struct run *run)
+{
+    const struct output *at_fault;
+    clear_progress();
+    print_summary(&run->tally, run->lent.state.bytes);
+    if (!is_printed())
+        return false;
+    int failed = place_outputs(run->outputs, OUTPUTS, &at_fault);
+    return is_written(at_fault->path, failed);
 }
 
 static void end_run(struct run *run)
 {
-    if (run->stream != NULL)
-        fclose(run->stream);
-    drop_output(&run->state_output);
-    drop_output(&run->answers_output);
+    close_events(&run->source);
+    for (int i = 0; i < OUTPUTS; i++)
+        drop_output(&run->outputs[i]);
     free_lent(&run->lent);
 }
 
 static bool are_different(const char *out, const char *answers)
 {
-    bool same = out != NULL && answers != NULL && strcmp(out, answers) == 0;
+    bool same = out != NULL && answers != NULL && lead_to_same_file(out, answers);
     if (same)
         complain("--out and --answers name the same file");
     return !same;
@@ -169,26 +170,27 @@ static bool are_different(const char *out, const char *answers)
 
 int run_command(int argc, char **argv)
 {
-    struct run run = {0};
-    const char *state_path = NULL, *out = NULL, *answers = NULL, *paths[4];
+    struct run run = {.source.descriptor = -1};
+    const char *paths[4];
     const struct option options[] = {
-        {"--state", &state_path, NULL}, {"--out", &out, NULL}, {"--answers", &answers, NULL},
-        {"--summary", NULL, &run.summary_alone}, {NULL, NULL, NULL}
+        {.name = "--state", .read = &run.state_path},
+        {.name = "--out", .written = &run.output_paths[STATE_LEFT]},
+        {.name = "--answers", .written = &run.output_paths[ANSWERS]},
+        {.name = "--summary", .flag = &run.summary_alone}, {0}
     };
     int count = take_arguments(argc, argv, options, paths, 4);
-    if (!are_so_many(count, state_path != NULL ? 3 : 4) || !are_different(out, answers))
+    if (!are_so_many(count, run.state_path != NULL ? 3 : 4)
+        || !are_different(run.output_paths[STATE_LEFT], run.output_paths[ANSWERS]))
         return MISUSED;
     bool done = lend(&run.lent.image, paths[0], PLEX_RECORD_SIZE * PLEX_RECORDS_MAX)
         && lend(&run.lent.table, paths[1], PLEX_TABLE_SIZE)
-        && begin_machine(&run, paths[2], state_path)
-        && open_events(&run, paths[count - 1])
-        && (out == NULL || is_begun(&run.state_output, out))
-        && (answers == NULL || is_begun(&run.answers_output, answers))
+        && begin_machine(&run, paths[2])
+        && open_events(&run.source, &run.lent.events, paths[count - 1])
+        && begin_outputs(&run)
         && carry_out_file(&run)
-        && write_outputs(&run, out, answers);
+        && complete_outputs(&run)
+        && finish(&run);
     clear_progress();
-    if (done)
-        print_summary(&run.tally, run.lent.state.bytes);
     end_run(&run);
     return done ? DONE : TURNED_BACK;
 }

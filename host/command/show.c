@@ -5,7 +5,7 @@ static void print_record(const uint8_t *image, uint32_t label)
 {
     struct line line = {0};
     add_record(&line, image, label);
-    printf("  %s\n", line.text);
+    print("  %s\n", line.text);
 }
 
 /* The records whose block is this one; block 16 stands for every number that is no block. */
@@ -17,9 +17,9 @@ static void print_block(const uint8_t *image, uint32_t records, uint32_t block)
         if ((own < PLEX_BLOCKS ? own : PLEX_BLOCKS) != block)
             continue;
         if (!begun && block < PLEX_BLOCKS)
-            printf("%sblock %u%s\n", colour_on(stdout, BOLD), block, colour_off(stdout));
+            print("%sblock %u%s\n", colour_on(stdout, BOLD), block, colour_off(stdout));
         else if (!begun)
-            printf("%sno block%s\n", colour_on(stdout, BOLD), colour_off(stdout));
+            print("%sno block%s\n", colour_on(stdout, BOLD), colour_off(stdout));
         begun = true;
         print_record(image, label);
     }
@@ -29,7 +29,7 @@ static void print_block(const uint8_t *image, uint32_t records, uint32_t block)
  * do not depend on the table, so any table serves to ask the library. */
 int show_command(int argc, char **argv)
 {
-    static const struct option no_options[] = {{NULL, NULL, NULL}};
+    static const struct option no_options[] = {{0}};
     static const uint8_t any_table[PLEX_TABLE_SIZE];
     const char *path;
     struct lent lent = {0};
@@ -43,7 +43,6 @@ int show_command(int argc, char **argv)
     if (PLEX_NUMBER(result) != PLEX_BAD_IMAGE_LENGTH)
         for (uint32_t block = 0; block <= PLEX_BLOCKS; block++)
             print_block(lent.image.bytes, (uint32_t)(lent.image.size / PLEX_RECORD_SIZE), block);
-    fflush(stdout);
     bool accepted = was_accepted(&lent, result);
     free_lent(&lent);
     return accepted ? DONE : TURNED_BACK;

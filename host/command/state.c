@@ -1,10 +1,10 @@
-/* plex state: a state for a person. Without its image, nothing tells whether it is well formed;
- * counts above their limits are shown as they stand. */
+/* plex state: a state for a person. Only its image and table tell whether it is well formed; counts
+ * above their limits are shown as they stand. */
 #include "command.h"
 
 static void print_heading(const char *heading)
 {
-    printf("%s%s%s\n", colour_on(stdout, BOLD), heading, colour_off(stdout));
+    print("%s%s%s\n", colour_on(stdout, BOLD), heading, colour_off(stdout));
 }
 
 static bool is_idle(const uint8_t *thread)
@@ -20,8 +20,8 @@ static void print_threads(const uint8_t *state)
         struct line where = {0}, registers = {0};
         add_thread(&where, bytes);
         add_registers(&registers, bytes);
-        printf("  %u  %s", thread, where.text);
-        printf(is_idle(bytes) ? "\n" : ", registers %s\n", registers.text);
+        print("  %u  %s", thread, where.text);
+        print(is_idle(bytes) ? "\n" : ", registers %s\n", registers.text);
     }
 }
 
@@ -32,11 +32,11 @@ static void print_locks(const uint8_t *state)
     for (uint32_t lock = 0; lock < PLEX_BLOCKS; lock++)
         for (uint32_t thread = 0; thread < PLEX_THREADS; thread++)
             if (get16(thread_at(state, thread) + PLEX_THREAD_LOCKS) >> lock & 1) {
-                printf("  lock %u is held by thread %u\n", lock, thread);
+                print("  lock %u is held by thread %u\n", lock, thread);
                 any = true;
             }
     if (!any)
-        printf("  no lock is held\n");
+        print("  no lock is held\n");
 }
 
 static uint32_t listed_trees(const uint8_t *state)
@@ -52,28 +52,28 @@ static void print_queue(const uint8_t *state, uint32_t thread)
         if (tree_at(state, tree)[PLEX_TREE_THREAD] != thread)
             continue;
         if (begun)
-            printf(", tree %u", tree);
+            print(", tree %u", tree);
         else
-            printf("  thread %u: tree %u%s", thread, tree,
-                   is_idle(thread_at(state, thread)) ? "" : " (its job runs)");
+            print("  thread %u: tree %u%s", thread, tree,
+                  is_idle(thread_at(state, thread)) ? "" : " (its job runs)");
         begun = true;
     }
     if (begun)
-        printf("\n");
+        print("\n");
 }
 
 static void print_trees(const uint8_t *state)
 {
-    printf("%strees%s: %u\n", colour_on(stdout, BOLD), colour_off(stdout),
-           state[PLEX_STATE_TREE_COUNT]);
+    print("%strees%s: %u\n", colour_on(stdout, BOLD), colour_off(stdout),
+          state[PLEX_STATE_TREE_COUNT]);
     for (uint32_t tree = 0; tree < listed_trees(state); tree++) {
         const uint8_t *bytes = tree_at(state, tree);
         uint32_t pending = bytes[PLEX_TREE_PENDING];
-        printf("  tree %u on thread %u, %u pending\n", tree, bytes[PLEX_TREE_THREAD], pending);
+        print("  tree %u on thread %u, %u pending\n", tree, bytes[PLEX_TREE_THREAD], pending);
         for (uint32_t i = 0; i < pending && i < PLEX_PENDING_MAX; i++) {
             struct line line = {0};
             add_signal(&line, signal_at(bytes, i));
-            printf("    %s\n", line.text);
+            print("    %s\n", line.text);
         }
     }
 }
@@ -88,11 +88,11 @@ static void print_words(const uint8_t *state)
             if (get16(word_at(state, block, word)) != 0)
                 add(&line, " w%u=%u", word, get16(word_at(state, block, word)));
         if (line.length != 0)
-            printf("  block %u:%s\n", block, line.text);
+            print("  block %u:%s\n", block, line.text);
         any |= line.length != 0;
     }
     if (!any)
-        printf("  none\n");
+        print("  none\n");
 }
 
 static void print_state(const uint8_t *state)
@@ -103,21 +103,47 @@ static void print_state(const uint8_t *state)
     for (uint32_t thread = 0; thread < PLEX_THREADS; thread++)
         print_queue(state, thread);
     if (state[PLEX_STATE_TREE_COUNT] == 0)
-        printf("  all are empty\n");
+        print("  all are empty\n");
     print_trees(state);
     print_words(state);
 }
 
+/* Whether the library accepts the state with the image and the table, in which any walk does. */
+static bool is_well_formed(const struct lent *lent)
+{
+    uint8_t met[PLEX_MET_SIZE];
+    if (!was_accepted(lent, plex_walk(lent->image.bytes, lent->image.size, lent->table.bytes,
+                                      lent->table.size, lent->state.bytes, lent->state.size, 0,
+                                      met, sizeof met)))
+        return false;
+    print("%swell formed%s with %s and %s\n", colour_on(stdout, GREEN), colour_off(stdout),
+          lent->image.path, lent->table.path);
+    return true;
+}
+
+/* A state that is not well formed is shown too, so that the fault can be seen. */
+static bool show_state(const struct lent *lent, bool has_image)
+{
+    if (!has_image && !is_state_long(&lent->state))
+        return false;
+    if (lent->state.size == PLEX_STATE_SIZE)
+        print_state(lent->state.bytes);
+    return !has_image || is_well_formed(lent);
+}
+
 int state_command(int argc, char **argv)
 {
-    static const struct option no_options[] = {{NULL, NULL, NULL}};
-    const char *path;
+    static const struct option no_options[] = {{0}};
+    const char *paths[3];
     struct lent lent = {0};
-    if (!are_so_many(take_arguments(argc, argv, no_options, &path, 1), 1))
+    int count = take_arguments(argc, argv, no_options, paths, 3);
+    bool has_image = count > 1;
+    if (!are_so_many(count, has_image ? 3 : 1))
         return MISUSED;
-    bool readable = lend(&lent.state, path, PLEX_STATE_SIZE) && is_state_long(&lent.state);
-    if (readable)
-        print_state(lent.state.bytes);
+    bool done = (!has_image || (lend(&lent.image, paths[0], PLEX_RECORD_SIZE * PLEX_RECORDS_MAX)
+                                && lend(&lent.table, paths[1], PLEX_TABLE_SIZE)))
+        && lend(&lent.state, paths[count - 1], PLEX_STATE_SIZE)
+        && show_state(&lent, has_image);
     free_lent(&lent);
-    return readable ? DONE : TURNED_BACK;
+    return done ? DONE : TURNED_BACK;
 }

@@ -10,6 +10,7 @@
 #include <unistd.h>
 
 enum { BAR_WIDTH = 40 };
+static bool is_bar_shown;
 
 static bool is_coloured(FILE *stream)
 {
@@ -47,9 +48,9 @@ static bool is_due(void)
 
 void show_progress(uint64_t done, uint64_t total)
 {
-    if (!isatty(STDERR_FILENO) || !is_due())
+    if (is_quiet || !isatty(STDERR_FILENO) || !is_due())
         return;
-    if (total < done) {
+    if (total == 0 || total < done) {
         fprintf(stderr, "\r%" PRIu64 " events", done);
     } else {
         char bar[BAR_WIDTH + 1];
@@ -61,10 +62,12 @@ void show_progress(uint64_t done, uint64_t total)
                 (unsigned)(done * 100 / total), done, total);
     }
     fflush(stderr);
+    is_bar_shown = true;
 }
 
 void clear_progress(void)
 {
-    if (isatty(STDERR_FILENO))
+    if (is_bar_shown)
         fprintf(stderr, "\r\033[K");
+    is_bar_shown = false;
 }

@@ -46,9 +46,9 @@ void print_traced(uint64_t index, const uint8_t *image, const uint8_t *event,
         add_carried_out(&what, image, thread_at(before, thread));
         add_thread(&where, thread_at(after, thread));
     }
-    printf("%8" PRIu64 "  %-64s  %s%s%s", index, what.text, colour_on(stdout, colour_of(code)),
-           said.text, colour_off(stdout));
-    printf(where.length == 0 ? "\n" : "; %s\n", where.text);
+    print("%8" PRIu64 "  %-64s  %s%s%s", index, what.text, colour_on(stdout, colour_of(code)),
+          said.text, colour_off(stdout));
+    print(where.length == 0 ? "\n" : "; %s\n", where.text);
 }
 
 static void print_running(const uint8_t *state)
@@ -56,25 +56,25 @@ static void print_running(const uint8_t *state)
     bool any = false;
     for (uint32_t thread = 0; thread < PLEX_THREADS; thread++)
         if (get16(thread_at(state, thread) + PLEX_THREAD_LABEL) != PLEX_IDLE) {
-            printf("%s %u", any ? "" : "threads running:", thread);
+            print("%s %u", any ? "" : "threads running:", thread);
             any = true;
         }
-    printf(any ? "\n" : "all threads idle\n");
+    print(any ? "\n" : "all threads idle\n");
 }
 
 void print_summary(const struct tally *tally, const uint8_t *state)
 {
-    printf("%" PRIu64 " %s in %" PRIu64 " %s\n", tally->events,
-           tally->events == 1 ? "event" : "events", tally->calls,
-           tally->calls == 1 ? "call" : "calls");
+    print("%" PRIu64 " %s in %" PRIu64 " %s\n", tally->events,
+          tally->events == 1 ? "event" : "events", tally->calls,
+          tally->calls == 1 ? "call" : "calls");
     for (uint32_t code = 0; code < 256; code++)
         if (tally->codes[code] != 0)
-            printf("  %10" PRIu64 "  %s\n", tally->codes[code], code_name(code));
+            print("  %10" PRIu64 "  %s\n", tally->codes[code], code_name(code));
     for (uint32_t reason = 0; reason < 256; reason++)
         if (tally->traps[reason] != 0)
-            printf("  %10" PRIu64 "  of the traps: %u, %s\n", tally->traps[reason], reason,
-                   trap_name(reason));
+            print("  %10" PRIu64 "  of the traps: %u, %s\n", tally->traps[reason], reason,
+                  trap_name(reason));
     uint32_t trees = state[PLEX_STATE_TREE_COUNT];
-    printf("%u %s live; ", trees, trees == 1 ? "tree" : "trees");
+    print("%u %s live; ", trees, trees == 1 ? "tree" : "trees");
     print_running(state);
 }

@@ -1,0 +1,68 @@
+# Help and wrong use.
+tried 'no part' 2 'see plex --help'
+tried 'help' 0 'plex waits IMAGE TABLE STATE' --help
+tried 'unknown part' 2 'there is no part walk' walk
+for part in check show run state waits; do
+    tried "help of $part" 0 "^Use: plex $part " "$part" --help
+    tried "$part without arguments" 2 'missing' "$part"
+    tried "$part with an unknown option" 2 'no option --nothing' "$part" --nothing
+    tried "$part with a file too many" 2 'one argument too many' "$part" a b c d e
+done
+tried 'check without its files' 1 'a: cannot be read: No such file' check a b
+tried 'show without its file' 1 'a: cannot be read: No such file' show a
+tried 'run without its files' 1 'a: cannot be read: No such file' run a b c d
+tried 'state without its file' 1 'a: cannot be read: No such file' state a
+tried 'waits without its files' 1 'a: cannot be read: No such file' waits a b c
+tried 'run with words and a state' 2 'there are 4 files, and 3 are wanted' run a b c d --state e
+tried 'run without a file for --out' 2 'wants the name of a file' run a b c d --out
+tried 'nor after =' 2 '--out wants the name of a file' run a b c d --out=
+tried 'a value for a flag' 2 '--summary has no value' run a b c d --summary=yes
+tried 'a short option' 2 'there is no option -x here' check -x "$table"
+tried 'help of few letters' 0 'plex waits IMAGE TABLE STATE' -h
+tried 'help of a part of few letters' 0 '^Use: plex run ' run -h
+tried 'no help after --' 1 '^plex: --help: cannot be read' show -- --help
+tried 'the version' 0 '^plex [0-9][0-9.]*, format [0-9][0-9]*$' --version
+cp "$table" ./--table
+tried 'a name with dashes' 0 '^accepted: .*, with --table$' check -- "$image" --table
+tried 'a value after =' 0 '^15 events in 1 call$' \
+    run "$image" "$table" "$words" "$events" --summary --out=after --answers=answered
+holds 'a value after =: the state' [ -s after ]
+holds 'a value after =: the answers' [ -s answered ]
+
+# ---- the manual page names every option that the help does
+helped=$("$plex" --help; for part in check show run state waits; do "$plex" "$part" --help; done)
+for option in $(echo "$helped" | grep -oe '--[a-z][a-z]*' | sort -u); do
+    holds "the manual page lacks $option" \
+        grep -qFe "\\-\\-${option#--}" "$tests/../../man/plex.1"
+done
+
+# ---- quiet
+"$plex" check --quiet "$image" "$table" >said 2>&1
+holds 'a quiet check: status' [ $? = 0 ]
+holds 'a quiet check speaks' [ ! -s said ]
+"$plex" run "$image" "$table" "$words" "$events" --quiet --out after-2 --answers answered-2 >said 2>&1
+holds 'a quiet run: status' [ $? = 0 ]
+holds 'a quiet run speaks' [ ! -s said ]
+same 'the state of a quiet run' after after-2
+same 'the answers of a quiet run' answered answered-2
+"$plex" check "$table" "$table" --quiet >printed 2>said
+holds 'a quiet refusal: status' [ $? = 1 ]
+holds 'a quiet refusal prints' [ ! -s printed ]
+holds 'a quiet refusal does not say why' grep -q 'case.table: 32 bytes; an image is' said
+
+# ---- standard input
+"$plex" check - "$table" <"$image" >said 2>&1
+holds 'an image from standard input' grep -q '^accepted: standard input, 13 records' said
+"$plex" run "$image" "$table" - "$events" --quiet --out after-2 <"$words"
+same 'words from standard input' after after-2
+"$plex" run "$image" "$table" --state - "$events" --summary <left >said 2>&1
+holds 'a state from standard input' grep -q '^15 events' said
+"$plex" run "$image" "$table" "$words" - --quiet --out after-2 <"$events"
+same 'events from standard input' after after-2
+tried 'standard input twice' 2 'stands for one file alone' check - -
+tried 'standard input twice, once in an option' 2 'stands for one file alone' \
+    run "$image" "$table" - --state -
+tried 'standard input as an output' 2 '--out wants a file to write, and - is standard input' \
+    run "$image" "$table" "$words" "$events" --out -
+head -c 40 "$image" | "$plex" check - "$table" >said 2>&1
+holds 'a short image from standard input' grep -q 'standard input: 40 bytes; an image is' said

@@ -1,0 +1,42 @@
+# plex check: bad files, and bad bytes in files of the right length.
+tried 'good image' 0 'accepted: good/case.image, 13 records in 5 blocks' check "$image" "$table"
+tried 'a folder' 1 'good: cannot be read: Is a directory' check good "$table"
+tried 'empty image' 1 'empty: 0 bytes; an image is 84 bytes a record' check empty "$table"
+head -c 1091 "$image" >short
+tried 'short image' 1 'short: 1091 bytes; an image is' check short "$table"
+head -c 84 "$image" >one
+repeated one 513 long
+tried 'long image' 1 'long: more than 43008 bytes; an image is' check long "$table"
+tried 'its number' 1 'refused with number 1, place 0' check long "$table"
+head -c 31 "$table" >short
+tried 'short table' 1 'short: 31 bytes; a block table is 32' check "$image" short
+head -c 33 "$image" >long
+tried 'long table' 1 'long: more than 32 bytes; a block table is 32' check "$image" long
+
+byte "$table" 10 10 bad
+tried 'thread' 1 'bad: block 5 (thread 8, kind 0) has a field out of range' check "$image" bad
+tried 'why' 1 'its thread is 8, and threads are 0 to 7' check "$image" bad
+byte "$table" 13 2 bad
+tried 'kind' 1 'block 6 .*' check "$image" bad
+faulty() {
+    byte "$image" "$1" "$2" bad
+    tried "image byte $1 set to octal $2" 1 "$3" check bad "$table"
+}
+faulty 0 13 'opcode 11 is none of 1 to 10'
+faulty 84 0 'opcode 0 is none of'
+faulty 1 20 'its block is 16, and blocks are 0 to 15'
+faulty 2 4 'its entry is 4, and entries are 0 to 3'
+faulty 3 1 'CALL has no operator, so byte 3 is 0 and not 1'
+faulty 87 5 'operator 5 of ASSIGN is none of 1 to 4'
+faulty 4 15 'label A is 13, and the image.s labels are below 13'
+faulty 4 4 'label A is 4, whose entry is none, and the signal of CALL has entry direct'
+faulty 6 3 'label B is 3, in block 1, and here it is in the record.s block 0'
+faulty 90 1 'ASSIGN uses no label B, so it is 0 and not 1'
+faulty 8 32 'its operand count is 26, and CALL has 0 to 25'
+faulty 92 2 'its operand count is 2, and ASSIGN + has 3'
+faulty 9 4 'operand 0 has kind 4'
+faulty 10 31 'operand 0 is register 25, and registers are 0 to 24'
+faulty 94 20 'operand 0 is shared word 16'
+faulty 93 1 'the destination is a number'
+faulty 83 1 'a byte after its last operand is not 0'
+faulty 508 143 'record at label 6 (block 2) breaks a rule: ASSIGN r0 := r0 \* r1, on to 99'

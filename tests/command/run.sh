@@ -1,0 +1,35 @@
+# plex run: traces, summaries, states and answers.
+tried 'a trap' 0 '11  step of thread 0, label 8: RETURN WITH r0 *trap 2, RETURN with no return' \
+    run "$image" "$table" "$words" "$events" --out left --answers answers
+printf '\001\000\001\000\001\000\005\000\006\000\005\000\004\001\006\000' >expected
+printf '\010\001\006\000\005\000\010\002\006\000\006\000\007\000' >>expected
+same 'answers' answers expected
+tried 'a summary' 0 '^15 events in 1 call$' \
+    run "$image" "$table" "$words" "$events" --summary --out left-2 --answers answers-2
+same 'state of a summary' left left-2
+same 'answers of a summary' answers answers-2
+tried 'from a state' 0 '3  started' \
+    run "$image" "$table" --state left "$events" --summary --out left-2
+tried 'the audit read 120' 0 '  block 4: w0=120' state left-2
+cp left-2 in-place
+tried 'a state in place' 0 'all threads idle' \
+    run "$image" "$table" "$events" --state in-place --out in-place
+same 'state in place' in-place left-2
+tried 'no events' 0 '^0 events in 1 call$' run "$image" "$table" "$words" empty --out left-2
+tried 'a fresh state' 0 'all are empty' state left-2
+
+"$plex" run "$image" "$table" "$words" "$events" --summary --answers /dev/stderr 2>piped >said
+holds 'answers to a stream' [ "$(wc -c <piped)" = 30 ]
+ln -s left-2 link
+tried 'a link' 0 'all threads idle' run "$image" "$table" "$words" "$events" --out link
+holds 'a link stays one' [ -h link ]
+same 'the file of a link' left left-2
+
+tried '4,500 events' 0 '^4500 events in 5 calls$' \
+    run "$image" "$table" "$words" many --summary --out left --answers answers
+tried 'the same one by one' 0 '^4500 events in 4500 calls$' \
+    run "$image" "$table" "$words" many --out left-2 --answers answers-2
+same 'state of many' left left-2
+same 'answers of many' answers answers-2
+tail -c +1 many | "$plex" run "$image" "$table" "$words" /dev/stdin --summary --out left-3 >said
+same 'state of events from a pipe' left left-3

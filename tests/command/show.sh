@@ -1,0 +1,9 @@
+# plex show.
+tried 'a statement' 0 '^    3  direct    CALL to 6 WITH r0, return to 4$' show "$image"
+tried 'its block' 0 '^block 1$' show "$image"
+byte "$image" 0 143 bad
+tried 'unknown opcode' 1 '^    0  external  unknown opcode 99$' show bad
+tried 'said too' 1 'bad: the record at label 0 (block 0) breaks a rule' show bad
+byte "$image" 1 143 bad
+tried 'unknown block' 1 '^no block$' show bad
+tried 'show a short file' 1 'case.table: 32 bytes; an image is' show "$table"

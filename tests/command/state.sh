@@ -1,0 +1,28 @@
+# plex state.
+tried 'eight events' 0 'threads running: 0 1' \
+    run "$image" "$table" "$words" eight --summary
+tried 'a thread' 0 '  0  at label 6, locks 0 1 2, return labels 1 4, registers r0=25' state waiting
+tried 'a lock' 0 '  lock 2 is held by thread 0' state waiting
+tried 'a queue' 0 '  thread 0: tree 0 (its job runs), tree 1' state waiting
+tried 'a signal' 0 '    label 8 WITH 999' state waiting
+tried 'a word' 0 '  block 1: w0=120' state waiting
+tried 'a short state' 1 'short-state: 7928 bytes; a state is 7,929 bytes' state short-state
+tried 'a long state' 1 'long-state: more than 7929 bytes' state long-state
+
+# ---- with its image and table
+tried 'a well-formed state' 0 '^well formed with good/case.image and good/case.table$' \
+    state "$image" "$table" waiting
+tried 'and it is shown' 0 '  lock 2 is held by thread 0' state "$image" "$table" waiting
+byte waiting 512 143 bad
+tried 'a bad state is shown without an image' 0 '  0  at label 99, locks 0 1 2' state bad
+tried 'a bad state is shown with its image' 1 '  0  at label 99, locks 0 1 2' \
+    state "$image" "$table" bad
+tried 'and refused' 1 'bad: not well formed with good/case.image and good/case.table' \
+    state "$image" "$table" bad
+tried 'for its cause' 1 'thread 0 has label 99, and the image.s labels are below 13' \
+    state "$image" "$table" bad
+tried 'with its number' 1 'refused with number 6, place 0' state "$image" "$table" bad
+tried 'a short state with its image' 1 'short-state: 7928 bytes; a state is 7,929 bytes' \
+    state "$image" "$table" short-state
+tried 'a state with a bad image' 1 'case.table: 32 bytes; an image is' state "$table" "$table" waiting
+tried 'a state without its table' 2 'there are 2 files, and 3 are wanted' state "$image" waiting
