@@ -152,6 +152,9 @@ stateSize = treesPlace + treeSize * treeCount
 
 -- ---- an event: kind, thread, signal; an answer: code, detail
 
+abbrev pub eventKindPlace : ℕ
+eventKindPlace = 0
+
 abbrev pub eventThreadPlace : ℕ
 eventThreadPlace = 1
 

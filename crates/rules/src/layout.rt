@@ -72,6 +72,8 @@ pub const TREES_PLACE: usize = TREE_COUNT_PLACE + 1;
 pub const STATE_SIZE: usize = TREES_PLACE + TREE_SIZE * Tree::COUNT;
 
 // An event: kind, thread, signal. An answer: code, detail.
+pub const EVENT_KIND_PLACE: usize = 0;
+
 pub const EVENT_THREAD_PLACE: usize = 1;
 
 pub const EVENT_SIGNAL_PLACE: usize = 2;
