@@ -13,7 +13,7 @@ use Rattle.rules.specs.Codes.{fdCode, noReturnLabelCode, foreignFdBlockC
 use Rattle.rules.specs.Bytes.{has}
 use Rattle.rules.specs.Image.{recordAt, blockField, labelA, labelB, Row, rowAt}
 use Rattle.rules.specs.Statements.{statementOf, dataOf}
-use Rattle.rules.specs.Machine.{Signal, Tree, Job, ThreadState, idle, running, Machine, threadAt, locksOf, fill, first, put, treeThreads, window, keep}
+use Rattle.rules.specs.Machine.{Signal, Tree, Job, job, ThreadState, idle, running, Machine, threadAt, locksOf, fill, first, put, treeThreads, window, keep}
 use Rattle.rules.specs.Events.{Kind, stepping, cutting, Event, arrive, turn}
 use Rattle.rules.specs.Effects.{Got, trap, got, Next, onA, onB, intoA, callA, back, Going, Outcome, ends, goes, View, outcome}
 use Rattle.rules.specs.declared.answer.Answer.{Answer}
@@ -54,7 +54,7 @@ alien r t = eqb (r .kind) fdCode && not (eqb (r .thread) t)
 -- to an FD block of another thread: reason 5
 module _ (block : ℕ → ℕ) (row : ℕ → Row) where
   abbrev pub onward : ℕ → List ℕ → ℕ → Going → Option ℕ → Effect
-  onward l returns a g want = moves (record { label = l; returns = returns; registers = g .cells .registers }) (g .cells .words) (signalTo a (g .sent)) want
+  onward l returns a g want = moves (job l returns (g .cells .registers)) (g .cells .words) (signalTo a (g .sent)) want
 
   abbrev pub steer : ℕ → ℕ → ℕ → Going → Next → List ℕ → Effect
   steer t a b g onA rs = onward a rs a g none
@@ -127,7 +127,7 @@ pub record Reply : Type 0 where
 
 -- the job that a signal starts: its values fill registers 0 upward
 abbrev pub begin : Signal → Job
-begin g = record { label = g .label; returns = []; registers = fill (g .values) }
+begin g = job (g .label) [] (fill (g .values))
 
 abbrev pub added : Option Signal → List Signal
 added none = []

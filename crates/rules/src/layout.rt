@@ -27,6 +27,8 @@ pub const OPERAND_SIZE: usize = 3;
 pub const RECORD_SIZE: usize = OPERANDS_PLACE + OPERAND_SIZE * Image::OPERANDS;
 
 // A row of the block table: thread, kind.
+pub const ROW_THREAD_PLACE: usize = 0;
+
 pub const ROW_KIND_PLACE: usize = 1;
 
 pub const ROW_SIZE: usize = 2;
