@@ -1,37 +1,23 @@
--- The rows of the block table, tested as 16-bit numbers: the thread in the low byte, the kind in the high byte.
-use mathlib.Core.Path.{_≡_}
-use mathlib.Core.Bool.{Bool, _&&_}
-use mathlib.Core.List.{List}
-use Prim.Native.Nat.{ℕ, _+_, _*_, _/_, _%_, _<_}
-use native.Mathlib.Nat.{add-zero}
+-- A loop that tests every row of the block table.
+use mathlib.Core.Path.{_≡_, sym, _∙_}
+use mathlib.Core.Bool.{Bool, true, _&&_, and-assoc, and-true}
+use Prim.Native.Nat.{ℕ, _+_, _-_, _≤_, _<_}
+use native.Mathlib.Nat.{sub-zero}
 use native.Mathlib.Omega.{arith}
-use lib.Bits.{bitOr, or-mod, or-shr}
-use lib.Dec.{ltb}
-use lib.ListN.{length, getD, drop}
-use lib.Seq.{getD-drop}
-use Rattle.rules.specs.Bytes.{num16}
-use Rattle.rules.specs.Image.{rowAt}
-use Rattle.rules.specs.Check.{rowOk}
-use Rattle.image.specs.Records.{getD-any}
-use Rattle.image.specs.Runs.{exchange}
-use Rattle.image.proofs.Bits.{or-below}
+use Rattle.rules.specs.Bytes.{allFrom}
+use Rattle.fields.specs.Tests.{all-step, all-done}
 
-abbrev pub inRange : ℕ → Bool
-inRange x = ltb (x % 256) 8 && ltb (x / 256) 2
+-- the outcome before k, and the test from k on, say what the test of all n says
+abbrev pub Tested : (ℕ → Bool) → ℕ → Bool → ℕ → Type 0
+Tested f n ok k = (k ≤ n) × (allFrom f 0 n ≡ (ok && allFrom f k (n - k)))
 
-pub both-in-range : (x y : ℕ) → inRange (bitOr x y) ≡ (inRange x && inRange y)
-both-in-range x y =
-    let low : bitOr x y % 256 ≡ bitOr (x % 256) (y % 256) = or-mod x y 8 in
-    let high : bitOr x y / 256 ≡ bitOr (x / 256) (y / 256) = or-shr x y 8 in
-    let thread : ltb (bitOr (x % 256) (y % 256)) 8 ≡ (ltb (x % 256) 8 && ltb (y % 256) 8) = or-below 3 (x % 256) (y % 256) in
-    let kind : ltb (bitOr (x / 256) (y / 256)) 2 ≡ (ltb (x / 256) 2 && ltb (y / 256) 2) = or-below 1 (x / 256) (y / 256) in
-    rw (low, high, thread, kind) (exchange (ltb (x % 256) 8) (ltb (y % 256) 8) (ltb (x / 256) 2) (ltb (y / 256) 2))
+module _ (f : ℕ → Bool) (n : ℕ) where
+  pub begin : Tested f n true 0
+  begin = (omega arith, rw (sub-zero))
 
-pub row-in-range : (table : List ℕ) (b x : ℕ) → 2 * b < length table → getD table (2 * b) 0 < 256 → x ≡ num16 (drop (2 * b) table) → inRange x ≡ rowOk table b
-unfolding rowOk rowAt num16
-row-in-range table b x h small e =
-    let is : x ≡ getD table (2 * b + 0) 0 + 256 * getD table (2 * b + 1) 0 = rw (getD-drop, getD-drop) at e in
-    let zero : getD table (2 * b + 0) 0 ≡ getD table (2 * b) 0 = rw add-zero in
-    let low : x % 256 ≡ getD table (2 * b) 0 = omega arith in
-    let high : x / 256 ≡ getD table (2 * b + 1) 0 = omega arith in
-    rw (low, high, getD-any table (2 * b) 8 0 h)
+  module _ (ok : Bool) (k : ℕ) (inv : Tested f n ok k) where
+    pub next : (b : Bool) → k < n → b ≡ f k → Tested f n (ok && b) (k + 1)
+    next b h e = (omega arith, inv .1 ∙ rw (all-step f n k h, e) (sym (and-assoc ok (f k) _)))
+
+    pub end : n ≤ k → ok ≡ allFrom f 0 n
+    end h = sym (inv .1 ∙ rw (all-done f n k (omega arith)) (and-true ok))

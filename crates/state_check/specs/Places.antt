@@ -48,8 +48,9 @@ module _ (image table : List ℕ) where
     place-past h = rw (le-ltb l (labels image) h)
 
     pub place-is : l < labels image
-        → placeOk image table t locks l ≡ (has (blockAt image l) locks && (eqb (rowAt table (blockAt image l) .kind) 1 || eqb (rowAt table (blockAt image l) .thread) t))
-    unfolding placeOk rowAt
+        → placeOk image table t locks l
+        ≡ (has (rowAt table (blockAt image l) .lock) locks && (eqb (rowAt table (blockAt image l) .kind) 1 || eqb (rowAt table (blockAt image l) .thread) t))
+    unfolding placeOk
     place-is h = rw (lt-ltb l (labels image) h)
 
   -- a record where it stands

@@ -6,6 +6,7 @@ use fields::read::get16;
 use image::records::block_at;
 use image::records::index_of;
 use image::table::kind_at;
+use image::table::lock_at;
 use image::table::thread_at;
 use rules::layout::THREAD_SIZE;
 use rules::layout::THREADS_PLACE;
@@ -14,7 +15,6 @@ use rules::sorts::Lock;
 use rules::sorts::Thread;
 use rules::sorts::label_of;
 use rules::sorts::lock_number;
-use rules::sorts::lock_of;
 use rules::sorts::thread_number;
 use rules::sorts::thread_of;
 ghost use mathlib.Core.Path.{_≡_};
@@ -44,7 +44,7 @@ pub fn place_ok(image: &[u8], n: usize, table: &[u8], t: Thread, locks: u16, l: 
     }
     let b = block_at(image, l);
     let own = thread_number(thread_at(table, b)) == thread_number(t);
-    holds(locks, lock_of(b)) & ((kind_at(table, b) == 1) | own)
+    holds(locks, lock_at(table, b)) & ((kind_at(table, b) == 1) | own)
 }
 
 // The label and the return labels of a thread record.
