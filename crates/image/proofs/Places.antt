@@ -14,7 +14,7 @@ use Rattle.rules.specs.Bytes.{part, isZeros, num16, allFrom}
 use Rattle.fields.specs.Put.{part-none}
 use Rattle.rules.specs.Image.{operands, kind, value}
 use Rattle.rules.specs.Check.{operandOk, slotOk}
-use Rattle.image.specs.Runs.{exchange, all-at, all-holds, all-same, all-both, all-split, all-threes}
+use Rattle.fields.specs.Runs.{exchange, all-at, all-holds, all-same, all-both, all-split, all-threes}
 use Rattle.image.specs.Operands.{roomOf, markOf, Marks, bitsOk, placeOk, valueOk}
 use Rattle.image.proofs.Bits.{below-four, all-bits, no-bits, or-below, sum-zero}
 

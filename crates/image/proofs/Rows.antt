@@ -13,7 +13,7 @@ use Rattle.rules.specs.Bytes.{num16}
 use Rattle.rules.specs.Image.{rowAt}
 use Rattle.rules.specs.Check.{rowOk}
 use Rattle.image.specs.Records.{getD-any}
-use Rattle.image.specs.Runs.{exchange}
+use Rattle.fields.specs.Runs.{exchange}
 use Rattle.image.proofs.Bits.{or-below}
 
 abbrev pub inRange : ℕ → Bool

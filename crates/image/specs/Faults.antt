@@ -9,7 +9,7 @@ use lib.ListN.{length}
 use borrow.Author.Tests.{eqb-true, eq-eqb, ne-eqb}
 use Rattle.rules.specs.Bytes.{allFrom}
 use Rattle.rules.specs.Check.{rowOk, refusal, firstOf, tableLengthFault, tableFault}
-use Rattle.image.specs.Runs.{none-bad}
+use Rattle.fields.specs.Runs.{none-bad}
 
 -- ---- the first refusal of a list
 

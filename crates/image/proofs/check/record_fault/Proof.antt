@@ -7,7 +7,7 @@ use Rattle.rules.specs.Image.{labels, recordAt}
 use Rattle.rules.specs.Check.{recordOk, recordFault}
 use Rattle.fields.specs.Tests.{within}
 use Rattle.image.specs.Records.{labels-small}
-use Rattle.image.specs.Runs.{both-bad, bad-same, good-before}
+use Rattle.fields.specs.Runs.{both-bad, bad-same, good-before}
 use Rattle.image.specs.Forms.{outlineAt, slotsAt}
 use Rattle.image.proofs.Forms.{few, rule}
 use borrow.Author.Needs.{needs}
