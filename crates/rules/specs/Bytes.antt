@@ -1,5 +1,6 @@
 -- Fields of lists of bytes. Multi-byte fields are little-endian. What lies past a list's end reads as 0.
 use mathlib.Core.Bool.{Bool, true, cond, _&&_}
+use mathlib.Core.Option.{Option, none, some}
 use mathlib.Core.List.{List, [], _∷_, _++_}
 use Prim.Native.Nat.{ℕ, zero, suc, _+_, _*_, _/_, _%_, _^_}
 use lib.ListN.{getD, take, drop}
@@ -41,6 +42,15 @@ allFrom ok i (suc k) = ok i && allFrom ok (i + 1) k
 unfoldable pub firstBad : (ℕ → Bool) → ℕ → ℕ → ℕ
 firstBad ok i zero = i
 firstBad ok i (suc k) = cond (ok i) (firstBad ok (i + 1) k) i
+
+-- how many of the k numbers from i on pass a test, and the first that does
+unfoldable pub countFrom : (ℕ → Bool) → ℕ → ℕ → ℕ
+countFrom ok i zero = 0
+countFrom ok i (suc k) = cond (ok i) 1 0 + countFrom ok (i + 1) k
+
+unfoldable pub firstFrom : (ℕ → Bool) → ℕ → ℕ → Option ℕ
+firstFrom ok i zero = none
+firstFrom ok i (suc k) = cond (ok i) (some i) (firstFrom ok (i + 1) k)
 
 module _ {A : Type 0} where
   -- what f makes of each element, one after the other

@@ -5,7 +5,8 @@ use mathlib.Core.List.{List, [], _∷_, _++_, map}
 use Prim.Native.Nat.{ℕ, zero, suc, _*_, _-_}
 use native.Mathlib.Decide.{ℕ-discrete}
 use lib.ListN.{length, getD, set, replicate}
-use Rattle.rules.specs.Sizes.{threadCount, wordCount, registerCount}
+use Rattle.rules.specs.Sizes.{threadCount, lockCount, wordCount, registerCount}
+use Rattle.rules.specs.Bytes.{has, countFrom, firstFrom}
 
 -- a signal: the label that it goes to, and its values
 pub record Signal : Type 0 where
@@ -44,6 +45,13 @@ locksOf (running locks j) = locks
 abbrev pub jobOf : ThreadState → Option Job
 jobOf idle = none
 jobOf (running locks j) = some j
+
+-- the number of locks held is the ones in the lock set; the lowest lock held is the first of them
+unfoldable pub locksHeld : ℕ → ℕ
+locksHeld locks = countFrom (λ l. has l locks) 0 lockCount
+
+unfoldable pub lowestHeld : ℕ → Option ℕ
+lowestHeld locks = firstFrom (λ l. has l locks) 0 lockCount
 
 -- a fresh machine has all threads idle, no trees, and the initial words
 unfoldable pub fresh : List ℕ → Machine
