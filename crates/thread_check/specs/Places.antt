@@ -1,6 +1,6 @@
 -- The labels of a running thread's record, and the record as a whole.
 use mathlib.Core.Path.{_≡_, refl, sym, ap}
-use mathlib.Core.Bool.{Bool, true, false, cond, _&&_, _||_, true≢false, and-true}
+use mathlib.Core.Bool.{Bool, true, false, cond, _&&_, _||_, true≢false, and-true, and-false}
 use mathlib.Core.List.{List}
 use Prim.Native.Nat.{ℕ, _+_, _*_, _-_, _≤_, _<_}
 use native.Mathlib.Nat.{add-assoc}
@@ -16,6 +16,7 @@ use Rattle.rules.specs.Machine.{idle, running}
 use Rattle.rules.specs.Encoding.{threadFrom, jobFrom}
 use Rattle.rules.specs.Steps.{blockAt}
 use Rattle.rules.specs.WellFormed.{runningTidy, threadTidy, placeOk, threadOk}
+use Rattle.laws.specs.Sets.{has-none}
 use Rattle.fields.specs.Put.{part-drop}
 use Rattle.fields.specs.Pieces.{every-chunk}
 
@@ -49,6 +50,10 @@ module _ (image table : List ℕ) where
     unfolding placeOk
     place-past h = rw (le-ltb l (labels image) h)
 
+    pub place-lockless : locks ≡ 0 → placeOk image table t locks l ≡ false
+    unfolding placeOk
+    place-lockless e = rw (e, has-none (rowAt table (blockAt image l) .lock), and-false)
+
     pub place-is : l < labels image
         → placeOk image table t locks l ≡ (has (blockAt image l) locks && (eqb (rowAt table (blockAt image l) .kind) cmxCode || eqb (rowAt table (blockAt image l) .thread) t))
     unfolding placeOk rowAt
@@ -68,6 +73,12 @@ module _ (image table : List ℕ) where
     thread-idle e = rw (eq-eqb _ _ e) (rw part-drop)
 
     module _ (e : num16 (drop at s) ≡ idleLabel → ⊥) where
+      pub thread-lockless : num16 (drop (at + locksPlace) s) ≡ 0 → threadGood t (drop at s) ≡ false
+      unfolding threadGood placesOk
+      thread-lockless q =
+          let none : num16 (drop locksPlace (drop at s)) ≡ 0 = rw drop-drop q in
+          rw (ne-eqb _ _ e, place-lockless t (num16 (drop locksPlace (drop at s))) (num16 (drop at s)) none, and-false)
+
       pub thread-untidy : runningTidy (drop at s) ≡ false → threadGood t (drop at s) ≡ false
       unfolding threadGood
       thread-untidy q = rw (ne-eqb _ _ e, q)

@@ -7,6 +7,7 @@ use image::records::block_at;
 use image::records::index_of;
 use image::table::kind_at;
 use image::table::thread_at;
+use lock_sets::held::number_held;
 use rules::codes::CMX;
 use rules::layout::LOCKS_PLACE;
 use rules::layout::RETURN_COUNT_PLACE;
@@ -68,13 +69,16 @@ pub fn places_ok(image: &[u8], n: usize, table: &[u8], t: Thread, s: &[u8], at: 
     ok
 }
 
-// A thread record: tidy bytes, and a thread that is well formed.
+// A thread record: tidy bytes, and a thread that is well formed. A running thread holds a lock, that of its label's block.
 pub fn thread_good(image: &[u8], n: usize, table: &[u8], t: Thread, s: &[u8], at: usize) -> bool
     requires { ⌜ Passed (now image) (now table) × (n ≡ labels (now image)) × (at + threadSize ≤ length (now s)) ⌝ }
     ensures { λ r. ⌜ r ≡ threadGood (now (image .entry)) (now (table .entry)) (t .0) (drop at (now (s .entry))) ⌝ }
 {
     if get16(s, at) == Label::IDLE {
         return all_zero(s, at + LOCKS_PLACE, THREAD_SIZE - LOCKS_PLACE);
+    }
+    if number_held(get16(s, at + LOCKS_PLACE)) == 0 {
+        return false;
     }
     if !running_tidy(s, at) {
         return false;
