@@ -6,5 +6,7 @@ pub mod Blocks
 pub mod Filled
 pub mod Tests
 pub mod Runs
+pub mod Bits
+pub mod Gathered
 pub mod Pieces
 pub mod Inside

@@ -14,7 +14,7 @@ use Rattle.rules.specs.Image.{rowAt}
 use Rattle.rules.specs.Check.{rowOk}
 use Rattle.image.specs.Records.{getD-any}
 use Rattle.fields.specs.Runs.{exchange}
-use Rattle.image.proofs.Bits.{or-below}
+use Rattle.fields.specs.Bits.{or-below}
 
 abbrev pub inRange : ℕ → Bool
 inRange x = ltb (x % 256) 8 && ltb (x / 256) 2

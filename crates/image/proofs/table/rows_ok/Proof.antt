@@ -2,7 +2,7 @@ use mathlib.Core.Path.{refl}
 use Prim.Native.Nat.{_*_, _-_}
 use native.Mathlib.Omega.{arith}
 use Rattle.rules.specs.Check.{rowOk}
-use Rattle.image.proofs.Gathered.{Gathered, begin, next, end}
+use Rattle.fields.specs.Gathered.{Gathered, begin, next, end}
 use Rattle.image.proofs.Rows.{inRange, both-in-range, row-in-range}
 use Rattle.image.proofs.table.rows_ok.Statement.{statement}
 use Rattle.image.proofs.table.rows_ok.Tie as tie
