@@ -7,7 +7,7 @@ use lib.Dec.{eqb, leb}
 use lib.ListN.{length}
 use borrow.Author.Tests.{eqb-true, leb-true}
 use Rattle.rules.specs.Calls.{eventsLengthFault, eventFault, answersLengthFault}
-use Rattle.image.specs.Faults.{refusal-none}
+use Rattle.image_check.specs.Faults.{refusal-none}
 use Rattle.laws.specs.Logic.{and-both}
 
 -- numbers 7 to 9

@@ -9,7 +9,7 @@ use rules::layout::EVENT_SIZE;
 use rules::layout::SIGNAL_SIZE;
 use rules::sorts::Thread;
 use rules::sorts::label_of;
-use state_check::signals::signal_tidy;
+use tree_check::signals::signal_tidy;
 ghost use mathlib.Core.Path.{_≡_};
 ghost use Prim.Native.Nat.{_+_, _*_, _≤_};
 ghost use lib.ListN.{length, drop};

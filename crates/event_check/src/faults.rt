@@ -1,7 +1,7 @@
 // The refusals 7 to 9, and the whole list of a Run's.
 use crate::event::first_bad_event;
-use image::check::first_of;
-use image::check::refuse;
+use image_check::faults::first_of;
+use image_check::faults::refuse;
 use rules::layout::ANSWER_SIZE;
 use rules::layout::EVENT_SIZE;
 use state_check::faults::machine_fault;

@@ -34,7 +34,7 @@ or-none a b = go (eqb a 0) (eqb b 0) refl refl
     go false y p q = ne-eqb (bitOr a b) 0 (λ e. eqb-false a 0 p (omega (arith, or-add-and a b, and-le-r a b)))
 
 -- nor in a number that is joined of two
-join-none : (a c b : ℕ) → 0 < c → eqb (a + c * b) 0 ≡ (eqb a 0 && eqb b 0)
+pub join-none : (a c b : ℕ) → 0 < c → eqb (a + c * b) 0 ≡ (eqb a 0 && eqb b 0)
 join-none a c b h = go (eqb a 0) (eqb b 0) refl refl
   where
     go : (x y : Bool) → eqb a 0 ≡ x → eqb b 0 ≡ y → eqb (a + c * b) 0 ≡ (x && y)

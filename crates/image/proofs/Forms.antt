@@ -1,22 +1,20 @@
--- The rules of a record, cut as the check goes through them.
-use mathlib.Core.Path.{_≡_, refl, sym, _∙_}
-use mathlib.Core.Bool.{Bool, true, false, cond, _&&_, _||_, and-assoc, and-true, and-false, false≢true}
+-- What the opcode of a record asks for, opcode by opcode.
+use mathlib.Core.Path.{_≡_, refl}
+use mathlib.Core.Bool.{Bool, true, false, _&&_, and-false}
 use mathlib.Core.Option.{Option, none, some}
 use mathlib.Core.List.{List}
-use Prim.Native.Nat.{ℕ, _≤_, _<_}
+use Prim.Native.Nat.{ℕ, _<_}
 use native.Mathlib.Decide.{decLt}
 use native.Mathlib.Omega.{arith}
-use lib.Dec.{eqb, leb, ltb}
+use lib.Dec.{leb, ltb}
 use borrow.Author.Tests.{lt-leb, ne-eqb}
-use Rattle.rules.specs.Bytes.{allFrom}
-use Rattle.rules.specs.Image.{opcode, blockField, entry, operator, operands, labelA, labelB}
-use Rattle.rules.specs.Statements.{operationAt, assignmentOf, otherOf, statementOf, roleA, roleB}
+use Rattle.rules.specs.Image.{opcode, blockField, entry, operator, operands}
+use Rattle.rules.specs.Statements.{operationAt, assignmentOf, otherOf, statementOf}
 use Rattle.rules.specs.declared.statement.Operation.{Operation}
 use Rattle.rules.specs.declared.statement.Statement.{Statement}
 use Rattle.rules.specs.declared.statement.Statement.the-variants.{Assign}
-use Rattle.rules.specs.Check.{otherOk, shapeOk, headOk, slotOk, labelOk, ruleOk}
+use Rattle.rules.specs.Check.{otherOk, shapeOk}
 use Rattle.laws.specs.Heads.{few-by}
-use Rattle.image.specs.Operands.{slotsOk}
 use Rattle.image.specs.Forms.{labelsOk, formOk, outlineOk}
 
 -- below n, in the block and of the entry
@@ -37,10 +35,6 @@ pub no-other : (op o c : ℕ) → (op ≡ 1 → ⊥) → (op ≡ 3 → ⊥) → 
 unfolding otherOk
 no-other op o c a₁ a₃ a₄ a₅ a₆ a₇ a₈ a₉ a₁₀ = rw (ne-eqb op 4 a₄, no-data op a₅ a₆ a₇ a₈ a₉, ne-eqb op 1 a₁, ne-eqb op 3 a₃, ne-eqb op 10 a₁₀) refl
 
-moved : (b e s x l₁ l₂ : Bool) → (b && e && s && x && l₁ && l₂) ≡ (x && (b && e && (s && (l₁ && l₂))))
-moved b e s true l₁ l₂ = simp (and-assoc, and-true)
-moved b e s false l₁ l₂ = simp and-false
-
 module _ (image r : List ℕ) where
   abbrev found : Option Operation
   found = operationAt (opcode r) (operator r)
@@ -52,17 +46,6 @@ module _ (image r : List ℕ) where
       go : (q : Bool) → shapeOk found r ≡ q → (ltb (blockField r) 16 && ltb (entry r) 4 && (q && labelsOk image r (statementOf r))) ≡ false
       go true e = absurd (omega (arith, few-by found r e))
       go false e = and-false (ltb (blockField r) 16 && ltb (entry r) 4)
-
-  pub few : outlineOk image r ≡ true → operands r ≤ 25
-  few e = go (decLt 25 (operands r))
-    where
-      go : Dec (25 < operands r) → operands r ≤ 25
-      go (yes h) = absurd (false≢true (sym (too-many h) ∙ e))
-      go (no h) = omega arith
-
-  pub rule : ruleOk image r ≡ (slotsOk r && outlineOk image r)
-  unfolding ruleOk headOk formOk outlineOk
-  rule = moved (ltb (blockField r) 16) (ltb (entry r) 4) (shapeOk found r) (allFrom (slotOk r) 0 25) (labelOk image (roleA (statementOf r)) (blockField r) (labelA r)) (labelOk image (roleB (statementOf r)) (blockField r) (labelB r))
 
   -- what the opcode asks for, once it is known
   pub form-assign : (k : Operation) → found ≡ some k → formOk image r ≡ (shapeOk (some k) r && labelsOk image r (Assign (assignmentOf k r)))

@@ -1,5 +1,2 @@
-pub mod Bits
-pub mod Gathered
 pub mod Rows
-pub mod Places
 pub mod Forms

@@ -1,7 +1,4 @@
--- The laws of the image's records and of refusals, and the order in which the check goes through a record.
+-- The laws of the image's records, and what the rules ask of a record but for its operands.
 pub mod Records
-pub mod Runs
-pub mod Operands
 pub mod Assigns
 pub mod Forms
-pub mod Faults

@@ -8,6 +8,7 @@ use lib.Dec.{leb, eqb}
 use lib.ListN.{length, getD, take, drop, length-drop}
 use lib.Seq.{length-take-le, getD-take, getD-drop}
 use borrow.Author.Tests.{leb-true, lt-ltb, le-ltb}
+use Rattle.rules.specs.Sizes.{recordCount, recordSize}
 use Rattle.rules.specs.Image.{labels, recordAt}
 
 -- a byte within a list is the same with any default
@@ -21,18 +22,18 @@ cond-le : (t : Bool) (q m : ℕ) → q ≤ m → cond t q 0 ≤ m
 cond-le true q m h = h
 cond-le false q m h = omega arith
 
-pub labels-fit : (s : List ℕ) → 84 * labels s ≤ length s
+pub labels-fit : (s : List ℕ) → recordSize * labels s ≤ length s
 unfolding labels
-labels-fit s = omega (arith, cond-le (eqb (length s) (84 * (length s / 84)) && leb (length s / 84) 512) (length s / 84) (length s / 84) (omega arith))
+labels-fit s = omega (arith, cond-le (eqb (length s) (recordSize * (length s / recordSize)) && leb (length s / recordSize) recordCount) (length s / recordSize) (length s / recordSize) (omega arith))
 
-small : (a b : Bool) (q : ℕ) → (b ≡ true → q ≤ 512) → cond (a && b) q 0 ≤ 512
+small : (a b : Bool) (q : ℕ) → (b ≡ true → q ≤ recordCount) → cond (a && b) q 0 ≤ recordCount
 small true true q h = h refl
 small true false q h = omega arith
 small false b q h = omega arith
 
-pub labels-small : (s : List ℕ) → labels s ≤ 512
+pub labels-small : (s : List ℕ) → labels s ≤ recordCount
 unfolding labels
-labels-small s = small (eqb (length s) (84 * (length s / 84))) (leb (length s / 84) 512) (length s / 84) (leb-true (length s / 84) 512)
+labels-small s = small (eqb (length s) (recordSize * (length s / recordSize))) (leb (length s / recordSize) recordCount) (length s / recordSize) (leb-true (length s / recordSize) recordCount)
 
 pub no-record : (s : List ℕ) (l : ℕ) → labels s ≤ l → recordAt s l ≡ []
 unfolding recordAt
@@ -40,15 +41,15 @@ no-record s l h = rw (le-ltb l (labels s) h)
 
 -- the record at a label that the image has
 module _ (s : List ℕ) (l : ℕ) (h : l < labels s) where
-  pub record-fits : 84 * l + 84 ≤ length s
+  pub record-fits : recordSize * l + recordSize ≤ length s
   record-fits = omega (arith, labels-fit s)
 
-  pub record-part : recordAt s l ≡ take 84 (drop (84 * l) s)
+  pub record-part : recordAt s l ≡ take recordSize (drop (recordSize * l) s)
   unfolding recordAt
   record-part = rw (lt-ltb l (labels s) h)
 
-  pub length-record : length (recordAt s l) ≡ 84
-  length-record = rw record-part (length-take-le 84 (drop (84 * l) s) (simp length-drop (omega (arith, record-fits))))
+  pub length-record : length (recordAt s l) ≡ recordSize
+  length-record = rw record-part (length-take-le recordSize (drop (recordSize * l) s) (simp length-drop (omega (arith, record-fits))))
 
-  pub record-byte : (j d : ℕ) → j < 84 → getD (recordAt s l) j d ≡ getD s (84 * l + j) 0
-  record-byte j d k = rw (record-part, getD-take, getD-drop) (getD-any s (84 * l + j) d 0 (omega (arith, record-fits)))
+  pub record-byte : (j d : ℕ) → j < recordSize → getD (recordAt s l) j d ≡ getD s (recordSize * l + j) 0
+  record-byte j d k = rw (record-part, getD-take, getD-drop) (getD-any s (recordSize * l + j) d 0 (omega (arith, record-fits)))

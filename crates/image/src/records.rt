@@ -1,4 +1,6 @@
 // The records of an image.
+use rules::layout::BLOCK_PLACE;
+use rules::layout::ENTRY_PLACE;
 use rules::layout::RECORD_SIZE;
 use rules::limits::Image;
 use rules::sorts::Block;
@@ -8,6 +10,7 @@ use rules::sorts::label_number;
 ghost use mathlib.Core.Path.{_≡_};
 ghost use Prim.Native.Nat.{_<_};
 ghost use lib.ListN.{length};
+ghost use Rattle.rules.specs.Sizes.{recordSize};
 ghost use Rattle.rules.specs.Sorts.{block};
 ghost use Rattle.rules.specs.Image.{labels, recordAt, blockField, entry};
 
@@ -46,7 +49,7 @@ pub fn record_at(image: &[u8], at: Label) -> &[u8]
 // The same at a label that the image has.
 pub fn record_of(image: &[u8], l: usize) -> &[u8]
     requires { ⌜ l < labels (now image) ⌝ }
-    ensures { λ r. ⌜ (now r ≡ recordAt (now (image .entry)) l) × (length (now r) ≡ 84) ⌝ }
+    ensures { λ r. ⌜ (now r ≡ recordAt (now (image .entry)) l) × (length (now r) ≡ recordSize) ⌝ }
 {
     let from = RECORD_SIZE * l;
     &image[from..from + RECORD_SIZE]
@@ -58,7 +61,7 @@ pub fn block_at(image: &[u8], at: Label) -> Block
     ensures { λ r. ⌜ r ≡ block (blockField (recordAt (now (image .entry)) (at .0))) ⌝ }
 {
     let l = index_of(at);
-    block_of(image[RECORD_SIZE * l + 1])
+    block_of(image[RECORD_SIZE * l + BLOCK_PLACE])
 }
 
 pub fn entry_at(image: &[u8], at: Label) -> u8
@@ -66,5 +69,5 @@ pub fn entry_at(image: &[u8], at: Label) -> u8
     ensures { λ r. ⌜ r ≡ entry (recordAt (now (image .entry)) (at .0)) ⌝ }
 {
     let l = index_of(at);
-    image[RECORD_SIZE * l + 2]
+    image[RECORD_SIZE * l + ENTRY_PLACE]
 }

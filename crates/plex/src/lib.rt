@@ -2,7 +2,7 @@
 use engine::fresh::fresh;
 use engine::run::run;
 use event_check::faults::run_fault;
-use image::check::image_fault;
+use image_check::faults::image_fault;
 use rules::sorts::thread_of;
 use state_check::faults::fresh_fault;
 use state_check::faults::walk_fault;

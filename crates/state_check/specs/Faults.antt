@@ -6,17 +6,18 @@ use lib.ListN.{length}
 use native.Mathlib.Omega.{arith}
 use lib.Dec.{eqb}
 use borrow.Author.Tests.{eqb-true, eq-eqb, ne-eqb}
+use Rattle.rules.specs.Sizes.{stateSize}
 use Rattle.rules.specs.Check.{firstOf, imageFaults}
 use Rattle.rules.specs.Calls.{stateLengthFault, stateFault}
-use Rattle.image.specs.Faults.{then, refusal-none}
+use Rattle.image_check.specs.Faults.{then, refusal-none}
 
 -- numbers 1 to 6
 abbrev pub machineFaults : List ℕ → List ℕ → List ℕ → List ℕ
 machineFaults image table state = imageFaults image table (stateLengthFault state ∷ stateFault image table state ∷ [])
 
-pub state-length : (state : List ℕ) → stateLengthFault state ≡ 0 → length state ≡ 7929
+pub state-length : (state : List ℕ) → stateLengthFault state ≡ 0 → length state ≡ stateSize
 unfolding stateLengthFault
-state-length state e = eqb-true (length state) 7929 (refusal-none (eqb (length state) 7929) 5 0 (omega arith) e)
+state-length state e = eqb-true (length state) stateSize (refusal-none (eqb (length state) stateSize) 5 0 (omega arith) e)
 
 -- one of the refusals xs applies, or ys decide
 module _ (xs ys : List ℕ) where

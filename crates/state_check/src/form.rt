@@ -1,14 +1,14 @@
 // Whether a lent state is well formed.
-use crate::locks::locks_apart;
-use crate::places::threads_good;
-use crate::queues::trees_good;
 use fields::read::all_zero;
 use fields::read::get8;
 use image::records::count_labels;
+use lock_check::locks::locks_apart;
+use queue_check::queues::trees_good;
 use rules::layout::TREE_COUNT_PLACE;
 use rules::layout::TREE_SIZE;
 use rules::layout::TREES_PLACE;
 use rules::limits::Tree;
+use thread_check::places::threads_good;
 ghost use mathlib.Core.Path.{_≡_};
 ghost use lib.ListN.{length};
 ghost use Rattle.rules.specs.Sizes.{stateSize};

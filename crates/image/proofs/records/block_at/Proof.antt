@@ -1,4 +1,5 @@
 use native.Mathlib.Omega.{arith}
+use Rattle.rules.specs.Sizes.{blockCount, blockPlace}
 use Rattle.image.specs.Records.{record-fits, record-byte}
 use borrow.Author.Needs.{needs}
 use Rattle.image.proofs.records.block_at.Statement.{statement}
@@ -10,7 +11,7 @@ shared-slice-read-block-of c = omega (arith, record-fits (c .before .before .bef
 returns : tie.Need-returns
 returns c =
     let a = c .before .before .before .before .args in
-    simp (c .block-of .ensures, c .before .before .index-of .ensures, record-byte (a .image .now) (a .at .0) (c .before .before .before .before .pre) 1 16 (omega arith))
+    simp (c .block-of .ensures, c .before .before .index-of .ensures, record-byte (a .image .now) (a .at .0) (c .before .before .before .before .pre) blockPlace blockCount (omega arith))
 
 pub block-at-spec : {M : Type 1} → statement M
 block-at-spec =

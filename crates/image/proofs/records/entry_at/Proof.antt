@@ -1,4 +1,5 @@
 use native.Mathlib.Omega.{arith}
+use Rattle.rules.specs.Sizes.{entryPlace}
 use Rattle.image.specs.Records.{record-fits, record-byte}
 use borrow.Author.Needs.{needs}
 use Rattle.image.proofs.records.entry_at.Statement.{statement}
@@ -10,7 +11,7 @@ shared-slice-read-result c = omega (arith, record-fits (c .before .before .befor
 returns : tie.Need-returns
 returns c =
     let a = c .before .before .before .args in
-    simp (c .before .index-of .ensures, record-byte (a .image .now) (a .at .0) (c .before .before .before .pre) 2 0 (omega arith))
+    simp (c .before .index-of .ensures, record-byte (a .image .now) (a .at .0) (c .before .before .before .pre) entryPlace 0 (omega arith))
 
 pub entry-at-spec : {M : Type 1} → statement M
 entry-at-spec =

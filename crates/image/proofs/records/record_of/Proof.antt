@@ -1,6 +1,7 @@
 use native.Mathlib.Omega.{arith}
 use mathlib.Core.Path.{_≡_, refl}
 use Prim.Native.Nat.{_+_, _*_, _-_}
+use Rattle.rules.specs.Sizes.{recordSize}
 use Rattle.image.specs.Records.{record-fits, record-part, length-record}
 use borrow.Author.Needs.{needs}
 use Rattle.image.proofs.records.record_of.Statement.{statement}
@@ -18,7 +19,7 @@ part-result-end c = omega (arith, record-fits (c .args .image .now) (c .args .l)
 returns : tie.Need-returns
 returns c =
     let a = c .before .args in
-    let e : 84 * a .l + 84 - 84 * a .l ≡ 84 = omega arith in
+    let e : recordSize * a .l + recordSize - recordSize * a .l ≡ recordSize = omega arith in
     rw (e, ← record-part (a .image .now) (a .l) (c .before .pre)) (refl, length-record (a .image .now) (a .l) (c .before .pre))
 
 pub record-of-spec : {M : Type 1} → statement M

@@ -1,0 +1,53 @@
+use Prim.Native.Nat.{_-_}
+use mathlib.Core.Path.{_≡_, _∙_}
+use native.Mathlib.Omega.{arith}
+use Rattle.fields.specs.Tests.{Searching, begin, next, here, none}
+use Rattle.image_check.specs.Labels.{outlineAt}
+use Rattle.image_check.proofs.faults.first_bad_outline.Statement.{statement}
+use Rattle.image_check.proofs.faults.first_bad_outline.Tie as tie
+
+abbrev Inv-loop : tie.InvT-loop
+Inv-loop image n l₀ l = Searching (outlineAt image) n l
+
+abbrev μ-loop : tie.MeasureT-loop
+μ-loop image n l₀ l = n - l
+
+loop-holds : tie.Need-loop-holds Inv-loop μ-loop
+loop-holds c = begin _ _
+
+outline-ok-requires : tie.Need-outline-ok-requires Inv-loop μ-loop
+outline-ok-requires c κs = (c .before .before .before .before .pre, c .record-of .ensures .1)
+
+returns : tie.Need-returns Inv-loop μ-loop
+returns c =
+    let s = c .before .before .before .before .before .before in
+    let l = c .before .before .before .before .loop in
+    let e : c .before .outline-ok .result ≡ outlineAt (s .args .image .now) (l .l) = c .before .outline-ok .ensures ∙ rw (c .before .before .record-of .ensures .0) in
+    here (outlineAt (s .args .image .now)) (s .args .n) (l .l) (l .inv) _ (c .before .before .before .loop-test .taken) e (c .if1 .taken)
+
+loop-again : tie.Need-loop-again Inv-loop μ-loop
+loop-again c =
+    let s = c .before .before .before .before .before .before in
+    let l = c .before .before .before .before .loop in
+    let e : c .before .outline-ok .result ≡ outlineAt (s .args .image .now) (l .l) = c .before .outline-ok .ensures ∙ rw (c .before .before .record-of .ensures .0) in
+    next (outlineAt (s .args .image .now)) (s .args .n) (l .l) (l .inv) _ (c .before .before .before .loop-test .taken) e (c .if1 .left)
+
+returns-2 : tie.Need-returns-2 Inv-loop μ-loop
+returns-2 c =
+    let s = c .before .before .before in
+    none (outlineAt (s .args .image .now)) (s .args .n) (c .before .loop .l) (c .before .loop .inv) (c .loop-test .left)
+
+pub first-bad-outline-spec : {M : Type 1} → statement M
+first-bad-outline-spec =
+    tie.close
+    (tie.spec
+    Inv-loop
+    μ-loop
+    loop-holds
+    (λ c κs. omega arith)
+    outline-ok-requires
+    returns
+    (λ c. omega arith)
+    (λ c. omega arith)
+    loop-again
+    returns-2)

@@ -1,0 +1,2 @@
+// The image check: the refusals 1 to 4.
+pub mod faults;
