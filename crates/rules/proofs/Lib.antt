@@ -2,5 +2,6 @@
 pub mod Running
 pub mod Ends
 pub mod Opcodes
+pub mod Assigning
 pub mod OnBytes
 pub mod Trials

@@ -7,7 +7,8 @@ use lib.ListN.{replicate, drop}
 use Rattle.rules.specs.Sizes.{tableSize, wordsSize, stateSize}
 use Rattle.rules.specs.Bytes.{num16, num32, part, isZeros, allFrom, firstBad, blocks, pad, chunks, every}
 use Rattle.rules.specs.Image.{labels, recordAt, rowAt}
-use Rattle.rules.specs.Statements.{operandOf, operandAt, operandsFrom, operationAt, optional, assignmentBy, otherOf, statementOf}
+use Rattle.rules.specs.Statements.{operandOf, operandAt, operandsFrom, operationAt, optional, assignmentBy}
+use Rattle.rules.specs.Statements.{relationOf, conditionOf, otherOf, statementOf}
 use Rattle.rules.specs.Check.{assignOk, otherOk, headOk, slotOk, labelOk, ruleOk, recordOk, rowOk, imageLengthFault, tableLengthFault, tableFault, recordFault, firstOf}
 use Rattle.rules.specs.Machine.{fresh, queue, first, put, cells, stores, window, keep}
 use Rattle.rules.specs.Encoding.{presence, threadRaw, threadBytes, registersFrom, jobFrom, threadFrom, signalBytes, signalFrom, treeBytes, treeFrom, encode, wordsFrom, machineFrom}
@@ -41,6 +42,10 @@ times (suc n) b = b ++ times n b
 abbrev table : List ℕ
 table = replicate tableSize 0
 
+-- the same, but block 1 is on thread 1 and of this kind
+abbrev foreign : ℕ → List ℕ
+foreign kind = 0 ∷ 0 ∷ 1 ∷ kind ∷ replicate 28 0
+
 abbrev words : List ℕ
 words = replicate wordsSize 0
 
@@ -54,6 +59,9 @@ initial image = freshState image table words zeros
 abbrev answersTo : List ℕ → ℕ → List ℕ → List ℕ
 answersTo image m events = runAnswers image table (initial image) events (replicate (2 * m) 0)
 
+abbrev answersWith : List ℕ → List ℕ → ℕ → List ℕ → List ℕ
+answersWith rows image m events = runAnswers image rows (freshState image rows words zeros) events (replicate (2 * m) 0)
+
 abbrev stateAfter : List ℕ → ℕ → List ℕ → List ℕ
 stateAfter image m events = runState image table (initial image) events (replicate (2 * m) 0)
 
@@ -62,6 +70,16 @@ stateAfter image m events = runState image table (initial image) events (replica
 -- label 0 block 0, entry 3, ASSIGN copy shared word 0 from 7, A 1; label 1 EXIT in block 0
 abbrev assigning : List ℕ
 assigning = recordBytes 2 0 3 1 1 0 (2 ∷ 3 ∷ 0 ∷ 0 ∷ 1 ∷ 7 ∷ 0 ∷ []) ++ recordBytes 10 0 0 0 0 0 []
+
+-- label 0: ASSIGN with this operator, to register 0 or shared word 0 (kind 2 or 3), p the number of two such bytes, q 1; label 1: EXIT
+abbrev computing : ℕ → ℕ → ℕ → List ℕ
+computing operator kind p =
+    recordBytes 2 0 3 operator 1 0 (3 ∷ kind ∷ 0 ∷ 0 ∷ 1 ∷ p ∷ p ∷ 1 ∷ 1 ∷ 0 ∷ []) ++ recordBytes 10 0 0 0 0 0 []
+
+-- label 0: IF with this operator, of the numbers p and q, on to 1 or to 2; labels 1 and 2: EXIT
+abbrev comparing : ℕ → ℕ → ℕ → List ℕ
+comparing operator p q =
+    recordBytes 4 0 3 operator 1 2 (2 ∷ 1 ∷ p ∷ 0 ∷ 1 ∷ q ∷ 0 ∷ []) ++ recordBytes 10 0 0 0 0 0 [] ++ recordBytes 10 0 0 0 0 0 []
 
 -- label 0: RETURN
 abbrev returning : List ℕ
@@ -83,12 +101,24 @@ nested opcode = recordBytes 7 0 3 0 2 1 [] ++ recordBytes 10 0 0 0 0 0 [] ++ rec
 abbrev passing : ℕ → List ℕ
 passing opcode = recordBytes opcode 0 3 0 1 0 (1 ∷ 1 ∷ 5 ∷ 0 ∷ []) ++ recordBytes 10 0 1 0 0 0 []
 
+-- label 0 in block 0: SEND direct to 1; label 1 in block 1: EXIT
+abbrev entering : List ℕ
+entering = recordBytes 5 0 3 0 1 0 [] ++ recordBytes 10 1 1 0 0 0 []
+
+-- an arrival with the value 7, which becomes register 0, and two steps: the job starts, and the statement at label 0 is carried out
+abbrev startAndStep : List ℕ
+startAndStep = arrivalBytes 0 (1 ∷ 7 ∷ 0 ∷ []) ++ times 2 (turnBytes 2 0)
+
 abbrev wholeList : List ℕ
 wholeList = arrivalBytes 0 [] ++ times 4 (turnBytes 2 0)
 
 -- ---- the trials
 
 pub record OnBytes : Type 0 where
+  -- "65,535 + 1 is 0": the presence set and register 0, before it 7; "0 - 1 is 65,535": the same, and shared word 0
+  pub sum : part (stateAfter (computing 2 2 255) 3 startAndStep) 533 6 ≡ 1 ∷ 0 ∷ 0 ∷ 0 ∷ 0 ∷ 0 ∷ []
+  pub difference : part (stateAfter (computing 3 2 0) 3 startAndStep) 533 6 ≡ 1 ∷ 0 ∷ 0 ∷ 0 ∷ 255 ∷ 255 ∷ []
+  pub difference-word : part (stateAfter (computing 3 3 0) 3 startAndStep) 0 2 ≡ 255 ∷ 255 ∷ []
   -- "RETURN in a job with no call: 8, 2"
   pub returns : answersTo returning 3 (arrivalBytes 0 [] ++ times 2 (turnBytes 2 0)) ≡ 1 ∷ 0 ∷ 5 ∷ 0 ∷ 8 ∷ 2 ∷ []
   -- "The eighth CALL moves on; the ninth: 8, 3"
@@ -116,6 +146,14 @@ pub record OnBytes : Type 0 where
   pub run : runReturn assigning table (initial assigning) wholeList (replicate 10 0) ≡ 0
   pub answers : answersTo assigning 5 wholeList ≡ 1 ∷ 0 ∷ 5 ∷ 0 ∷ 6 ∷ 0 ∷ 7 ∷ 0 ∷ 3 ∷ 0 ∷ []
   pub word : stateAfter assigning 5 wholeList ≡ 7 ∷ drop 1 (initial assigning)
+  -- also: IF, operator 2, is p less than q, and 1 is p equal to q: the label then
+  pub less : part (stateAfter (comparing 2 3 5) 3 startAndStep) 512 2 ≡ 1 ∷ 0 ∷ []
+  pub not-less : part (stateAfter (comparing 2 5 3) 3 startAndStep) 512 2 ≡ 2 ∷ 0 ∷ []
+  pub equal : part (stateAfter (comparing 1 5 5) 3 startAndStep) 512 2 ≡ 1 ∷ 0 ∷ []
+  pub not-equal : part (stateAfter (comparing 1 3 5) 3 startAndStep) 512 2 ≡ 2 ∷ 0 ∷ []
+  -- also: a direct SEND to an FD block (kind 0) of another thread traps, reason 5; a CMX block (kind 1) is open
+  pub foreign-FD : answersWith (foreign 0) entering 3 startAndStep ≡ 1 ∷ 0 ∷ 5 ∷ 0 ∷ 8 ∷ 5 ∷ []
+  pub foreign-CMX : answersWith (foreign 1) entering 3 startAndStep ≡ 1 ∷ 0 ∷ 5 ∷ 0 ∷ 6 ∷ 0 ∷ []
   -- also: after two CALLs and a RETURN all three locks are held
   pub return : part (stateAfter (nested 8) 5 (arrivalBytes 0 [] ++ times 4 (turnBytes 2 0))) 512 5 ≡ 3 ∷ 0 ∷ 7 ∷ 0 ∷ 1 ∷ []
   -- also: a cut two calls deep leaves Fresh's state
@@ -123,8 +161,19 @@ pub record OnBytes : Type 0 where
   pub cut-clears : stateAfter (nested 10) 5 (arrivalBytes 0 [] ++ times 3 (turnBytes 2 0) ++ turnBytes 3 0) ≡ initial (nested 10)
 
 pub onBytes : OnBytes
-unfolding num16 num32 part isZeros allFrom firstBad blocks pad chunks every labels recordAt rowAt operandOf operandAt operandsFrom operationAt optional assignmentBy otherOf statementOf assignOk otherOk headOk slotOk labelOk ruleOk recordOk rowOk imageLengthFault tableLengthFault tableFault recordFault firstOf ℕ-discrete fresh queue first put cells stores window keep presence threadRaw threadBytes registersFrom jobFrom threadFrom signalBytes signalFrom treeBytes treeFrom encode wordsFrom machineFrom code detail answerBytes eventFrom arrivalOk turnOk eventOk eventAtOk eventsFrom readAll perform outcome alien actBy planArrive planIdle planRunning planStep planCut plan held blocked attempt carry react answers final absentZero runningTidy threadTidy signalTidy signalAtTidy treeTidy threadAtTidy treeAtTidy stateTidy apart placeOk threadOk threadsOk pendingOk treeOk homed queuesOk machineOk wellFormed stateLengthFault stateFault eventsLengthFault eventFault answersLengthFault wordsLengthFault checkReturn freshReturn freshState runReturn runState runAnswers
+unfolding num16 num32 part isZeros allFrom firstBad blocks pad chunks every labels recordAt rowAt operandOf operandAt operandsFrom
+    operationAt optional assignmentBy relationOf conditionOf otherOf statementOf assignOk otherOk headOk slotOk labelOk ruleOk
+    recordOk rowOk imageLengthFault tableLengthFault tableFault recordFault firstOf ℕ-discrete fresh queue first put cells stores
+    window keep presence threadRaw threadBytes registersFrom jobFrom threadFrom signalBytes signalFrom treeBytes treeFrom encode
+    wordsFrom machineFrom code detail answerBytes eventFrom arrivalOk turnOk eventOk eventAtOk eventsFrom readAll perform outcome
+    alien actBy planArrive planIdle planRunning planStep planCut plan held blocked attempt carry react answers final absentZero
+    runningTidy threadTidy signalTidy signalAtTidy treeTidy threadAtTidy treeAtTidy stateTidy apart placeOk threadOk threadsOk
+    pendingOk treeOk homed queuesOk machineOk wellFormed stateLengthFault stateFault eventsLengthFault eventFault answersLengthFault
+    wordsLengthFault checkReturn freshReturn freshState runReturn runState runAnswers
 onBytes = record {
+  sum = refl;
+  difference = refl;
+  difference-word = refl;
   returns = refl;
   calls = refl;
   signals = refl;
@@ -142,6 +191,12 @@ onBytes = record {
   run = refl;
   answers = refl;
   word = refl;
+  less = refl;
+  not-less = refl;
+  equal = refl;
+  not-equal = refl;
+  foreign-FD = refl;
+  foreign-CMX = refl;
   return = refl;
   cut = refl;
   cut-clears = refl;

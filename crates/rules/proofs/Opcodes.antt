@@ -1,6 +1,6 @@
 -- The steps of a running thread that the trials are about, each over the number: of return labels, of pending signals, of values.
 use mathlib.Core.Path.{_≡_, refl, ap, _∙_}
-use mathlib.Core.Bool.{false}
+use mathlib.Core.Bool.{Bool, true, false, cond}
 use mathlib.Core.Option.{Option, none, some}
 use mathlib.Core.List.{List, [], _∷_, _++_, map}
 use Prim.Native.Nat.{ℕ, zero, suc, _+_, _-_, _^_, _<_, _≤_}
@@ -12,9 +12,10 @@ use borrow.Author.Tests.{le-leb, lt-leb}
 use Rattle.rules.specs.Image.{recordAt, labelA, labelB, rowAt}
 use Rattle.rules.specs.Machine.{Signal, Job, job, ThreadState, idle, running, Machine, threadAt, fill, first, put}
 use Rattle.rules.specs.Events.{step}
-use Rattle.rules.specs.Effects.{perform}
+use Rattle.rules.specs.Effects.{holds, perform}
 use Rattle.rules.specs.Steps.{Reply, newest, older, alien, blockAt, rulesBy, blocked, react}
-use Rattle.rules.specs.declared.statement.Statement.the-variants.{SendDirect, SendBuffered, Call, Return, Transfer, Exit}
+use Rattle.rules.specs.declared.statement.Condition.{Condition}
+use Rattle.rules.specs.declared.statement.Statement.the-variants.{If, SendDirect, SendBuffered, Call, Return, Transfer, Exit}
 use Rattle.rules.specs.declared.answer.Answer.the-variants.{Exited, Trapped}
 use Rattle.rules.proofs.Running.{wordsOf, Runs, MovesOn, trapped, exited, moves-on, own-tree}
 
@@ -82,6 +83,21 @@ module _ (image table : List ℕ) {s : Machine} {t locks : ℕ} {j : Job} {value
       (job (A image j) (j .returns) (map some values ++ drop (length values) (j .registers)))
   unfolding perform blocked
   transfer r = moves-on image table r _ (wordsOf image s j) none none refl refl
+
+  -- to an FD block of another thread
+  pub direct-trap : Runs image s t locks j SendDirect values → alien (rowAt table (blockAt image (A image j))) t ≡ true
+      → stepOf image table s t .answer ≡ Trapped 5
+  unfolding perform rowAt
+  direct-trap r h = trapped image table r 5 (rw h)
+
+  -- IF: on to A if p and q are in the relation, else to B
+  pub branch : (c : Condition) (b : Bool) → Runs image s t locks j (If c) values
+      → holds (c .relation) (getD values 0 0) (getD values 1 0) ≡ b
+      → MovesOn (stepOf image table s t) t locks
+      (record { label = cond b (A image j) (B image j); returns = j .returns; registers = j .registers })
+  unfolding perform blocked
+  branch c true r h = moves-on image table r _ (wordsOf image s j) none none (rw h) refl
+  branch c false r h = moves-on image table r _ (wordsOf image s j) none none (rw h) refl
 
   pub exit : Runs image s t locks j Exit values → stepOf image table s t .answer ≡ Exited
   unfolding perform

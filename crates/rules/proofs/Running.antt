@@ -9,7 +9,7 @@ use lib.ListN.{length, getD}
 use lib.Seq.{getD-set-same}
 use Rattle.rules.specs.Image.{recordAt, labelA, labelB, rowAt}
 use Rattle.rules.specs.Statements.{statementOf, reads, dataOf}
-use Rattle.rules.specs.Machine.{Signal, Job, ThreadState, idle, running, Machine, threadAt, first, put, window}
+use Rattle.rules.specs.Machine.{Signal, Job, ThreadState, idle, running, Machine, threadAt, first, put, window, keep}
 use Rattle.rules.specs.Answers.{code, detail, answerBytes}
 use Rattle.rules.specs.Events.{step}
 use Rattle.rules.specs.Effects.{got, Cells, readAll, perform, outcome}
@@ -99,3 +99,6 @@ module _ (image table : List ℕ) {s : Machine} {t locks : ℕ} {j : Job} {x : S
 
     pub own-tree : react (rulesBy image table) s (step t) .state .trees ≡ put t (some (pendingOf (first t (s .trees)) ++ added g)) (s .trees)
     own-tree = rw moved
+
+    pub own-words : react (rulesBy image table) s (step t) .state .words ≡ keep (blockAt image (j .label)) words (s .words)
+    own-words = rw moved

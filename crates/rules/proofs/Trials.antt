@@ -1,32 +1,36 @@
 -- The marked trials of document 01 as one table. What is common to all threads, locks and widths is said over the number: of any image
 -- and block table, and of any machine s, thread t of it, lock set, job j and values. The trials are computed on bytes besides (OnBytes).
 use mathlib.Core.Path.{_≡_, refl, ap, _∙_}
-use mathlib.Core.Bool.{true, cond}
+use mathlib.Core.Logic.{_≢_}
+use mathlib.Core.Bool.{true, false, cond, and-false}
 use mathlib.Core.Option.{none, some}
 use mathlib.Core.List.{List, [], _∷_, _++_}
-use Prim.Native.Nat.{ℕ, _+_, _-_, _%_, _^_, _<_, _≤_}
+use Prim.Native.Nat.{ℕ, _+_, _*_, _^_, _<_, _≤_}
 use native.Mathlib.Omega.{arith}
 use lib.Bits.{bitOr}
 use lib.ListN.{length, getD, drop, length-map}
 use lib.Dec.{eqb}
-use borrow.Author.Tests.{lt-ltb, le-ltb}
+use borrow.Author.Tests.{lt-ltb, le-ltb, eq-eqb, ne-eqb}
 use Rattle.rules.specs.Bytes.{num16, num32, firstBad, blocks, pad, chunks, has}
-use Rattle.rules.specs.Image.{rowAt}
+use Rattle.rules.specs.Image.{Row, rowAt}
+use Rattle.rules.specs.Codes.{addCode, subtractCode, multiplyCode}
 use Rattle.rules.specs.Check.{firstOf, imageFaults}
 use Rattle.rules.specs.Machine.{Signal, Job, job, ThreadState, idle, running, Machine, threadAt, locksOf, jobOf, fill, first, put}
 use Rattle.rules.specs.Encoding.{threadRaw, threadBytes, encode, machineFrom}
 use Rattle.rules.specs.Answers.{code, detail, close, sort}
 use Rattle.rules.specs.Events.{Event, arrive, step, cut, threadOf, eventsFrom}
-use Rattle.rules.specs.Effects.{one, compute}
-use Rattle.rules.specs.Steps.{Rules, rulesBy, newest, older, blockAt, planArrive, plan, carry, react, final, grown, founded}
+use Rattle.rules.specs.Steps.{Rules, rulesBy, newest, older, alien, blockAt, blocked}
+use Rattle.rules.specs.Steps.{planArrive, plan, carry, react, final, grown, founded}
 use Rattle.rules.specs.Calls.{stateLengthFault, stateFault, eventsLengthFault, eventFault, answersLengthFault, runReturn, runState}
-use Rattle.rules.specs.declared.statement.Operation.the-variants.{Add, Subtract, Multiply}
-use Rattle.rules.specs.declared.statement.Statement.the-variants.{SendDirect, SendBuffered, Call, Return, Transfer, Exit}
+use Rattle.rules.specs.declared.statement.Relation.the-variants.{Equal, Less}
+use Rattle.rules.specs.declared.statement.Condition.{Condition}
+use Rattle.rules.specs.declared.statement.Statement.the-variants.{If, SendDirect, SendBuffered, Call, Return, Transfer, Exit}
 use Rattle.rules.specs.declared.answer.Answer.the-variants.{Taken, ListFull, Started, Exited, Trapped, WasCut}
 use Rattle.rules.proofs.Running.{Runs, Answered, answered, MovesOn}
 use Rattle.rules.proofs.Opcodes as opcodes
 use Rattle.rules.proofs.Opcodes.{stepOf, Open, A, B, register}
 use Rattle.rules.proofs.Ends.{ends, locks-kept, starts-nothing, cut-answer, cut-idle}
+use Rattle.rules.proofs.Assigning.{Stores, sum, difference, product}
 use Rattle.rules.proofs.OnBytes.{OnBytes, onBytes}
 
 -- in the bytes of a thread the lock set, the return count and the presence set are 0
@@ -35,11 +39,18 @@ pub record Cleared (w : ThreadState) : Type 0 where
   pub returns : getD (threadBytes w) 4 0 ≡ 0
   pub presence : num32 (drop 21 (threadBytes w)) ≡ 0
 
-sum : (p q : ℕ) → p < 65536 → q < 65536 → 65536 ≤ p + q → compute Add p q ≡ one (p + q - 65536)
-sum p q hp hq h = let e : (p + q) % 65536 ≡ p + q - 65536 = omega arith in rw e
+-- an FD block of another thread is alien; a CMX block and a block of its own are not
+foreign : (r : Row) (t : ℕ) → r .kind ≡ 0 → r .thread ≢ t → alien r t ≡ true
+unfolding alien
+foreign r t k h = rw (k, ne-eqb (r .thread) t h)
 
-difference : (p q : ℕ) → p < q → q < 65536 → compute Subtract p q ≡ one (65536 - (q - p))
-difference p q h hq = let e : (p + 65536 - q) % 65536 ≡ 65536 - (q - p) = omega arith in rw e
+cmx : (r : Row) (t : ℕ) → r .kind ≡ 1 → alien r t ≡ false
+unfolding alien
+cmx r t k = rw k
+
+own : (r : Row) (t : ℕ) → r .thread ≡ t → alien r t ≡ false
+unfolding alien
+own r t h = rw (eq-eqb (r .thread) t h) (and-false (eqb (r .kind) 0))
 
 cleared-idle : (w : ThreadState) → w ≡ idle → Cleared w
 unfolding num16 num32 blocks pad threadRaw threadBytes
@@ -73,12 +84,13 @@ module _ (image table state : List ℕ) (passes : firstOf (imageFaults image tab
 pub record Trials (image table : List ℕ) (s : Machine) (t locks : ℕ) (j : Job) (values : List ℕ) : Type 0 where
   -- the trials as the document tells them, on bytes
   pub bytes : OnBytes
-  -- "65,535 + 1 is 0"
-  pub sum-wraps : compute Add 65535 1 ≡ one 0
-  pub sums : (p q : ℕ) → p < 65536 → q < 65536 → 65536 ≤ p + q → compute Add p q ≡ one (p + q - 65536)
-  -- "0 - 1 is 65,535"
-  pub difference-wraps : compute Subtract 0 1 ≡ one 65535
-  pub differences : (p q : ℕ) → p < q → q < 65536 → compute Subtract p q ≡ one (65536 - (q - p))
+  -- "65,535 + 1 is 0": a step at a record of ASSIGN, operator 2, of this p and q stores this; and of any p and q their sum modulo 65,536
+  pub sum-wraps : Stores image table s t locks j addCode 65535 1 0
+  pub sums : (p q v m : ℕ) → v < 65536 → p + q ≡ v + 65536 * m → Stores image table s t locks j addCode p q v
+  -- "0 - 1 is 65,535": operator 3, and the same of any p and q
+  pub difference-wraps : Stores image table s t locks j subtractCode 0 1 65535
+  pub differences : (p q v m : ℕ) → v < 65536 → p < 65536 → q < 65536 → v + q ≡ p + 65536 * m
+      → Stores image table s t locks j subtractCode p q v
   -- "RETURN in a job with no call: 8, 2"
   pub return-without-call : Runs image s t locks j Return values → j .returns ≡ [] → Answered (stepOf image table s t) 8 2
   -- "The eighth CALL moves on; the ninth: 8, 3"
@@ -111,7 +123,24 @@ pub record Trials (image table : List ℕ) (s : Machine) (t locks : ℕ) (j : Jo
   pub no-events-state : (state : List ℕ) → firstOf (imageFaults image table (stateLengthFault state ∷ stateFault image table state ∷ [])) ≡ 0
       → runState image table state [] [] ≡ encode (machineFrom state)
   -- also: 256 × 256 is 0
-  pub product-wraps : compute Multiply 256 256 ≡ one 0
+  pub product-wraps : Stores image table s t locks j multiplyCode 256 256 0
+  pub products : (p q v m : ℕ) → v < 65536 → p * q ≡ v + 65536 * m → Stores image table s t locks j multiplyCode p q v
+  -- also: IF goes on to A if p is less than q, or equal to it, and else to B
+  pub less : (c : Condition) → c .relation ≡ Less → (p q : ℕ) → Runs image s t locks j (If c) (p ∷ q ∷ []) → p < q
+      → MovesOn (stepOf image table s t) t locks (record { label = A image j; returns = j .returns; registers = j .registers })
+  pub not-less : (c : Condition) → c .relation ≡ Less → (p q : ℕ) → Runs image s t locks j (If c) (p ∷ q ∷ []) → q ≤ p
+      → MovesOn (stepOf image table s t) t locks (record { label = B image j; returns = j .returns; registers = j .registers })
+  pub equal : (c : Condition) → c .relation ≡ Equal → (p : ℕ) → Runs image s t locks j (If c) (p ∷ p ∷ [])
+      → MovesOn (stepOf image table s t) t locks (record { label = A image j; returns = j .returns; registers = j .registers })
+  pub not-equal : (c : Condition) → c .relation ≡ Equal → (p q : ℕ) → Runs image s t locks j (If c) (p ∷ q ∷ []) → p ≢ q
+      → MovesOn (stepOf image table s t) t locks (record { label = B image j; returns = j .returns; registers = j .registers })
+  -- also: a direct SEND to an FD block (kind 0) of another thread traps, reason 5; to a CMX block (kind 1), or a block of its own, it goes
+  pub foreign-FD : Runs image s t locks j SendDirect values → rowAt table (blockAt image (A image j)) .kind ≡ 0
+      → rowAt table (blockAt image (A image j)) .thread ≢ t → Answered (stepOf image table s t) 8 5
+  pub CMX : Runs image s t locks j SendDirect values → rowAt table (blockAt image (A image j)) .kind ≡ 1
+      → blocked (rulesBy image table) t (s .threads) (some (blockAt image (A image j))) ≡ none → Answered (stepOf image table s t) 6 0
+  pub own-FD : Runs image s t locks j SendDirect values → rowAt table (blockAt image (A image j)) .thread ≡ t
+      → blocked (rulesBy image table) t (s .threads) (some (blockAt image (A image j))) ≡ none → Answered (stepOf image table s t) 6 0
   -- also: an arrival goes to the list's end
   pub arrival-last : (g : Signal) → length (s .trees) < 16 → react (rulesBy image table) s (arrive g) .state .trees
       ≡ s .trees ++ record { thread = rowAt table (blockAt image (g .label)) .thread; pending = g ∷ [] } ∷ []
@@ -133,10 +162,10 @@ pub trials : (image table : List ℕ) (s : Machine) (t locks : ℕ) (j : Job) (v
 unfolding code detail final
 trials image table s t locks j values = record {
   bytes = onBytes;
-  sum-wraps = refl;
-  sums = sum;
-  difference-wraps = refl;
-  differences = difference;
+  sum-wraps = sum image table s t locks j 65535 1 0 1 (omega arith) refl;
+  sums = sum image table s t locks j;
+  difference-wraps = difference image table s t locks j 0 1 65535 1 (omega arith) (omega arith) (omega arith) refl;
+  differences = difference image table s t locks j;
   return-without-call = λ r e. answered (stepOf image table s t) (Trapped 2) (opcodes.return-trap image table r e);
   eighth-call = opcodes.call image table;
   ninth-call = λ r h. answered (stepOf image table s t) (Trapped 3) (opcodes.call-trap image table r h);
@@ -153,7 +182,17 @@ trials image table s t locks j values = record {
   no-events = λ R. refl;
   no-events-return = no-events-return image table;
   no-events-state = no-events-state image table;
-  product-wraps = refl;
+  product-wraps = product image table s t locks j 256 256 0 1 (omega arith) refl;
+  products = product image table s t locks j;
+  less = λ c e p q r h. opcodes.branch image table c true r (rw e (lt-ltb p q h));
+  not-less = λ c e p q r h. opcodes.branch image table c false r (rw e (le-ltb p q h));
+  equal = λ c e p r. opcodes.branch image table c true r (rw e (eq-eqb p p refl));
+  not-equal = λ c e p q r h. opcodes.branch image table c false r (rw e (ne-eqb p q h));
+  foreign-FD = λ r k h.
+      let alien-row = foreign (rowAt table (blockAt image (A image j))) t k h in
+      answered (stepOf image table s t) (Trapped 5) (opcodes.direct-trap image table r alien-row);
+  CMX = λ r k h. opcodes.direct image table r (record { own = cmx (rowAt table (blockAt image (A image j))) t k; free = h }) .answer;
+  own-FD = λ r k h. opcodes.direct image table r (record { own = own (rowAt table (blockAt image (A image j))) t k; free = h }) .answer;
   arrival-last = λ g h. rw (taken image table s g h);
   return-keeps-locks = opcodes.return image table;
   locks-kept = λ R. locks-kept R s;
