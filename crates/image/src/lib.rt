@@ -2,6 +2,7 @@
 pub mod check;
 pub mod decode;
 pub mod operand_places;
+pub mod record_fields;
 pub mod records;
 pub mod rule;
 pub mod table;
