@@ -25,13 +25,13 @@ ghost use Rattle.operands.specs.Cells.{cellsFrom, cellsOf};
 ghost use Rattle.operands.specs.Values.{ReadsPair, Computes};
 
 // The value of an operand, or the reason of the trap that reading it makes.
-pub enum Reading {
+enum Reading {
     Value(u16),
     Trap(u8),
 }
 
 // An operand, read. `present` is the set of the registers that are present.
-pub fn read_operand(
+fn read_operand(
     state: &[u8],
     block: Block,
     registers: &[u16; Thread::REGISTERS],
@@ -63,7 +63,8 @@ pub fn read_data(
     values: &mut [u16; Thread::REGISTERS],
 ) -> u8
     requires { ⌜ (length (now state) ≡ stateSize) × Readable (now r) × (length (now values) ≡ operandCount) ⌝ }
-    ensures { λ reason. ⌜ Reads (readAll (cellsOf (now (state .entry)) w (now (r .entry))) (dataOf (now (r .entry)))) reason (operands (now (r .entry))) (now (values .entry)) (now (values .exit)) ⌝ }
+    ensures { λ reason. ⌜ Reads (readAll (cellsOf (now (state .entry)) w (now (r .entry))) (dataOf (now (r .entry)))) reason
+        (operands (now (r .entry))) (now (values .entry)) (now (values .exit)) ⌝ }
 {
     let block = block_field(r);
     let registers = w.registers;

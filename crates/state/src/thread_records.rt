@@ -83,7 +83,8 @@ pub fn write_thread(state: &mut [u8], t: Thread, w: ThreadState)
 
 // The same where the return labels, and all registers but one, are as the record has them: they are not written.
 pub fn write_assigned(state: &mut [u8], t: Thread, w: ThreadState, register: u16, value: u16)
-    requires { ⌜ (length (now state) ≡ stateSize) × (t .0 < threadCount) × (w .depth ≤ returnCount) × (register < registerCount) × (w .returns ≡ returnsIn (now state) (t .0)) × (w .registers ≡ set (registersIn (now state) (t .0)) register value) ⌝ }
+    requires { ⌜ (length (now state) ≡ stateSize) × (t .0 < threadCount) × (w .depth ≤ returnCount) × (register < registerCount)
+        × (w .returns ≡ returnsIn (now state) (t .0)) × (w .registers ≡ set (registersIn (now state) (t .0)) register value) ⌝ }
     ensures { λ _. ⌜ now (state .exit) ≡ put (now (state .entry)) (threadPlace (t .0)) (rawBytes w) ⌝ }
 {
     let at = record_at(t);

@@ -1,32 +1,33 @@
 -- A running thread and the record at its label, when its step is carried out.
 use mathlib.Core.Path.{_≡_, refl, sym, ap, _∙_, subst}
-use mathlib.Core.Bool.{false}
+use mathlib.Core.Bool.{true, false}
 use mathlib.Core.List.{List, []}
 use mathlib.Core.Option.{some}
 use Prim.Native.Nat.{ℕ, _<_}
 use native.Mathlib.Omega.{arith}
 use lib.Dec.{eqb}
-use lib.ListN.{length, drop}
+use lib.ListN.{length, set}
 use lib.Seq.{length-take-le}
 use Rattle.rules.specs.Sizes.{threadCount, idleLabel}
 use Rattle.rules.specs.Image.{labels, recordAt, blockField, labelA, labelB}
 use Rattle.rules.specs.Statements.{statementOf, roleA, roleB, dataOf}
 use Rattle.rules.specs.Check.{recordOk}
 use Rattle.rules.specs.Effects.{Got, Cells, readAll}
-use Rattle.rules.specs.Machine.{Signal, Job, threadAt, first, running, window}
+use Rattle.rules.specs.Machine.{Signal, Job, threadAt, first, idle, running, window}
 use Rattle.rules.specs.Encoding.{machineFrom}
 use Rattle.rules.specs.Steps.{blockAt}
 use Rattle.rules.specs.declared.statement.Statement.{Statement}
 use Rattle.laws.specs.Passed.{Parts, passed, rule-parts}
 use Rattle.laws.specs.Heads.{head-fields, few-operands}
 use Rattle.soundness.specs.Sound.{ThreadIn}
+use Rattle.encoding.specs.Slots.{returnsIn, registersIn}
 use Rattle.image.specs.Records.{labels-small, length-record}
-use Rattle.threads.specs.Threads.{jobOf, returnsOf, Says, Running, runs-says}
-use Rattle.threads.specs.Records.{threadPlace, rawThread}
+use Rattle.threads.specs.Threads.{job, jobOf, returnsOf, registersOf, Running, Runs, runs-fields, idle-says, runs-says}
+use Rattle.threads.specs.Records.{rawThread, same-returns, set-registers}
 use Rattle.threads.specs.declared.thread.ThreadState.{ThreadState}
 use Rattle.operands.specs.Legal.{Below, Readable, label-below}
 use Rattle.operands.specs.Cells.{cellsFrom, cellsOf}
-use Rattle.step_ready.specs.Ready.{Ready, says}
+use Rattle.step_ready.specs.Ready.{Ready, Recorded, says}
 
 -- thread t runs a job
 abbrev pub Busy : List ℕ → ℕ → Type 0
@@ -36,15 +37,18 @@ Busy b t = (l : ℕ) × (j : Job) × (threadAt (machineFrom b) t ≡ running l j
 pub record At (image table b : List ℕ) (t : ℕ) (w : ThreadState) (r : List ℕ) : Type 0 where
   pub ready : Ready image table b
   pub inside : t < threadCount
-  pub read : w ≡ rawThread (drop (threadPlace t) b)
+  pub read : Recorded b t w
   pub thread : Running w
   pub runs : threadAt (machineFrom b) t ≡ running (w .locks) (jobOf w)
   pub here : r ≡ recordAt image (w .label .0)
   pub parts : Parts image r
   pub readable : Readable r
 
--- a thread that was read and is not idle
-module _ {image table b : List ℕ} (h : Ready image table b) (t : ℕ) (w : ThreadState) (l : t < threadCount) (e : w ≡ rawThread (drop (threadPlace t) b)) (n : eqb (w .label .0) idleLabel ≡ false) where
+-- a thread that was read and is idle, or is not
+pub at-rest : {image table b : List ℕ} (h : Ready image table b) (t : ℕ) (w : ThreadState) → t < threadCount → Recorded b t w → eqb (w .label .0) idleLabel ≡ true → threadAt (machineFrom b) t ≡ idle
+at-rest h t w l e n = sym (says h t l e .state) ∙ idle-says w n
+
+module _ {image table b : List ℕ} (h : Ready image table b) (t : ℕ) (w : ThreadState) (l : t < threadCount) (e : Recorded b t w) (n : eqb (w .label .0) idleLabel ≡ false) where
   pub runs-job : threadAt (machineFrom b) t ≡ running (w .locks) (jobOf w)
   runs-job = sym (says h t l e .state) ∙ runs-says w n
 
@@ -116,3 +120,17 @@ module _ {image table b : List ℕ} {t : ℕ} {w : ThreadState} {r : List ℕ} (
   -- as many return labels as the thread counts
   pub depth-is : length (returnsOf w) ≡ w .depth
   depth-is = length-take-le (w .depth) (w .returns) (omega (arith, h .thread .tidy .returns .sized, h .thread .tidy .returns .within))
+
+  -- after ASSIGN to a register the return labels and all registers but one are as the record has them
+  pub slots-assigned : {w′ : ThreadState} {locks l : ℕ} (k v : ℕ) → Runs w′ locks (job l (returnsOf w) (set (registersOf w) k (some v)))
+      → (w′ .returns ≡ returnsIn b t) × (w′ .registers ≡ set (registersIn b t) k v)
+  unfolding rawThread
+  slots-assigned {w′} k v q =
+      let f = runs-fields q .1 in
+      let z = h .thread .tidy in
+      let z′ = q .running .tidy in
+      let returns : w .returns ≡ returnsIn b t = ap (λ (x : ThreadState). x .returns) (h .read) in
+      let registers : w .registers ≡ registersIn b t = ap (λ (x : ThreadState). x .registers) (h .read) in (
+        same-returns w w′ z z′ (ap (λ (j : Job). j .returns) f) ∙ returns,
+        set-registers w w′ z z′ k v (ap (λ (j : Job). j .registers) f) ∙ ap (λ q. set q k v) registers,
+      )

@@ -26,6 +26,10 @@ pub record Ready (image table b : List ℕ) : Type 0 where
   pub canonical : Canonical b
   pub sound : Sound image table (machineFrom b)
 
+-- thread t's record in the bytes b says w
+abbrev pub Recorded : List ℕ → ℕ → ThreadState → Type 0
+Recorded b t w = w ≡ rawThread (drop (threadPlace t) b)
+
 -- the reply to an event, and what carrying it out has to leave: its answer, and the bytes of its machine
 abbrev pub replyTo : List ℕ → List ℕ → List ℕ → Event → Reply
 replyTo image table b e = react (rulesBy image table) (machineFrom b) e
@@ -60,7 +64,7 @@ module _ {image table b : List ℕ} (h : Ready image table b) where
   }
 
   -- thread t, read and written
-  pub says : (t : ℕ) {w : ThreadState} → t < threadCount → w ≡ rawThread (drop (threadPlace t) b) → Says w (threadAt (machineFrom b) t)
+  pub says : (t : ℕ) {w : ThreadState} → t < threadCount → Recorded b t w → Says w (threadAt (machineFrom b) t)
   says t l e = rw e (thread-read b (machineFrom b) (h .canonical) t l)
 
   pub written : (t : ℕ) (w : ThreadState) {b′ : List ℕ} → t < threadCount → Tidy w → b′ ≡ put b (threadPlace t) (rawBytes w) → Encodes b′ (withThread (machineFrom b) t (stateOf w))

@@ -1,12 +1,13 @@
 -- The 75 bytes of a thread's state: written they are those of the thread that it says, and read they say the thread that they are of.
 use mathlib.Core.Path.{_≡_, refl, sym, ap, _∙_}
 use mathlib.Core.Bool.{Bool, true, false, cond}
+use mathlib.Core.Option.{Option, some}
 use mathlib.Core.List.{List, [], _∷_, _++_, map}
 use Prim.Native.Nat.{ℕ, zero, suc, _+_, _*_, _-_, _≤_, _<_}
 use native.Mathlib.Nat.{add-zero}
 use native.Mathlib.Omega.{arith}
 use lib.Dec.{eqb}
-use lib.ListN.{length, getD, take, drop, replicate, length-append, length-drop, length-replicate, getD-replicate, take-append-drop}
+use lib.ListN.{length, getD, set, take, drop, replicate, length-append, length-drop, length-replicate, getD-replicate, take-append-drop}
 use lib.Seq.{drop-drop, ext-getD, getD-drop, getD-take, length-take-le, take-all}
 use borrow.Author.Tests.{eqb-true, eqb-false}
 use Rattle.rules.specs.Sorts.{label}
@@ -25,7 +26,7 @@ use Rattle.encoding.specs.Registers.{length-registers, presence-forth, values-f
 use Rattle.encoding.specs.Threads.{RunningRead, running-read, thread-back, thread-tidy}
 use Rattle.threads.specs.Returns.{TidyReturns}
 use Rattle.threads.specs.Registers.{none-registers, none-tidy}
-use Rattle.threads.specs.Threads.{stateOf, jobOf, registersOf, Tidy, Says}
+use Rattle.threads.specs.Threads.{stateOf, jobOf, returnsOf, registersOf, Tidy, Says}
 use Rattle.threads.specs.declared.thread.ThreadState.{ThreadState}
 
 -- where the record of a thread stands in a state
@@ -86,6 +87,23 @@ module _ (w : ThreadState) (z : Tidy w) where
       go : (b : Bool) → eqb (w .label .0) idleLabel ≡ b → threadBytes (cond b idle (running (w .locks) (jobOf w))) ≡ rawBytes w
       go true e = idle-bytes (eqb-true (w .label .0) idleLabel e)
       go false e = running-bytes
+
+-- ---- the slots of a tidy thread are what its job says
+
+values-set : (l : List (Option ℕ)) (k v : ℕ) → map valueOr0 (set l k (some v)) ≡ set (map valueOr0 l) k v
+values-set [] k v = refl
+values-set (x ∷ l) zero v = refl
+values-set (x ∷ l) (suc k) v = ap (λ q. valueOr0 x ∷ q) (values-set l k v)
+
+module _ (w w′ : ThreadState) (z : Tidy w) (z′ : Tidy w′) where
+  pub same-returns : returnsOf w′ ≡ returnsOf w → w′ .returns ≡ w .returns
+  same-returns e =
+      let f = padded returnCount (w .depth) (w .returns) (z .returns .sized) (z .returns .within) (z .returns .unused) ∙ pad-full 0 returnCount (w .returns) (z .returns .sized) in
+      let f′ = padded returnCount (w′ .depth) (w′ .returns) (z′ .returns .sized) (z′ .returns .within) (z′ .returns .unused) ∙ pad-full 0 returnCount (w′ .returns) (z′ .returns .sized) in
+      sym f′ ∙ ap (pad 0 returnCount) e ∙ f
+
+  pub set-registers : (k v : ℕ) → registersOf w′ ≡ set (registersOf w) k (some v) → w′ .registers ≡ set (w .registers) k v
+  set-registers k v e = sym (values-are w′ z′) ∙ ap (map valueOr0) e ∙ values-set (registersOf w) k v ∙ ap (λ l. set l k v) (values-are w z)
 
 -- ---- read
 

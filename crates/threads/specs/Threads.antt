@@ -100,6 +100,10 @@ runs-fields {w} {locks} {j} h =
     let e : running (w .locks) (jobOf w) ≡ running locks j = sym (runs-says w (ne-eqb (w .label .0) idleLabel (λ q. omega (arith, h .running .label)))) ∙ h .state in
     (cc, cc)
 
+-- a change of locks and job after another
+pub runs-then : {x y : ThreadState} {locks : ℕ} {j : Job} (L : ℕ → ℕ) (F : Job → Job) → Runs x locks j → Runs y (L (x .locks)) (F (jobOf x)) → Runs y (L locks) (F j)
+runs-then L F m n = runs-as n (ap L (runs-fields m .0)) (ap F (runs-fields m .1))
+
 -- an idle thread holds no lock, and has no return label and no register
 pub idle-fields : (w : ThreadState) → Idle w → (w .locks ≡ 0) × (w .depth ≡ 0) × (w .present ≡ 0)
 unfolding stateOf

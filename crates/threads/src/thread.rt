@@ -73,7 +73,8 @@ impl ThreadState {
         values: [u16; Thread::REGISTERS],
         count: u8,
     ) -> Self
-        requires { ⌜ Running self × (self .depth < returnCount) × (label .0 < idleLabel) × (count ≤ registerCount) × ZerosAfter count values ⌝ }
+        requires { ⌜ Running self × (self .depth < returnCount) × (label .0 < idleLabel)
+            × (count ≤ registerCount) × ZerosAfter count values ⌝ }
         ensures { λ r. ⌜ Runs r (self .locks) (job (label .0) (returnsOf self ++ (back .0 ∷ [])) (fill (take count values))) ⌝ }
     {
         let next = self.depth;
@@ -86,7 +87,8 @@ impl ThreadState {
 
     // A RETURN: the newest return label is taken.
     pub fn return_to_caller(mut self, values: [u16; Thread::REGISTERS], count: u8) -> Self
-        requires { ⌜ Running self × (0 < self .depth) × (newestOf (returnsOf self) < idleLabel) × (count ≤ registerCount) × ZerosAfter count values ⌝ }
+        requires { ⌜ Running self × (0 < self .depth) × (newestOf (returnsOf self) < idleLabel)
+            × (count ≤ registerCount) × ZerosAfter count values ⌝ }
         ensures { λ r. ⌜ Runs r (self .locks) (job (newestOf (returnsOf self)) (olderOf (returnsOf self)) (fill (take count values))) ⌝ }
     {
         let newest = self.depth - 1;
@@ -100,8 +102,10 @@ impl ThreadState {
 
     // A TRANSFER: the first of the values go into registers 0 upward. The values after them are the registers', which stay.
     pub fn transfer(mut self, label: Label, values: [u16; Thread::REGISTERS], count: u8) -> Self
-        requires { ⌜ Running self × (label .0 < idleLabel) × (count ≤ registerCount) × (drop count values ≡ drop count (self .registers)) ⌝ }
-        ensures { λ r. ⌜ Runs r (self .locks) (job (label .0) (returnsOf self) (map some (take count values) ++ drop count (registersOf self))) ⌝ }
+        requires { ⌜ Running self × (label .0 < idleLabel)
+            × (count ≤ registerCount) × (drop count values ≡ drop count (self .registers)) ⌝ }
+        ensures { λ r. ⌜ Runs r (self .locks)
+            (job (label .0) (returnsOf self) (map some (take count values) ++ drop count (registersOf self))) ⌝ }
     {
         self.label = label;
         self.present = self.present | low(count);
