@@ -6,7 +6,7 @@ use Prim.Native.Nat.{ℕ, _<_}
 use native.Mathlib.Decide.{decLt}
 use native.Mathlib.Omega.{arith}
 use lib.ListN.{length, getD}
-use Rattle.rules.specs.Sizes.{blockCount, tableSize}
+use Rattle.rules.specs.Sizes.{threadCount, blockCount, tableSize}
 use Rattle.rules.specs.Image.{labels, rowAt}
 use Rattle.rules.specs.Encoding.{noSignal, noTree, machineFrom}
 use Rattle.fields.specs.Each.{each-at}
@@ -15,7 +15,13 @@ use Rattle.laws.specs.Passed.{Passed, passed}
 use Rattle.soundness.specs.Sound.{PendingIn, TreeIn}
 use Rattle.soundness.specs.Destinations.{block-below}
 use Rattle.soundness.specs.Trees.{pending-below}
-use Rattle.step_ready.specs.Ready.{Ready}
+use Rattle.fields.specs.Put.{put}
+use Rattle.encoding.specs.Encoded.{Encodes}
+use Rattle.threads.specs.Threads.{idleThread, idle-thread}
+use Rattle.threads.specs.Records.{threadPlace, rawBytes}
+use Rattle.threads.specs.declared.thread.ThreadState.{ThreadState}
+use Rattle.step_ready.specs.Ready.{Ready, written}
+use Rattle.step_ready.specs.At.{Busy}
 use Rattle.rules.specs.Machine.{Signal, Tree, Machine, idle, first}
 use Rattle.rules.specs.Steps.{rulesBy, blockAt, requeued, finished}
 use Rattle.encoding.specs.Stores.{withThread}
@@ -33,9 +39,9 @@ module _ (image table : List ℕ) where
   requeued-home [] t h = refl
   requeued-home (g ∷ p) t h = rw h refl
 
-  -- the tree of the job goes, and then the thread is cleared
+  -- the thread is cleared, and then the tree of the job goes
   pub finished-is : (s : Machine) (t u i : ℕ) → i ≡ firstTree t (s .trees) → i < length (s .trees) → HomeOf image table (pendingAt s i) u
-      → withThread (ended t u i s) t idle ≡ finished (rulesBy image table) t s
+      → ended t u i (withThread s t idle) ≡ finished (rulesBy image table) t s
   finished-is s t u i e l h =
       let k : first t (s .trees) ≡ some (pendingAt s i) = rw e (first-some t (s .trees) (rw e at l)) in
       rw (requeued-home (pendingAt s i) u h, k) refl
@@ -47,6 +53,15 @@ module _ (image table : List ℕ) where
   pub home-some : (p : List Signal) (t : ℕ) → 0 < length p → t ≡ rowAt table (blockAt image (getD p 0 noSignal .label)) .thread → HomeOf image table p t
   home-some [] t l e = absurd (omega arith)
   home-some (g ∷ p) t l e = e
+
+-- ---- the first tree of a running thread
+
+pub first-inside : (t : ℕ) (p : List Signal) (l : List Tree) → first t l ≡ some p → firstTree t l < length l
+first-inside t p l h = case (decLt (firstTree t l) (length l))
+  where
+    case : Dec (firstTree t l < length l) → firstTree t l < length l
+    case (yes k) = k
+    case (no k) = never (cc (first-none t l (omega arith)))
 
 -- ---- labels below n
 
@@ -67,11 +82,15 @@ module _ {image table b : List ℕ} (h : Ready image table b) where
   pub table-long : length table ≡ tableSize
   table-long = checked-parts .wholeTable
 
--- ---- the first tree of a running thread
+  -- ---- the thread cleared
 
-pub first-inside : (t : ℕ) (p : List Signal) (l : List Tree) → first t l ≡ some p → firstTree t l < length l
-first-inside t p l h = case (decLt (firstTree t l) (length l))
-  where
-    case : Dec (firstTree t l < length l) → firstTree t l < length l
-    case (yes k) = k
-    case (no k) = never (cc (first-none t l (omega arith)))
+  pub cleared : (t : ℕ) {w : ThreadState} {b′ : List ℕ} → t < threadCount → w ≡ idleThread → b′ ≡ put b (threadPlace t) (rawBytes w) → Encodes b′ (withThread (machineFrom b) t idle)
+  cleared t {w} {b′} l i e =
+      let f : b′ ≡ put b (threadPlace t) (rawBytes idleThread) = rw i at e in
+      rw (idle-thread .state) at (written h t idleThread l (idle-thread .tidy) f)
+
+  -- a running thread has a tree
+  pub tree-inside : (t : ℕ) → Busy b t → firstTree t (machineFrom b .trees) < length (machineFrom b .trees)
+  tree-inside t k =
+      let r = h .sound .invariant .rooted t (k .1) (rw (k .2) refl) in
+      first-inside t (r .0) (machineFrom b .trees) (r .1)

@@ -1,17 +1,18 @@
 -- Operands read one after the other, left to right: what was read, and what is left to be read.
 use mathlib.Core.Path.{_≡_, refl, sym, ap, _∙_}
 use mathlib.Core.List.{List, [], _∷_, _++_, append-assoc, append-nil}
-use Prim.Native.Nat.{ℕ, suc, _+_, _-_, _≤_, _<_}
+use Prim.Native.Nat.{ℕ, zero, suc, _+_, _-_, _≤_, _<_}
 use native.Mathlib.Nat.{sub-zero}
 use native.Mathlib.Numerals.{add-one}
 use native.Mathlib.Omega.{arith}
 use lib.ListN.{length, take, drop, set, replicate, take-append-drop}
 use lib.Seq.{take-suc-set, drop-drop, drop-set-lt, length-take-le}
 use Rattle.rules.specs.Sizes.{operandCount}
-use Rattle.rules.specs.Bytes.{pad}
 use Rattle.rules.specs.Statements.{operandAt, operandsFrom}
 use Rattle.rules.specs.Effects.{Got, trap, got, then, Cells, read, readAll}
 use Rattle.fields.specs.Blocks.{pad-split}
+use Rattle.threads.specs.Threads.{ZerosAfter}
+use Rattle.operands.specs.Readings.{Reads}
 
 -- values read before the others
 abbrev pub prefixed : List ℕ → Got (List ℕ) → Got (List ℕ)
@@ -61,18 +62,22 @@ module _ (c : Cells) (r : List ℕ) (n : ℕ) where
       let z : n - k ≡ 0 = omega arith in
       inv .1 ∙ rw (z, e, append-nil) refl
 
--- zeros stand where nothing is stored yet, from place k on
-abbrev pub Unstored : ℕ → List ℕ → Type 0
-Unstored k values = drop k values ≡ replicate (operandCount - k) 0
+-- from place k on nothing is stored yet
+abbrev pub Unstored : ℕ → List ℕ → List ℕ → Type 0
+Unstored k before values = drop k values ≡ drop k before
 
-pub stored-more : (k v : ℕ) (values : List ℕ) → k < operandCount → Unstored k values → Unstored (k + 1) (set values k v)
-stored-more k v values h u =
-    let e : operandCount - k ≡ suc (operandCount - (k + 1)) = omega arith in
-    let w : drop k values ≡ 0 ∷ replicate (operandCount - (k + 1)) 0 = rw e at u in
-    drop-set-lt (k + 1) values k v (omega arith) ∙ sym (drop-drop 1 k values) ∙ ap (drop 1) w
+pub stored-more : (k v : ℕ) (before values : List ℕ) → Unstored k before values → Unstored (k + 1) before (set values k v)
+stored-more k v before values u =
+    drop-set-lt (k + 1) values k v (omega arith) ∙ sym (drop-drop 1 k values) ∙ ap (drop 1) u ∙ drop-drop 1 k before
 
--- as many values as were stored, and zeros
-pub stored-all : (n : ℕ) (values : List ℕ) → length values ≡ operandCount → n ≤ operandCount → Unstored n values → pad 0 operandCount (take n values) ≡ values
-stored-all n values l h u =
-    let k : length (take n values) ≡ n = length-take-le n values (rw l h) in
-    pad-split 0 operandCount (take n values) (omega arith) ∙ rw (k, ← u) (take-append-drop n values)
+zeros-behind : (n k : ℕ) → n ≤ k → drop n (replicate {A = ℕ} k 0) ≡ replicate (k - n) 0
+zeros-behind zero k h = let e : k ≡ k - 0 = omega arith in ap (λ m. replicate m 0) e
+zeros-behind (suc n) zero h = absurd (omega arith)
+zeros-behind (suc n) (suc k) h = let e : k - n ≡ suc k - suc n = omega arith in zeros-behind n k (omega arith) ∙ ap (λ m. replicate m 0) e
+
+-- where zeros stood before, zeros stand behind the values
+pub zeros-stay : {g : Got (List ℕ)} {reason n : ℕ} {vs : List ℕ} → Reads g reason n (replicate operandCount 0) vs → reason ≡ 0 → ZerosAfter n vs
+zeros-stay {g} {reason} {n} {vs} h z =
+    let k : length (take n vs) ≡ n = length-take-le n vs (omega (arith, h .sized, h .few)) in
+    let u : drop n vs ≡ replicate (operandCount - n) 0 = h .rest z ∙ zeros-behind n operandCount (h .few) in
+    pad-split 0 operandCount (take n vs) (omega (arith, h .few)) ∙ rw (k, ← u) (take-append-drop n vs)

@@ -4,13 +4,14 @@ use mathlib.Core.Path.{_≡_, refl, ap, _∙_}
 use mathlib.Core.Bool.{Bool, true, false, cond, _&&_, _||_}
 use mathlib.Core.Logic.{_⊎_, inl, inr}
 use mathlib.Core.List.{List}
-use Prim.Native.Nat.{ℕ, zero, suc, _+_, _<_}
+use Prim.Native.Nat.{ℕ, zero, suc, _+_, _≤_, _<_}
 use native.Mathlib.Omega.{arith}
 use lib.Dec.{eqb, ltb}
+use lib.ListN.{length}
 use borrow.Author.Tests.{eqb-true, ltb-true, lt-ltb}
-use Rattle.rules.specs.Sizes.{operandCount, registerCount, wordCount}
+use Rattle.rules.specs.Sizes.{blockCount, operandCount, registerCount, wordCount, recordSize}
 use Rattle.rules.specs.Bytes.{allFrom}
-use Rattle.rules.specs.Image.{labels, recordAt, entry, operands, kind, value}
+use Rattle.rules.specs.Image.{labels, recordAt, blockField, entry, operands, kind, value}
 use Rattle.rules.specs.Statements.{operandOf, operandAt}
 use Rattle.rules.specs.Check.{operandOk, slotOk, labelOk}
 use Rattle.rules.specs.declared.statement.Operand.{Operand}
@@ -24,6 +25,13 @@ abbrev pub Fits : Operand → Type 0
 Fits (Number v) = Unit {0}
 Fits (Register r) = r < registerCount
 Fits (Word w) = w < wordCount
+
+-- a record whose data can be read
+pub record Readable (r : List ℕ) : Type 0 where
+  pub long : length r ≡ recordSize
+  pub block : blockField r < blockCount
+  pub few : operands r ≤ operandCount
+  pub slots : allFrom (slotOk r) 0 operandCount ≡ true
 
 pub or-cases : (a b : Bool) → a || b ≡ true → (a ≡ true) ⊎ (b ≡ true)
 or-cases true b h = inl refl

@@ -3,9 +3,8 @@ use mathlib.Core.Path.{_≡_}
 use mathlib.Core.List.{List}
 use Prim.Native.Nat.{ℕ, _≤_}
 use mathlib.Core.Option.{Option, none, some}
-use lib.ListN.{length, take, getD}
+use lib.ListN.{length, take, drop, getD}
 use Rattle.rules.specs.Sizes.{operandCount}
-use Rattle.rules.specs.Bytes.{pad}
 use Rattle.rules.specs.Effects.{Got, trap, got, Cells, present, read}
 use Rattle.rules.specs.declared.statement.Operand.{Operand}
 use Rattle.rules.specs.declared.statement.Operand.the-variants.{Number, Register, Word}
@@ -18,13 +17,13 @@ readingOf (trap r) = Trap r
 readingOf (got v) = Value v
 
 -- the first n of vs are the values that were read, where the reason is 0; any other is the reason of the trap
-pub record Reads (g : Got (List ℕ)) (reason n : ℕ) (vs : List ℕ) : Type 0 where
+pub record Reads (g : Got (List ℕ)) (reason n : ℕ) (before vs : List ℕ) : Type 0 where
   pub few : n ≤ operandCount
   pub values : reason ≡ 0 → g ≡ got (take n vs)
   pub trapped : (reason ≡ 0 → ⊥) → g ≡ trap reason
   pub sized : length vs ≡ operandCount
-  -- the others are zero
-  pub zeros : reason ≡ 0 → pad 0 operandCount (take n vs) ≡ vs
+  -- behind them stands what stood there before
+  pub rest : reason ≡ 0 → drop n vs ≡ drop n before
 
 pub reading-value : (g : Got ℕ) (v : ℕ) → readingOf g ≡ Value v → g ≡ got v
 reading-value (trap r) v e = never (cc)

@@ -1,73 +1,77 @@
-// The operands of a statement, read in place from a state's bytes: a thread's registers, and the shared words of the statement's own block.
+// The operands of a statement, read: a thread's registers from its value, and the shared words of the statement's own block from a
+// state's bytes.
 use fields::read::wide;
 use image::decode::operand_at;
+use image::record_fields::block_field;
+use image::record_fields::operand_count;
+use rules::codes::ABSENT_REGISTER;
 use rules::sorts::Block;
 use rules::sorts::Thread;
 use rules::statement::Operand;
 use rules::statement::Operation;
-use state::thread_records::read_register;
 use state::words::read_word;
+use threads::thread::ThreadState;
 ghost use mathlib.Core.Path.{_≡_};
-ghost use mathlib.Core.Bool.{true};
 ghost use mathlib.Core.List.{[], _∷_};
-ghost use Prim.Native.Nat.{_<_, _≤_};
-ghost use lib.ListN.{length, replicate};
-ghost use Rattle.rules.specs.Sizes.{operandCount};
-ghost use Rattle.rules.specs.Bytes.{allFrom};
+ghost use Prim.Native.Nat.{_<_};
+ghost use lib.ListN.{length};
+ghost use Rattle.rules.specs.Sizes.{blockCount, operandCount, stateSize};
 ghost use Rattle.rules.specs.Image.{operands};
 ghost use Rattle.rules.specs.Statements.{dataOf};
-ghost use Rattle.rules.specs.Check.{slotOk};
 ghost use Rattle.rules.specs.Effects.{one, compute, read, readAll};
-ghost use Rattle.encoding.specs.Slots.{registersIn};
 ghost use Rattle.operands.specs.Readings.{readingOf, Reads};
-ghost use Rattle.operands.specs.Legal.{Fits};
-ghost use Rattle.operands.specs.Cells.{cellsFrom};
+ghost use Rattle.operands.specs.Legal.{Fits, Readable};
+ghost use Rattle.operands.specs.Cells.{cellsFrom, cellsOf};
 ghost use Rattle.operands.specs.Values.{ReadsPair, Computes};
 
 // The value of an operand, or the reason of the trap that reading it makes.
-pub enum Reading {
+enum Reading {
     Value(u16),
     Trap(u8),
 }
 
-// The reason of a trap: an absent register is read.
-pub const ABSENT: u8 = 1;
-
-// An operand, read. `present` is the set of the thread's registers that are present.
-pub fn read_operand(state: &[u8], block: Block, t: Thread, present: u32, p: Operand) -> Reading
-    requires { ⌜ (length (now state) ≡ 7929) × (block .0 < 16) × (t .0 < 8) × Fits p ⌝ }
-    ensures { λ r. ⌜ r ≡ readingOf (read (cellsFrom (now (state .entry)) (block .0) present (registersIn (now (state .entry)) (t .0))) p) ⌝ }
+// An operand, read. `present` is the set of the registers that are present.
+fn read_operand(
+    state: &[u8],
+    block: Block,
+    registers: &[u16; Thread::REGISTERS],
+    present: u32,
+    p: Operand,
+) -> Reading
+    requires { ⌜ (length (now state) ≡ stateSize) × (block .0 < blockCount) × Fits p ⌝ }
+    ensures { λ r. ⌜ r ≡ readingOf (read (cellsFrom (now (state .entry)) (block .0) present (now (registers .entry))) p) ⌝ }
 {
     match p {
         Operand::Number(v) => Reading::Value(v),
         Operand::Register(r) => {
             if (present >> r) % 2 == 1 {
-                Reading::Value(read_register(state, t, r))
+                Reading::Value(registers[r as usize])
             } else {
-                Reading::Trap(ABSENT)
+                Reading::Trap(ABSENT_REGISTER)
             }
         }
         Operand::Word(w) => Reading::Value(read_word(state, block, w)),
     }
 }
 
-// The data operands of a record, read left to right: their values are stored from place 0 on, and the answer is 0, or the reason of the
-// trap that reading them makes.
+// The data operands of the record r that thread w comes to, read left to right: their values are stored from place 0 on, what stands
+// behind them stays, and the answer is 0, or the reason of the trap that reading them makes.
 pub fn read_data(
     state: &[u8],
-    block: Block,
-    t: Thread,
-    present: u32,
+    w: ThreadState,
     r: &[u8],
-    values: &mut [u16; 25],
+    values: &mut [u16; Thread::REGISTERS],
 ) -> u8
-    requires { ⌜ (length (now state) ≡ 7929) × (block .0 < 16) × (t .0 < 8) × (length (now r) ≡ 84) × (operands (now r) ≤ 25) × (allFrom (slotOk (now r)) 0 operandCount ≡ true) × (now values ≡ replicate 25 0) ⌝ }
-    ensures { λ reason. ⌜ Reads (readAll (cellsFrom (now (state .entry)) (block .0) present (registersIn (now (state .entry)) (t .0))) (dataOf (now (r .entry)))) reason (operands (now (r .entry))) (now (values .exit)) ⌝ }
+    requires { ⌜ (length (now state) ≡ stateSize) × Readable (now r) × (length (now values) ≡ operandCount) ⌝ }
+    ensures { λ reason. ⌜ Reads (readAll (cellsOf (now (state .entry)) w (now (r .entry))) (dataOf (now (r .entry)))) reason
+        (operands (now (r .entry))) (now (values .entry)) (now (values .exit)) ⌝ }
 {
-    let n = wide(r[8]);
+    let block = block_field(r);
+    let registers = w.registers;
+    let n = wide(operand_count(r));
     let mut k = 0;
     while k < n {
-        match read_operand(state, block, t, present, operand_at(r, k)) {
+        match read_operand(state, block, &registers, w.present, operand_at(r, k)) {
             Reading::Value(v) => {
                 values[k] = v;
             }
@@ -87,24 +91,19 @@ pub struct Pair {
     pub trap: u8,
 }
 
-pub fn read_pair(
-    state: &[u8],
-    block: Block,
-    t: Thread,
-    present: u32,
-    p: Operand,
-    q: Operand,
-) -> Pair
-    requires { ⌜ (length (now state) ≡ 7929) × (block .0 < 16) × (t .0 < 8) × Fits p × Fits q ⌝ }
-    ensures { λ d. ⌜ ReadsPair (readAll (cellsFrom (now (state .entry)) (block .0) present (registersIn (now (state .entry)) (t .0))) (p ∷ q ∷ [])) d ⌝ }
+pub fn read_pair(state: &[u8], w: ThreadState, r: &[u8], p: Operand, q: Operand) -> Pair
+    requires { ⌜ (length (now state) ≡ stateSize) × Readable (now r) × Fits p × Fits q ⌝ }
+    ensures { λ d. ⌜ ReadsPair (readAll (cellsOf (now (state .entry)) w (now (r .entry))) (p ∷ q ∷ [])) d ⌝ }
 {
-    match read_operand(state, block, t, present, p) {
+    let block = block_field(r);
+    let registers = w.registers;
+    match read_operand(state, block, &registers, w.present, p) {
         Reading::Trap(reason) => Pair {
             left: 0,
             right: 0,
             trap: reason,
         },
-        Reading::Value(left) => match read_operand(state, block, t, present, q) {
+        Reading::Value(left) => match read_operand(state, block, &registers, w.present, q) {
             Reading::Trap(reason) => Pair {
                 left: 0,
                 right: 0,

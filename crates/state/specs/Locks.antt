@@ -2,14 +2,15 @@
 use mathlib.Core.Path.{_≡_, refl, sym, ap, _∙_}
 use mathlib.Core.Bool.{Bool, true, false, cond, not, _||_}
 use mathlib.Core.List.{List, [], _∷_, _++_}
-use Prim.Native.Nat.{ℕ, suc, _+_, _*_, _<_}
+use Prim.Native.Nat.{ℕ, suc, _+_, _≤_, _<_}
 use native.Mathlib.Decide.{ℕ-discrete}
 use native.Mathlib.Omega.{arith}
 use lib.Dec.{eqb, ltb, leb·suc-suc}
 use lib.ListN.{length, getD, drop, set, length-set}
 use lib.Seq.{drop-drop, getD-set-same, getD-set-other, set-out}
-use borrow.Author.Tests.{eq-eqb, ne-eqb, lt-ltb}
-use Rattle.rules.specs.Sizes.{threadCount, wordsSize, threadSize}
+use borrow.Author.Tests.{eq-eqb, ne-eqb, lt-ltb, le-ltb}
+use Rattle.rules.specs.Sorts.{thread}
+use Rattle.rules.specs.Sizes.{threadCount, locksPlace}
 use Rattle.rules.specs.Bytes.{num16, has, firstBad}
 use Rattle.rules.specs.Machine.{ThreadState, idle, running, Machine, threadAt, locksOf}
 use Rattle.rules.specs.Encoding.{threadRaw, threadBytes}
@@ -18,11 +19,39 @@ use Rattle.rules.specs.Walk.{holder}
 use Rattle.encoding.specs.Numbers.{num16-le16}
 use Rattle.encoding.specs.Layout.{thread-on}
 use Rattle.threads.specs.Bits.{has-none}
+use Rattle.threads.specs.Records.{threadPlace}
 use Rattle.encoding.specs.Encoded.{Encodes}
+use Rattle.state.specs.declared.locks.Holder.{Holder}
+use Rattle.state.specs.declared.locks.Holder.the-variants.{Held, Free}
+
+-- the holder by its number, past which there is none
+unfoldable pub holderOf : ℕ → Holder
+holderOf n = cond (ltb n threadCount) (Held (thread n)) Free
+
+pub holder-held : (n : ℕ) → n < threadCount → Held (thread n) ≡ holderOf n
+unfolding holderOf
+holder-held n h = rw (lt-ltb n threadCount h)
+
+pub holder-free : (n : ℕ) → threadCount ≤ n → Free ≡ holderOf n
+unfolding holderOf
+holder-free n h = rw (le-ltb n threadCount h)
+
+-- a holder is told from none by the number
+unfoldable pub isHeld : Holder → Bool
+isHeld (Held t) = true
+isHeld Free = false
+
+is-held : (n : ℕ) → isHeld (holderOf n) ≡ ltb n threadCount
+unfolding holderOf isHeld
+is-held n = go (ltb n threadCount)
+  where
+    go : (b : Bool) → isHeld (cond b (Held (thread n)) Free) ≡ b
+    go true = refl
+    go false = refl
 
 -- thread i is the one left out, or does not hold the lock
 unfoldable pub passes : List ℕ → ℕ → ℕ → ℕ → Bool
-passes b l out i = eqb i out || not (has l (num16 (drop (wordsSize + threadSize * i + 2) b)))
+passes b l out i = eqb i out || not (has l (num16 (drop (threadPlace i + locksPlace) b)))
 
 -- a search whose test is that of the threads ws, from i on
 search : (l : ℕ) (ok : ℕ → Bool) (ws : List ThreadState) (i : ℕ) → ((j : ℕ) → j < length ws → ok (i + j) ≡ not (has l (locksOf (getD ws j idle)))) → firstBad ok i (length ws) ≡ i + holder l ws
@@ -36,16 +65,16 @@ search l ok (w ∷ ws) i h =
     go true ih = omega arith
     go false ih = omega arith
 
-locks-back : (w : ThreadState) (q : List ℕ) → num16 (drop 2 (threadBytes w ++ q)) ≡ locksOf w
+locks-back : (w : ThreadState) (q : List ℕ) → num16 (drop locksPlace (threadBytes w ++ q)) ≡ locksOf w
 unfolding threadBytes threadRaw
 locks-back idle q = num16-le16 0 _
 locks-back (running locks j) q = num16-le16 locks _
 
 module _ (b : List ℕ) (s : Machine) (z : Encodes b s) where
-  locks-are : (i : ℕ) → i < threadCount → num16 (drop (wordsSize + threadSize * i + 2) b) ≡ locksOf (threadAt s i)
+  locks-are : (i : ℕ) → i < threadCount → num16 (drop (threadPlace i + locksPlace) b) ≡ locksOf (threadAt s i)
   locks-are i h =
-      let d = thread-on s i (wordsSize + threadSize * i) (z .sized .threads) h refl in
-      ap num16 (sym (drop-drop 2 (wordsSize + threadSize * i) b)) ∙ rw (z .same, d .1) (locks-back (threadAt s i) (d .0))
+      let d = thread-on s i (threadPlace i) (z .sized .threads) h refl in
+      ap num16 (sym (drop-drop locksPlace (threadPlace i) b)) ∙ rw (z .same, d .1) (locks-back (threadAt s i) (d .0))
 
   -- the search of the bytes finds the first holder but the one left out
   pub holder-found : (l out : ℕ) → firstBad (passes b l out) 0 threadCount ≡ holder l (set (s .threads) out idle)
@@ -56,7 +85,7 @@ module _ (b : List ℕ) (s : Machine) (z : Encodes b s) where
       search l (passes b l out) (set (s .threads) out idle) 0 (λ j h. ap (passes b l out) (omega arith) ∙ go j (omega arith) (ℕ-discrete j out)) in
       rw n at f ∙ omega arith
     where
-      go : (j : ℕ) → j < threadCount → Dec (j ≡ out) → (eqb j out || not (has l (num16 (drop (wordsSize + threadSize * j + 2) b)))) ≡ not (has l (locksOf (getD (set (s .threads) out idle) j idle)))
+      go : (j : ℕ) → j < threadCount → Dec (j ≡ out) → (eqb j out || not (has l (num16 (drop (threadPlace j + locksPlace) b)))) ≡ not (has l (locksOf (getD (set (s .threads) out idle) j idle)))
       go j h (yes e) = rw (eq-eqb j out e, e, getD-set-same (s .threads) out idle idle (omega (arith, z .sized .threads)), has-none l)
       go j h (no e) = rw (ne-eqb j out e, locks-are j h, getD-set-other (s .threads) out j idle idle e)
 
@@ -75,7 +104,7 @@ held-is l (w ∷ ws) = go (has l (locksOf w)) (held-is l ws)
     go false ih = ih ∙ sym (leb·suc-suc (suc (holder l ws)) (length ws))
 
 -- and a thread other than t holds it where the search, t left out, finds one
-pub held-found : (b : List ℕ) (s : Machine) → Encodes b s → (l t : ℕ) {r : ℕ} → r ≡ holder l (set (s .threads) t idle) → ltb r threadCount ≡ held l (set (s .threads) t idle)
+pub held-found : (b : List ℕ) (s : Machine) → Encodes b s → (l t : ℕ) {r : Holder} → r ≡ holderOf (holder l (set (s .threads) t idle)) → isHeld r ≡ held l (set (s .threads) t idle)
 held-found b s z l t e =
     let n : length (set (s .threads) t idle) ≡ threadCount = length-set (s .threads) t idle ∙ z .sized .threads in
-    ap (λ k. ltb k threadCount) e ∙ sym (held-is l (set (s .threads) t idle) ∙ rw n)
+    ap isHeld e ∙ is-held (holder l (set (s .threads) t idle)) ∙ sym (held-is l (set (s .threads) t idle) ∙ rw n)

@@ -1,39 +1,34 @@
 -- What a thread record and a word, read from the bytes of a machine and stored into them, come to.
-use mathlib.Core.Path.{_≡_, refl, sym, _∙_}
+use mathlib.Core.Path.{_≡_, refl, _∙_}
 use mathlib.Core.List.{List}
 use Prim.Native.Nat.{ℕ, _+_, _*_, _<_}
-use lib.ListN.{getD, drop}
-use lib.Seq.{drop-drop}
-use Rattle.rules.specs.Sizes.{threadCount, blockCount, wordCount, wordsSize, threadSize}
-use Rattle.rules.specs.Bytes.{num16, le16, chunks}
+use lib.ListN.{drop}
+use Rattle.rules.specs.Sizes.{threadCount, wordCount, wordTotal}
+use Rattle.rules.specs.Bytes.{le16}
 use Rattle.rules.specs.Machine.{Machine, threadAt}
 use Rattle.fields.specs.Put.{put}
 use Rattle.encoding.specs.Encoded.{Encodes, encodes}
-use Rattle.encoding.specs.Runs.{chunks-at}
 use Rattle.encoding.specs.Layout.{thread-on}
 use Rattle.encoding.specs.Stores.{withWord, withThread, sized-word, sized-thread, thread-at-sized, word-then, thread-then}
 use Rattle.threads.specs.Threads.{stateOf, Tidy, Says}
-use Rattle.threads.specs.Records.{rawThread, rawBytes, bytes-are, bytes-of, tidy-sized}
-use Rattle.threads.specs.Whole.{Whole}
+use Rattle.threads.specs.Records.{threadPlace, rawThread, rawBytes, bytes-are, bytes-of, tidy-sized}
+use Rattle.threads.specs.declared.thread.ThreadState.{ThreadState}
+
+-- where word w of a block stands in a state: it is number 16 × block + w
+abbrev pub wordPlace : ℕ → ℕ → ℕ
+wordPlace block w = 2 * (wordCount * block + w)
 
 module _ (b : List ℕ) (s : Machine) (h : Encodes b s) where
   -- thread t read, and written
-  pub thread-read : (t : ℕ) → t < threadCount → Says (rawThread (drop (wordsSize + threadSize * t) b)) (threadAt s t)
+  pub thread-read : (t : ℕ) → t < threadCount → Says (rawThread (drop (threadPlace t) b)) (threadAt s t)
   thread-read t l =
-      let d = thread-on s t (wordsSize + threadSize * t) (h .sized .threads) l refl in
+      let d = thread-on s t (threadPlace t) (h .sized .threads) l refl in
       rw (h .same, d .1) (bytes-of (threadAt s t) (thread-at-sized s t (h .sized) l) (d .0))
 
-  pub thread-written : (t : ℕ) (w : Whole) {b′ : List ℕ} → t < threadCount → Tidy w → b′ ≡ put b (wordsSize + threadSize * t) (rawBytes w) → Encodes b′ (withThread s t (stateOf w))
+  pub thread-written : (t : ℕ) (w : ThreadState) {b′ : List ℕ} → t < threadCount → Tidy w → b′ ≡ put b (threadPlace t) (rawBytes w) → Encodes b′ (withThread s t (stateOf w))
   thread-written t w l z e =
       encodes _ _ (thread-then s (h .sized) (h .same) t (stateOf w) l (e ∙ rw (bytes-are w z))) (sized-thread s t (stateOf w) (tidy-sized w z) (h .sized))
 
   -- word n written
-  pub word-written : (n v : ℕ) {b′ : List ℕ} → n < blockCount * wordCount → b′ ≡ put b (2 * n) (le16 v) → Encodes b′ (withWord s n v)
+  pub word-written : (n v : ℕ) {b′ : List ℕ} → n < wordTotal → b′ ≡ put b (2 * n) (le16 v) → Encodes b′ (withWord s n v)
   word-written n v l e = encodes _ _ (word-then s (h .sized) (h .same) n v l e) (sized-word s n v (h .sized))
-
--- numbers of a thread's record, by their places
-pub slot-read : (b : List ℕ) (t i k j : ℕ) → i < k
-    → num16 (drop (wordsSize + threadSize * t + j + 2 * i) b) ≡ getD (chunks num16 2 k (drop j (drop (wordsSize + threadSize * t) b))) i 0
-slot-read b t i k j h =
-    sym (chunks-at num16 2 k (drop j (drop (wordsSize + threadSize * t) b)) 0 i h
-    ∙ rw (drop-drop j (wordsSize + threadSize * t) b, drop-drop (2 * i) (wordsSize + threadSize * t + j) b))

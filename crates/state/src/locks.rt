@@ -1,61 +1,86 @@
 // The locks that threads hold: of each thread record only the lock set is read.
 use fields::read::get16;
 use fields::read::wide;
+use rules::layout::LOCKS_PLACE;
 use rules::layout::THREAD_SIZE;
 use rules::layout::THREADS_PLACE;
 use rules::sorts::Lock;
 use rules::sorts::Thread;
 use rules::sorts::lock_number;
+use rules::sorts::same_thread;
 use rules::sorts::thread_number;
+use rules::sorts::thread_of;
 ghost use mathlib.Core.Path.{_≡_};
-ghost use Prim.Native.Nat.{_+_, _*_, _<_};
+ghost use Prim.Native.Nat.{_<_};
 ghost use lib.ListN.{length, set};
+ghost use Rattle.rules.specs.Sorts.{thread};
+ghost use Rattle.rules.specs.Sizes.{threadCount, lockCount, stateSize};
 ghost use Rattle.rules.specs.Machine.{idle};
 ghost use Rattle.rules.specs.Steps.{held};
 ghost use Rattle.rules.specs.Walk.{holder};
 ghost use Rattle.rules.specs.Encoding.{machineFrom};
 ghost use Rattle.encoding.specs.Encoded.{Canonical};
-ghost use Rattle.state.specs.Locks.{passes};
+ghost use Rattle.state.specs.Locks.{passes, holderOf};
 
-// Whether the search for a holder passes thread i: it is the thread left out, or does not hold the lock.
-fn passed(state: &[u8], lock: Lock, out: usize, i: usize) -> bool
-    requires { ⌜ (length (now state) ≡ 7929) × (lock .0 < 16) × (i < 8) ⌝ }
-    ensures { λ r. ⌜ r ≡ passes (now (state .entry)) (lock .0) out i ⌝ }
+// The thread that holds a lock, if one does.
+pub enum Holder {
+    Held(Thread),
+    Free,
+}
+
+// No thread: the number that follows theirs.
+fn nobody() -> Thread
+    ensures { λ r. ⌜ r ≡ thread threadCount ⌝ }
 {
-    if i == out {
+    thread_of(Thread::COUNT as u8)
+}
+
+// Whether the search for a holder passes thread t: it is the thread left out, or does not hold the lock.
+fn passed(state: &[u8], lock: Lock, out: Thread, t: Thread) -> bool
+    requires { ⌜ (length (now state) ≡ stateSize) × (lock .0 < lockCount) × (t .0 < threadCount) ⌝ }
+    ensures { λ r. ⌜ r ≡ passes (now (state .entry)) (lock .0) (out .0) (t .0) ⌝ }
+{
+    if same_thread(t, out) {
         return true;
     }
-    let locks = get16(state, THREADS_PLACE + THREAD_SIZE * i + 2);
+    let locks = get16(
+        state,
+        THREADS_PLACE + THREAD_SIZE * wide(thread_number(t)) + LOCKS_PLACE,
+    );
     (locks >> lock_number(lock)) % 2 != 1
 }
 
-// The first thread that holds a lock, one left out; 8 where there is none.
-fn first_holder(state: &[u8], lock: Lock, out: usize) -> usize
-    requires { ⌜ Canonical (now state) × (lock .0 < 16) ⌝ }
-    ensures { λ r. ⌜ r ≡ holder (lock .0) (set (machineFrom (now (state .entry)) .threads) out idle) ⌝ }
+// The first thread that holds a lock, one left out.
+fn first_holder(state: &[u8], lock: Lock, out: Thread) -> Holder
+    requires { ⌜ Canonical (now state) × (lock .0 < lockCount) ⌝ }
+    ensures { λ r. ⌜ r ≡ holderOf (holder (lock .0) (set (machineFrom (now (state .entry)) .threads) (out .0) idle)) ⌝ }
 {
     let mut i = 0;
     while i < Thread::COUNT {
-        if !passed(state, lock, out, i) {
-            return i;
+        let t = thread_of(i as u8);
+        if !passed(state, lock, out, t) {
+            return Holder::Held(t);
         }
         i += 1;
     }
-    i
+    Holder::Free
 }
 
-// The first thread that holds a lock; 8 where there is none.
-pub fn holder(state: &[u8], lock: Lock) -> usize
-    requires { ⌜ Canonical (now state) × (lock .0 < 16) ⌝ }
-    ensures { λ r. ⌜ r ≡ holder (lock .0) (machineFrom (now (state .entry)) .threads) ⌝ }
+// The first thread that holds a lock.
+pub fn holder_of(state: &[u8], lock: Lock) -> Holder
+    requires { ⌜ Canonical (now state) × (lock .0 < lockCount) ⌝ }
+    ensures { λ r. ⌜ r ≡ holderOf (holder (lock .0) (machineFrom (now (state .entry)) .threads)) ⌝ }
 {
-    first_holder(state, lock, Thread::COUNT)
+    first_holder(state, lock, nobody())
 }
 
 // Whether a thread other than t holds a lock.
 pub fn held_by_other(state: &[u8], lock: Lock, t: Thread) -> bool
-    requires { ⌜ Canonical (now state) × (lock .0 < 16) ⌝ }
+    requires { ⌜ Canonical (now state) × (lock .0 < lockCount) ⌝ }
     ensures { λ r. ⌜ r ≡ held (lock .0) (set (machineFrom (now (state .entry)) .threads) (t .0) idle) ⌝ }
 {
-    first_holder(state, lock, wide(thread_number(t))) < Thread::COUNT
+    match first_holder(state, lock, t) {
+        Holder::Held(_) => true,
+        Holder::Free => false,
+    }
 }

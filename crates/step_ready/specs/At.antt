@@ -1,87 +1,136 @@
 -- A running thread and the record at its label, when its step is carried out.
-use mathlib.Core.Path.{_≡_, refl, sym, _∙_, subst}
+use mathlib.Core.Path.{_≡_, refl, sym, ap, _∙_, subst}
 use mathlib.Core.Bool.{true, false}
 use mathlib.Core.List.{List, []}
 use mathlib.Core.Option.{some}
-use Prim.Native.Nat.{ℕ, _≤_, _<_}
+use Prim.Native.Nat.{ℕ, _<_}
+use native.Mathlib.Omega.{arith}
 use lib.Dec.{eqb}
-use lib.ListN.{length}
-use borrow.Author.Tests.{ne-eqb}
-use Rattle.rules.specs.Sizes.{threadCount, blockCount, recordSize, operandCount, idleLabel}
-use Rattle.rules.specs.Image.{labels, recordAt, blockField, operands, labelA, labelB}
-use Rattle.rules.specs.Statements.{statementOf, roleA, roleB}
+use lib.ListN.{length, set}
+use lib.Seq.{length-take-le}
+use Rattle.rules.specs.Sizes.{threadCount, idleLabel}
+use Rattle.rules.specs.Image.{labels, recordAt, blockField, labelA, labelB}
+use Rattle.rules.specs.Statements.{statementOf, roleA, roleB, dataOf}
 use Rattle.rules.specs.Check.{recordOk}
-use Rattle.rules.specs.Machine.{Signal, Job, threadAt, first, idle, running}
+use Rattle.rules.specs.Effects.{Got, Cells, readAll}
+use Rattle.rules.specs.Machine.{Signal, Job, threadAt, first, idle, running, window}
 use Rattle.rules.specs.Encoding.{machineFrom}
+use Rattle.rules.specs.Steps.{blockAt}
+use Rattle.rules.specs.declared.statement.Statement.{Statement}
 use Rattle.laws.specs.Passed.{Parts, passed, rule-parts}
-use Rattle.soundness.specs.Sound.{ThreadIn}
-use Rattle.threads.specs.Threads.{stateOf, jobOf, Says, Running}
-use Rattle.threads.specs.Whole.{Whole, whole}
-use Rattle.threads.specs.declared.thread.ThreadState.{ThreadState}
-use Rattle.operands.specs.Legal.{Below, label-below}
 use Rattle.laws.specs.Heads.{head-fields, few-operands}
-use Rattle.step_ready.specs.Ready.{Ready}
+use Rattle.soundness.specs.Sound.{ThreadIn}
+use Rattle.encoding.specs.Slots.{returnsIn, registersIn}
+use Rattle.image.specs.Records.{labels-small, length-record}
+use Rattle.threads.specs.Threads.{job, jobOf, returnsOf, registersOf, Running, Runs, runs-fields, idle-says, runs-says}
+use Rattle.threads.specs.Records.{rawThread, same-returns, set-registers}
+use Rattle.threads.specs.declared.thread.ThreadState.{ThreadState}
+use Rattle.operands.specs.Legal.{Below, Readable, label-below}
+use Rattle.operands.specs.Cells.{cellsFrom, cellsOf}
+use Rattle.step_ready.specs.Ready.{Ready, Recorded, says}
 
 -- thread t runs a job
 abbrev pub Busy : List ℕ → ℕ → Type 0
 Busy b t = (l : ℕ) × (j : Job) × (threadAt (machineFrom b) t ≡ running l j)
 
+-- thread t, which is w, runs a job and comes to the record r
 pub record At (image table b : List ℕ) (t : ℕ) (w : ThreadState) (r : List ℕ) : Type 0 where
   pub ready : Ready image table b
   pub inside : t < threadCount
-  pub thread : Running (whole b t w)
-  pub runs : threadAt (machineFrom b) t ≡ running (w .locks) (jobOf (whole b t w))
+  pub read : Recorded b t w
+  pub thread : Running w
+  pub runs : threadAt (machineFrom b) t ≡ running (w .locks) (jobOf w)
   pub here : r ≡ recordAt image (w .label .0)
   pub parts : Parts image r
-  pub long : length r ≡ recordSize
-  pub block : blockField r < blockCount
-  pub few : operands r ≤ operandCount
+  pub readable : Readable r
 
--- what the test of a thread's label says
-pub idle-says : (w : Whole) → eqb (w .label .0) idleLabel ≡ true → stateOf w ≡ idle
-unfolding stateOf
-idle-says w e = rw e refl
+-- a thread that was read and is idle, or is not
+pub at-rest : {image table b : List ℕ} (h : Ready image table b) (t : ℕ) (w : ThreadState) → t < threadCount → Recorded b t w → eqb (w .label .0) idleLabel ≡ true → threadAt (machineFrom b) t ≡ idle
+at-rest h t w l e n = sym (says h t l e .state) ∙ idle-says w n
 
-pub runs-says : (w : Whole) → eqb (w .label .0) idleLabel ≡ false → stateOf w ≡ running (w .locks) (jobOf w)
-unfolding stateOf
-runs-says w e = rw e refl
+module _ {image table b : List ℕ} (h : Ready image table b) (t : ℕ) (w : ThreadState) (l : t < threadCount) (e : Recorded b t w) (n : eqb (w .label .0) idleLabel ≡ false) where
+  pub runs-job : threadAt (machineFrom b) t ≡ running (w .locks) (jobOf w)
+  runs-job = sym (says h t l e .state) ∙ runs-says w n
 
--- the law's thread of a thread that is not idle
-running-state : (w : Whole) → (w .label .0 ≡ idleLabel → ⊥) → stateOf w ≡ running (w .locks) (jobOf w)
-running-state w n = runs-says w (ne-eqb (w .label .0) idleLabel n)
+  pub busy : Busy b t
+  busy = (w .locks, jobOf w, runs-job)
 
--- the label of a running thread is below n
-pub label-inside : {image table b : List ℕ} (h : Ready image table b) (t : ℕ) (w : Whole) → Says w (threadAt (machineFrom b) t) → (w .label .0 ≡ idleLabel → ⊥) → w .label .0 < labels image
-label-inside {image} {table} {b} h t w s n =
-    let e : threadAt (machineFrom b) t ≡ running (w .locks) (jobOf w) = sym (s .state) ∙ running-state w n in
-    let k = subst (ThreadIn image table t) e (h .sound .threads t) in
-    k .0 .below
+  -- its label is below n
+  pub label-inside : w .label .0 < labels image
+  label-inside = subst (ThreadIn image table t) runs-job (h .sound .threads t) .0 .below
 
-pub at : {image table b : List ℕ} (h : Ready image table b) (t : ℕ) (w : ThreadState) {r : List ℕ} → t < threadCount → Says (whole b t w) (threadAt (machineFrom b) t) → (w .label .0 ≡ idleLabel → ⊥)
-    → w .label .0 < idleLabel → r ≡ recordAt image (w .label .0) → length r ≡ recordSize → At image table b t w r
-unfolding recordOk
-at {image} {table} {b} h t w {r} l s n m e long =
-    let p : Parts image (recordAt image (w .label .0)) = rule-parts image (recordAt image (w .label .0)) (passed image table [] (h .checked) .0 .records (w .label .0) (label-inside h t (whole b t w) s n)) in
-    let q : Parts image r = subst (Parts image) (sym e) p in
-    record {
-      ready = h;
-      inside = l;
-      thread = record { label = m; tidy = s .tidy };
-      runs = sym (s .state) ∙ running-state (whole b t w) n;
-      here = e;
-      parts = q;
-      long = long;
-      block = head-fields r (q .head) .block;
-      few = few-operands (head-fields r (q .head));
-    }
+  pub at : {r : List ℕ} → r ≡ recordAt image (w .label .0) → At image table b t w r
+  unfolding recordOk
+  at {r} f =
+      let p : Parts image (recordAt image (w .label .0)) = rule-parts image (recordAt image (w .label .0)) (passed image table [] (h .checked) .0 .records (w .label .0) label-inside) in
+      let q : Parts image r = subst (Parts image) (sym f) p in
+      record {
+        ready = h;
+        inside = l;
+        read = e;
+        thread = record { label = omega (arith, label-inside, labels-small image); tidy = says h t l e .tidy };
+        runs = runs-job;
+        here = f;
+        parts = q;
+        readable = record {
+          long = rw f (length-record image (w .label .0) label-inside);
+          block = head-fields r (q .head) .block;
+          few = few-operands (head-fields r (q .head));
+          slots = q .slots;
+        };
+      }
 
 module _ {image table b : List ℕ} {t : ℕ} {w : ThreadState} {r : List ℕ} (h : At image table b t w r) where
+  pub at-busy : Busy b t
+  at-busy = (w .locks, jobOf w, h .runs)
+
   -- a running thread has a tree
   pub tree : (p : List Signal) × (first t (machineFrom b .trees) ≡ some p)
-  tree = h .ready .sound .invariant .rooted t (jobOf (whole b t w)) (rw (h .runs) refl)
+  tree = h .ready .sound .invariant .rooted t (jobOf w) (rw (h .runs) refl)
 
-  pub below-A : Below image (roleA (statementOf r)) (labelA r)
-  below-A = label-below image (roleA (statementOf r)) (blockField r) (labelA r) (h .parts .a)
+  -- the statement at the law's record
+  pub statement-here : (S : Statement) → statementOf r ≡ S → statementOf (recordAt image (w .label .0)) ≡ S
+  statement-here S e = subst (λ (q : List ℕ). statementOf q ≡ S) (h .here) e
 
-  pub below-B : Below image (roleB (statementOf r)) (labelB r)
-  below-B = label-below image (roleB (statementOf r)) (blockField r) (labelB r) (h .parts .b)
+  -- its labels, where it uses them
+  pub label-A : (S : Statement) → statementOf r ≡ S → Below image (roleA S) (labelA r)
+  label-A S e = subst (λ (q : Statement). Below image (roleA q) (labelA r)) e (label-below image (roleA (statementOf r)) (blockField r) (labelA r) (h .parts .a))
+
+  pub label-B : (S : Statement) → statementOf r ≡ S → Below image (roleB S) (labelB r)
+  label-B S e = subst (λ (q : Statement). Below image (roleB q) (labelB r)) e (label-below image (roleB (statementOf r)) (blockField r) (labelB r) (h .parts .b))
+
+  pub small : (l : ℕ) → l < labels image → l < idleLabel
+  small l k = omega (arith, labels-small image)
+
+  -- what the statement reads from, as the law has it
+  pub block-here : blockField r ≡ blockAt image (w .label .0)
+  block-here = ap blockField (h .here)
+
+  pub cells-here : cellsOf b w r ≡ record { registers = jobOf w .registers; words = window (blockAt image (w .label .0)) (machineFrom b .words) }
+  unfolding machineFrom
+  cells-here = ap (λ (q : ℕ). cellsFrom b q (w .present) (w .registers)) block-here
+
+  -- the data of the law's record, read
+  pub data-here : (g : Got (List ℕ)) → readAll (cellsOf b w r) (dataOf r) ≡ g
+      → readAll (record { registers = jobOf w .registers; words = window (blockAt image (w .label .0)) (machineFrom b .words) }) (dataOf (recordAt image (w .label .0))) ≡ g
+  data-here g q =
+      let f : readAll (cellsOf b w r) (dataOf (recordAt image (w .label .0))) ≡ g = subst (λ (z : List ℕ). readAll (cellsOf b w r) (dataOf z) ≡ g) (h .here) q in
+      subst (λ (c : Cells). readAll c (dataOf (recordAt image (w .label .0))) ≡ g) cells-here f
+
+  -- as many return labels as the thread counts
+  pub depth-is : length (returnsOf w) ≡ w .depth
+  depth-is = length-take-le (w .depth) (w .returns) (omega (arith, h .thread .tidy .returns .sized, h .thread .tidy .returns .within))
+
+  -- after ASSIGN to a register the return labels and all registers but one are as the record has them
+  pub slots-assigned : {w′ : ThreadState} {locks l : ℕ} (k v : ℕ) → Runs w′ locks (job l (returnsOf w) (set (registersOf w) k (some v)))
+      → (w′ .returns ≡ returnsIn b t) × (w′ .registers ≡ set (registersIn b t) k v)
+  unfolding rawThread
+  slots-assigned {w′} k v q =
+      let f = runs-fields q .1 in
+      let z = h .thread .tidy in
+      let z′ = q .running .tidy in
+      let returns : w .returns ≡ returnsIn b t = ap (λ (x : ThreadState). x .returns) (h .read) in
+      let registers : w .registers ≡ registersIn b t = ap (λ (x : ThreadState). x .registers) (h .read) in (
+        same-returns w w′ z z′ (ap (λ (j : Job). j .returns) f) ∙ returns,
+        set-registers w w′ z z′ k v (ap (λ (j : Job). j .registers) f) ∙ ap (λ q. set q k v) registers,
+      )

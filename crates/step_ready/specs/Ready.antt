@@ -1,24 +1,23 @@
 -- A state that an event can be carried out on: the image and the table have passed the check, and the bytes are those of a well-formed
 -- machine. Every accepted event leaves such a state.
-use mathlib.Core.Path.{_≡_, sym, ap, _∙_}
+use mathlib.Core.Path.{_≡_, refl, sym, ap, _∙_}
 use mathlib.Core.List.{List}
-use Prim.Native.Nat.{ℕ, _*_, _+_, _<_}
+use Prim.Native.Nat.{ℕ, _<_}
 use lib.ListN.{drop}
-use Rattle.rules.specs.Sizes.{threadCount, wordsSize, threadSize}
+use Rattle.rules.specs.Sizes.{threadCount}
 use Rattle.rules.specs.Check.{Checked}
-use Rattle.rules.specs.Machine.{Machine, threadAt}
+use Rattle.rules.specs.Machine.{Machine, Job, threadAt, running}
 use Rattle.rules.specs.Encoding.{machineFrom}
-use Rattle.rules.specs.Events.{Event}
-use Rattle.rules.specs.Steps.{rulesBy, Reply, react}
+use Rattle.rules.specs.Events.{Event, step}
+use Rattle.rules.specs.Steps.{rulesBy, Reply, react, finished}
 use Rattle.rules.specs.declared.answer.Answer.{Answer}
 use Rattle.fields.specs.Put.{put}
 use Rattle.encoding.specs.Encoded.{Encodes, Canonical, encoded-machine, encoded-canonical}
 use Rattle.encoding.specs.Stores.{withThread}
 use Rattle.soundness.specs.Sound.{Sound}
 use Rattle.soundness.specs.StaysWellFormed.{Accepted, sound-react}
-use Rattle.threads.specs.Threads.{stateOf, Tidy, Says}
-use Rattle.threads.specs.Whole.{Whole, whole}
-use Rattle.threads.specs.Records.{headOf, rawThread, rawBytes, whole-read}
+use Rattle.threads.specs.Threads.{stateOf, Tidy, Says, Runs}
+use Rattle.threads.specs.Records.{threadPlace, rawThread, rawBytes}
 use Rattle.threads.specs.declared.thread.ThreadState.{ThreadState}
 use Rattle.state.specs.Records.{thread-read, thread-written}
 
@@ -26,6 +25,10 @@ pub record Ready (image table b : List ℕ) : Type 0 where
   pub checked : Checked image table
   pub canonical : Canonical b
   pub sound : Sound image table (machineFrom b)
+
+-- thread t's record in the bytes b says w
+abbrev pub Recorded : List ℕ → ℕ → ThreadState → Type 0
+Recorded b t w = w ≡ rawThread (drop (threadPlace t) b)
 
 -- the reply to an event, and what carrying it out has to leave: its answer, and the bytes of its machine
 abbrev pub replyTo : List ℕ → List ℕ → List ℕ → Event → Reply
@@ -35,6 +38,14 @@ pub record Done (r : Reply) (b : List ℕ) (a : Answer) : Type 0 where
   pub answer : a ≡ r .answer
   pub canonical : Canonical b
   pub machine : machineFrom b ≡ r .state
+
+-- what every step of thread t leaves
+abbrev pub Stepped : List ℕ → List ℕ → List ℕ → ℕ → List ℕ → Answer → Type 0
+Stepped image table before t after answer = Done (replyTo image table before (step t)) after answer
+
+-- what every end of thread t's job leaves
+abbrev pub Ended : List ℕ → List ℕ → List ℕ → ℕ → List ℕ → Type 0
+Ended image table before t after = Encodes after (finished (rulesBy image table) t (machineFrom before))
 
 -- the bytes that are left are those of a machine, which the reply has
 pub done : {r : Reply} {b : List ℕ} {a : Answer} (s : Machine) (x : Answer) → r ≡ record { state = s; answer = x } → a ≡ x → Encodes b s → Done r b a
@@ -53,8 +64,16 @@ module _ {image table b : List ℕ} (h : Ready image table b) where
   }
 
   -- thread t, read and written
-  pub says : (t : ℕ) {w : ThreadState} → t < threadCount → w ≡ headOf (rawThread (drop (wordsSize + threadSize * t) b)) → Says (whole b t w) (threadAt (machineFrom b) t)
-  says t l e = rw (e, whole-read b t) (thread-read b (machineFrom b) (h .canonical) t l)
+  pub says : (t : ℕ) {w : ThreadState} → t < threadCount → Recorded b t w → Says w (threadAt (machineFrom b) t)
+  says t l e = rw e (thread-read b (machineFrom b) (h .canonical) t l)
 
-  pub written : (t : ℕ) (w : Whole) {b′ : List ℕ} → t < threadCount → Tidy w → b′ ≡ put b (wordsSize + threadSize * t) (rawBytes w) → Encodes b′ (withThread (machineFrom b) t (stateOf w))
+  pub written : (t : ℕ) (w : ThreadState) {b′ : List ℕ} → t < threadCount → Tidy w → b′ ≡ put b (threadPlace t) (rawBytes w) → Encodes b′ (withThread (machineFrom b) t (stateOf w))
   written t w l z e = thread-written b (machineFrom b) (h .canonical) t w l z e
+
+  pub runs-written : (t : ℕ) {w : ThreadState} {locks : ℕ} {j : Job} {b′ : List ℕ} → t < threadCount → Runs w locks j → b′ ≡ put b (threadPlace t) (rawBytes w) → Encodes b′ (withThread (machineFrom b) t (running locks j))
+  runs-written t {w} l r e = rw (r .state) at (written t w l (r .running .tidy) e)
+
+  -- a step that leaves the thread with these locks and this job, and all else as it was
+  pub thread-stepped : (t : ℕ) {w : ThreadState} {locks : ℕ} {j : Job} {b′ : List ℕ} (x : Answer) → t < threadCount → replyTo image table b (step t) ≡ record { state = withThread (machineFrom b) t (running locks j); answer = x }
+      → Runs w locks j → b′ ≡ put b (threadPlace t) (rawBytes w) → Stepped image table b t b′ x
+  thread-stepped t {w} {locks} {j} x l e r f = done (withThread (machineFrom b) t (running locks j)) x e refl (runs-written t l r f)

@@ -1,6 +1,5 @@
 pub mod Bits
 pub mod Registers
 pub mod Returns
-pub mod Whole
 pub mod Threads
 pub mod Records

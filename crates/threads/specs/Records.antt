@@ -1,16 +1,17 @@
 -- The 75 bytes of a thread's state: written they are those of the thread that it says, and read they say the thread that they are of.
 use mathlib.Core.Path.{_≡_, refl, sym, ap, _∙_}
 use mathlib.Core.Bool.{Bool, true, false, cond}
+use mathlib.Core.Option.{Option, some}
 use mathlib.Core.List.{List, [], _∷_, _++_, map}
 use Prim.Native.Nat.{ℕ, zero, suc, _+_, _*_, _-_, _≤_, _<_}
 use native.Mathlib.Nat.{add-zero}
 use native.Mathlib.Omega.{arith}
 use lib.Dec.{eqb}
-use lib.ListN.{length, getD, take, drop, replicate, length-append, length-drop, length-replicate, getD-replicate, take-append-drop}
+use lib.ListN.{length, getD, set, take, drop, replicate, length-append, length-drop, length-replicate, getD-replicate, take-append-drop}
 use lib.Seq.{drop-drop, ext-getD, getD-drop, getD-take, length-take-le, take-all}
 use borrow.Author.Tests.{eqb-true, eqb-false}
 use Rattle.rules.specs.Sorts.{label}
-use Rattle.rules.specs.Sizes.{returnCount, registerCount, wordsSize, threadSize, idleLabel}
+use Rattle.rules.specs.Sizes.{returnCount, registerCount, threadSize, threadsPlace, locksPlace, returnCountPlace, returnsPlace, presencePlace, registersPlace, idleLabel}
 use Rattle.rules.specs.Bytes.{num16, num32, part, isZeros, pad, chunks}
 use Rattle.rules.specs.Machine as law
 use Rattle.rules.specs.Machine.{idle, running}
@@ -25,33 +26,27 @@ use Rattle.encoding.specs.Registers.{length-registers, presence-forth, values-f
 use Rattle.encoding.specs.Threads.{RunningRead, running-read, thread-back, thread-tidy}
 use Rattle.threads.specs.Returns.{TidyReturns}
 use Rattle.threads.specs.Registers.{none-registers, none-tidy}
-use Rattle.threads.specs.Threads.{stateOf, jobOf, registersOf, Tidy, Says}
-use Rattle.threads.specs.Whole.{Whole, whole}
+use Rattle.threads.specs.Threads.{stateOf, jobOf, returnsOf, registersOf, Tidy, Says}
 use Rattle.threads.specs.declared.thread.ThreadState.{ThreadState}
 
+-- where the record of a thread stands in a state
+abbrev pub threadPlace : ℕ → ℕ
+threadPlace t = threadsPlace + threadSize * t
+
 -- the bytes of the fields
-unfoldable pub rawBytes : Whole → List ℕ
+unfoldable pub rawBytes : ThreadState → List ℕ
 rawBytes w = threadRaw (w .label .0) (w .locks) (w .depth) (w .returns) (w .present) (w .registers)
 
 -- the fields that bytes say
-unfoldable pub rawThread : List ℕ → Whole
+unfoldable pub rawThread : List ℕ → ThreadState
 rawThread b = record {
   label = label (num16 b);
-  locks = num16 (drop 2 b);
-  depth = getD (drop 4 b) 0 0;
-  returns = chunks num16 2 returnCount (drop 5 b);
-  present = num32 (drop 21 b);
-  registers = chunks num16 2 registerCount (drop 25 b);
+  locks = num16 (drop locksPlace b);
+  depth = getD (drop returnCountPlace b) 0 0;
+  returns = chunks num16 2 returnCount (drop returnsPlace b);
+  present = num32 (drop presencePlace b);
+  registers = chunks num16 2 registerCount (drop registersPlace b);
 }
-
--- what the code holds of it
-abbrev pub headOf : Whole → ThreadState
-headOf w = record { present = w .present; label = w .label; locks = w .locks; depth = w .depth }
-
--- with what the bytes have it is the whole
-pub whole-read : (b : List ℕ) (t : ℕ) → whole b t (headOf (rawThread (drop (wordsSize + threadSize * t) b))) ≡ rawThread (drop (wordsSize + threadSize * t) b)
-unfolding rawThread
-whole-read b t = refl
 
 -- ---- written
 
@@ -61,7 +56,7 @@ padded n k l e h z =
     let t : length (take k l) ≡ k = length-take-le k l (omega arith) in
     pad-split 0 n (take k l) (omega arith) ∙ rw (t, ← z) (take-append-drop k l) ∙ sym (pad-full 0 n l e)
 
-module _ (w : Whole) (z : Tidy w) where
+module _ (w : ThreadState) (z : Tidy w) where
   present-is : presence (registersOf w) ≡ w .present
   present-is = presence-forth (w .present) (w .registers) 0 registerCount (omega (arith, z .registers .within)) ∙ omega arith
 
@@ -92,6 +87,23 @@ module _ (w : Whole) (z : Tidy w) where
       go : (b : Bool) → eqb (w .label .0) idleLabel ≡ b → threadBytes (cond b idle (running (w .locks) (jobOf w))) ≡ rawBytes w
       go true e = idle-bytes (eqb-true (w .label .0) idleLabel e)
       go false e = running-bytes
+
+-- ---- the slots of a tidy thread are what its job says
+
+values-set : (l : List (Option ℕ)) (k v : ℕ) → map valueOr0 (set l k (some v)) ≡ set (map valueOr0 l) k v
+values-set [] k v = refl
+values-set (x ∷ l) zero v = refl
+values-set (x ∷ l) (suc k) v = ap (λ q. valueOr0 x ∷ q) (values-set l k v)
+
+module _ (w w′ : ThreadState) (z : Tidy w) (z′ : Tidy w′) where
+  pub same-returns : returnsOf w′ ≡ returnsOf w → w′ .returns ≡ w .returns
+  same-returns e =
+      let f = padded returnCount (w .depth) (w .returns) (z .returns .sized) (z .returns .within) (z .returns .unused) ∙ pad-full 0 returnCount (w .returns) (z .returns .sized) in
+      let f′ = padded returnCount (w′ .depth) (w′ .returns) (z′ .returns .sized) (z′ .returns .within) (z′ .returns .unused) ∙ pad-full 0 returnCount (w′ .returns) (z′ .returns .sized) in
+      sym f′ ∙ ap (pad 0 returnCount) e ∙ f
+
+  pub set-registers : (k v : ℕ) → registersOf w′ ≡ set (registersOf w) k (some v) → w′ .registers ≡ set (w .registers) k v
+  set-registers k v e = sym (values-are w′ z′) ∙ ap (map valueOr0) e ∙ values-set (registersOf w) k v ∙ ap (λ l. set l k v) (values-are w z)
 
 -- ---- read
 
@@ -179,7 +191,7 @@ pub bytes-of : (x : law.ThreadState) → SizedThread x → (q : List ℕ) → Sa
 bytes-of x z q = rw (thread-back x z q) at (bytes-say (threadBytes x ++ q) (simp length-append (omega (arith, length-thread x))) (thread-tidy x z q))
 
 -- what a tidy state says is within the limits
-pub tidy-sized : (w : Whole) → Tidy w → SizedThread (stateOf w)
+pub tidy-sized : (w : ThreadState) → Tidy w → SizedThread (stateOf w)
 unfolding stateOf
 tidy-sized w z = go (eqb (w .label .0) idleLabel) refl
   where

@@ -1,13 +1,17 @@
-// Which registers of a thread are present.
+// The registers of a thread, and which of them are present.
 use crate::thread::ThreadState;
+use rules::sorts::Thread;
 ghost use mathlib.Core.Path.{_≡_};
+ghost use mathlib.Core.Option.{some};
 ghost use Prim.Native.Nat.{_-_, _^_, _<_, _≤_};
 ghost use lib.Bits.{bitOr};
-ghost use Rattle.threads.specs.Threads.{assigned};
+ghost use lib.ListN.{set, take};
+ghost use Rattle.rules.specs.Sizes.{registerCount};
+ghost use Rattle.threads.specs.Threads.{Running, Runs, job, returnsOf, registersOf, filled, ZerosAfter};
 
 // A presence bit set.
 fn mark(present: u32, register: u16) -> u32
-    requires { ⌜ register < 25 ⌝ }
+    requires { ⌜ register < registerCount ⌝ }
     ensures { λ r. ⌜ r ≡ bitOr present (2 ^ register) ⌝ }
 {
     present | (1u32 << register)
@@ -15,18 +19,33 @@ fn mark(present: u32, register: u16) -> u32
 
 // The presence set of registers 0 to count - 1.
 pub fn low(count: u8) -> u32
-    requires { ⌜ count ≤ 25 ⌝ }
+    requires { ⌜ count ≤ registerCount ⌝ }
     ensures { λ r. ⌜ r ≡ 2 ^ count - 1 ⌝ }
 {
     (1u32 << count) - 1
 }
 
 impl ThreadState {
-    // A register stored to becomes present.
-    pub fn assign_register(mut self, register: u16) -> Self
-        requires { ⌜ register < 25 ⌝ }
-        ensures { λ r. ⌜ r ≡ assigned self register ⌝ }
+    // Every register is set, with its presence bit: the first of the values in registers 0 upward, the others absent and zero. No bit of
+    // the presence set that came stays, and bits 25 to 31 are zero.
+    pub fn fill(mut self, values: [u16; Thread::REGISTERS], count: u8) -> Self
+        requires { ⌜ (count ≤ registerCount) × ZerosAfter count values ⌝ }
+        ensures { λ r. ⌜ r ≡ filled self (take count values) ⌝ }
     {
+        self.present = low(count);
+        self.registers = values;
+        self
+    }
+
+    // A register stored to becomes present.
+    pub fn assign_register(mut self, register: u16, value: u16) -> Self
+        requires { ⌜ Running self × (register < registerCount) ⌝ }
+        ensures { λ r. ⌜ Runs r (self .locks) (job (self .label .0) (returnsOf self) (set (registersOf self) register (some value))) ⌝ }
+    {
+        let at = register as usize;
+        let mut registers = self.registers;
+        registers[at] = value;
+        self.registers = registers;
         self.present = mark(self.present, register);
         self
     }

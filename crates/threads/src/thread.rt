@@ -1,18 +1,29 @@
-// A thread's state, and how a job begins, goes on, calls, returns and ends on it.
+// A thread's state as one value, and how a job begins, goes on, calls, returns and ends on it.
 use crate::registers::low;
 use rules::sorts::Label;
+use rules::sorts::Thread;
+use rules::sorts::label_number;
 use rules::sorts::label_of;
 ghost use mathlib.Core.Path.{_≡_};
+ghost use mathlib.Core.List.{[], _∷_, _++_, map};
+ghost use mathlib.Core.Option.{some};
 ghost use Prim.Native.Nat.{_<_, _≤_};
-ghost use Rattle.threads.specs.Threads.{idleThread, entered, called, returned, transferred, onward};
+ghost use lib.Dec.{eqb};
+ghost use lib.ListN.{take, drop};
+ghost use Rattle.rules.specs.Sizes.{registerCount, returnCount, idleLabel};
+ghost use Rattle.rules.specs.Machine.{fill};
+ghost use Rattle.threads.specs.Returns.{newestOf, olderOf};
+ghost use Rattle.threads.specs.Threads.{Idle, Tidy, Running, Runs, job, returnsOf, registersOf, idleThread, ZerosAfter};
 
-// At the label 65,535 a thread is idle. Depth is the number of return labels in use, and bit r of the presence set is for register r.
-// The return labels and the registers' values themselves stay in the state's bytes.
+// At the label 65,535 a thread is idle. Depth is the number of return labels in use; they stand oldest first. Bit r of the presence set
+// is for register r. An array is indexed in a local copy of it and never as a field, which would keep the whole value in memory.
 pub struct ThreadState {
     pub present: u32,
     pub label: Label,
     pub locks: u16,
     pub depth: usize,
+    pub returns: [u16; Thread::RETURNS],
+    pub registers: [u16; Thread::REGISTERS],
 }
 
 impl ThreadState {
@@ -25,58 +36,87 @@ impl ThreadState {
             label: label_of(Label::IDLE),
             locks: 0,
             depth: 0,
+            returns: [0u16; Thread::RETURNS],
+            registers: [0u16; Thread::REGISTERS],
         }
     }
 
-    // An idle thread takes a signal with this number of values.
-    pub fn take(self, label: Label, count: u8) -> Self
-        requires { ⌜ count ≤ 25 ⌝ }
-        ensures { λ r. ⌜ r ≡ entered self label count ⌝ }
+    // Whether it has no job.
+    pub fn is_idle(self) -> bool
+        ensures { λ r. ⌜ r ≡ eqb (self .label .0) idleLabel ⌝ }
     {
-        self.enter(label, count)
+        label_number(self.label) == Label::IDLE
     }
 
-    // A direct SEND: registers 0 upward are present, as many as there are values.
-    pub fn enter(mut self, label: Label, count: u8) -> Self
-        requires { ⌜ count ≤ 25 ⌝ }
-        ensures { λ r. ⌜ r ≡ entered self label count ⌝ }
+    // An idle thread takes a signal: its values fill registers 0 upward, the others are absent.
+    pub fn take(self, label: Label, values: [u16; Thread::REGISTERS], count: u8) -> Self
+        requires { ⌜ Idle self × (label .0 < idleLabel) × (count ≤ registerCount) × ZerosAfter count values ⌝ }
+        ensures { λ r. ⌜ Runs r 0 (job (label .0) [] (fill (take count values))) ⌝ }
+    {
+        self.enter(label, values, count)
+    }
+
+    // A direct SEND.
+    pub fn enter(mut self, label: Label, values: [u16; Thread::REGISTERS], count: u8) -> Self
+        requires { ⌜ Tidy self × (label .0 < idleLabel) × (count ≤ registerCount) × ZerosAfter count values ⌝ }
+        ensures { λ r. ⌜ Runs r (self .locks) (job (label .0) (returnsOf self) (fill (take count values))) ⌝ }
     {
         self.label = label;
-        self.present = low(count);
-        self
+        self.fill(values, count)
     }
 
-    // A CALL: one return label more.
-    pub fn call(mut self, label: Label, count: u8) -> Self
-        requires { ⌜ (self .depth < 8) × (count ≤ 25) ⌝ }
-        ensures { λ r. ⌜ r ≡ called self label count ⌝ }
+    // A CALL: the return label goes behind the others.
+    pub fn call(
+        mut self,
+        label: Label,
+        back: Label,
+        values: [u16; Thread::REGISTERS],
+        count: u8,
+    ) -> Self
+        requires { ⌜ Running self × (self .depth < returnCount) × (label .0 < idleLabel)
+            × (count ≤ registerCount) × ZerosAfter count values ⌝ }
+        ensures { λ r. ⌜ Runs r (self .locks) (job (label .0) (returnsOf self ++ (back .0 ∷ [])) (fill (take count values))) ⌝ }
     {
-        self.depth = self.depth + 1;
-        self.enter(label, count)
+        let next = self.depth;
+        let mut returns = self.returns;
+        returns[next] = label_number(back);
+        self.returns = returns;
+        self.depth = next + 1;
+        self.enter(label, values, count)
     }
 
-    // A RETURN to the newest return label, which is taken.
-    pub fn return_to_caller(mut self, label: Label, count: u8) -> Self
-        requires { ⌜ (0 < self .depth) × (count ≤ 25) ⌝ }
-        ensures { λ r. ⌜ r ≡ returned self label count ⌝ }
+    // A RETURN: the newest return label is taken.
+    pub fn return_to_caller(mut self, values: [u16; Thread::REGISTERS], count: u8) -> Self
+        requires { ⌜ Running self × (0 < self .depth) × (newestOf (returnsOf self) < idleLabel)
+            × (count ≤ registerCount) × ZerosAfter count values ⌝ }
+        ensures { λ r. ⌜ Runs r (self .locks) (job (newestOf (returnsOf self)) (olderOf (returnsOf self)) (fill (take count values))) ⌝ }
     {
-        self.depth = self.depth - 1;
-        self.enter(label, count)
+        let newest = self.depth - 1;
+        let mut returns = self.returns;
+        let label = label_of(returns[newest]);
+        returns[newest] = 0;
+        self.returns = returns;
+        self.depth = newest;
+        self.enter(label, values, count)
     }
 
-    // A TRANSFER: registers 0 upward become present, the others stay.
-    pub fn transfer(mut self, label: Label, count: u8) -> Self
-        requires { ⌜ count ≤ 25 ⌝ }
-        ensures { λ r. ⌜ r ≡ transferred self label count ⌝ }
+    // A TRANSFER: the first of the values go into registers 0 upward. The values after them are the registers', which stay.
+    pub fn transfer(mut self, label: Label, values: [u16; Thread::REGISTERS], count: u8) -> Self
+        requires { ⌜ Running self × (label .0 < idleLabel)
+            × (count ≤ registerCount) × (drop count values ≡ drop count (self .registers)) ⌝ }
+        ensures { λ r. ⌜ Runs r (self .locks)
+            (job (label .0) (returnsOf self) (map some (take count values) ++ drop count (registersOf self))) ⌝ }
     {
         self.label = label;
         self.present = self.present | low(count);
+        self.registers = values;
         self
     }
 
     // On to a label, with the same registers.
     pub fn move_on(mut self, label: Label) -> Self
-        ensures { λ r. ⌜ r ≡ onward self label ⌝ }
+        requires { ⌜ Running self × (label .0 < idleLabel) ⌝ }
+        ensures { λ r. ⌜ Runs r (self .locks) (job (label .0) (returnsOf self) (registersOf self)) ⌝ }
     {
         self.label = label;
         self

@@ -1,87 +1,87 @@
-use mathlib.Core.Path.{_≡_, refl, sym, _∙_}
-use Prim.Native.Nat.{ℕ, _-_, _<_}
-use native.Mathlib.Omega.{arith}
 use borrow.Author.Needs.{needs}
+use mathlib.Core.Path.{_≡_, refl, sym, _∙_}
+use Prim.Native.Nat.{ℕ, _-_, _≤_, _<_}
+use native.Mathlib.Omega.{arith}
 use lib.ListN.{length, length-set}
+use Rattle.rules.specs.Sizes.{operandCount}
+use Rattle.rules.specs.Codes.{absentRegisterCode}
+use Rattle.rules.specs.Image.{operands}
 use Rattle.rules.specs.Effects.{Cells, read, trap, got}
 use Rattle.rules.specs.Statements.{operandAt}
 use Rattle.operands.specs.Readings.{reading-value, reading-trap, read-reason}
 use Rattle.operands.specs.Legal.{slot-fits}
-use Rattle.operands.specs.Gathered.{ReadSoFar, reads-none, reads-more, reads-trap, reads-all, Unstored, stored-more, stored-all}
-use Rattle.encoding.specs.Slots.{registersIn}
-use Rattle.operands.specs.Cells.{cellsFrom}
+use Rattle.operands.specs.Gathered.{ReadSoFar, reads-none, reads-more, reads-trap, reads-all, Unstored, stored-more}
+use Rattle.operands.specs.Cells.{cellsOf}
 use Rattle.operands.proofs.read_data.Statement.{statement}
 use Rattle.operands.proofs.read_data.Tie as tie
 
 abbrev Inv-loop : tie.InvT-loop
-Inv-loop state block t present r values₀ n k₀ values k = (length values ≡ 25) × ReadSoFar (cellsFrom state (block .0) present (registersIn state (t .0))) r n k values × Unstored k values
+Inv-loop state w r values₀ block registers n k₀ values k = (length values ≡ operandCount) × ReadSoFar (cellsOf state w r) r n k values × Unstored k values₀ values
 
 abbrev μ-loop : tie.MeasureT-loop
-μ-loop state block t present r values₀ n k₀ values k = n - k
+μ-loop state w r values₀ block registers n k₀ values k = n - k
+
+block-field-requires : tie.Need-block-field-requires Inv-loop μ-loop
+block-field-requires c κs = c .before .before .pre .1 .long
+
+operand-count-requires : tie.Need-operand-count-requires Inv-loop μ-loop
+operand-count-requires c κs = c .before .before .before .before .pre .1 .long
 
 loop-holds : tie.Need-loop-holds Inv-loop μ-loop
 loop-holds c =
-    let s = c .before .before .before .before in
-    let a = s .args in
-    (rw (s .pre .6), reads-none (cellsFrom (a .state .now) (a .block .0) (a .present) (registersIn (a .state .now) (a .t .0))) (a .r .now) (c .wide .result) (a .values .now), s .pre .6)
+    let a = c .before .before .before .before .before .before .args in
+    (c .before .before .before .before .before .before .pre .2, reads-none (cellsOf (a .state .now) (a .w) (a .r .now)) (a .r .now) (c .wide .result) (a .values .now), refl)
 
 operand-at-requires : tie.Need-operand-at-requires Inv-loop μ-loop
-operand-at-requires c κs = omega (arith, c .before .before .wide .ensures .0)
+operand-at-requires c κs = omega (arith, c .before .before .before .wide .ensures .0, c .before .before .before .before .operand-count .ensures, c .before .before .before .before .before .before .before .before .before .pre .1 .few, c .before .before .before .before .before .before .before .before .before .pre .1 .long)
 
 read-operand-requires : tie.Need-read-operand-requires Inv-loop μ-loop
 read-operand-requires c κs =
-    let a = c .before .before .before .before .before .before .before in
-    let k = c .before .before .loop .k in
-    let w = c .before .before .before .wide .ensures .0 in
-    (a .pre .0, a .pre .1, a .pre .2, rw (c .operand-at .ensures) (slot-fits (a .args .r .now) (a .pre .5) k (omega (arith, w)) (omega (arith, w, a .pre .4))))
+    let s = c .before .before .before .before .before .before .before .before .before .before in
+    let k = c .before .before .before .loop .k in
+    let n = c .before .before .before .before .wide .ensures .0 ∙ c .before .before .before .before .before .operand-count .ensures in
+    (s .pre .0, rw (c .before .before .before .before .before .before .before .block-field .ensures) (s .pre .1 .block), rw (c .operand-at .ensures) (slot-fits (s .args .r .now) (s .pre .1 .slots) k (omega (arith, n)) (omega (arith, n, s .pre .1 .few))))
 
 element-write-values : tie.Need-element-write-values Inv-loop μ-loop
-element-write-values c =
-    let a = c .before .before .before .before .before .before .before .before .before .before .before in
-    omega (arith, c .before .before .before .before .before .before .before .wide .ensures .0, a .pre .4)
+element-write-values c = omega (arith, c .before .before .before .before .before .before .before .before .wide .ensures .0, c .before .before .before .before .before .before .before .before .before .operand-count .ensures, c .before .before .before .before .before .before .before .before .before .before .before .before .before .before .pre .1 .few)
 
 returns : tie.Need-returns Inv-loop μ-loop
 returns c =
-    let s = c .before .before .before .before .before .before .before .before .before .before .before in
+    let s = c .before .before .before .before .before .before .before .before .before .before .before .before .before .before in
     let a = s .args in
-    let l = c .before .before .before .before .before .before .loop in
-    let w = c .before .before .before .before .before .before .before .wide .ensures .0 in
-    let cells : Cells = cellsFrom (a .state .now) (a .block .0) (a .present) (registersIn (a .state .now) (a .t .0)) in
+    let l = c .before .before .before .before .before .before .before .loop in
+    let n : c .before .before .before .before .before .before .before .before .wide .result ≡ operands (a .r .now) = c .before .before .before .before .before .before .before .before .wide .ensures .0 ∙ c .before .before .before .before .before .before .before .before .before .operand-count .ensures in
+    let cells : Cells = cellsOf (a .state .now) (a .w) (a .r .now) in
     let x : ℕ = c .before .reason .given .0 .0 in
-    let f : read cells (c .before .before .before .before .operand-at .result) ≡ trap x = reading-trap _ x (sym (c .before .before .before .read-operand .ensures) ∙ c .before .reason .given .1) in
+    let f : read cells (c .before .before .before .before .operand-at .result) ≡ trap x = reading-trap _ x (sym (rw (c .before .before .before .before .before .before .before .before .before .before .before .block-field .ensures) at (c .before .before .before .read-operand .ensures)) ∙ c .before .reason .given .1) in
     let e : read cells (operandAt (a .r .now) (l .k)) ≡ trap x = rw (c .before .before .before .before .operand-at .ensures) at f in
-    let one : x ≡ 1 = read-reason cells (operandAt (a .r .now) (l .k)) x e in
-    let all = reads-trap cells (a .r .now) (c .before .before .before .before .before .before .before .wide .result) (l .k) (l .values) (l .inv .1) (omega arith) x e in
-    record { few = s .pre .4; values = λ z. absurd (omega arith); trapped = λ z. rw w at all; sized = l .inv .0; zeros = λ z. absurd (omega arith) }
+    let one : x ≡ absentRegisterCode = read-reason cells (operandAt (a .r .now) (l .k)) x e in
+    let all = reads-trap cells (a .r .now) (c .before .before .before .before .before .before .before .before .wide .result) (l .k) (l .values) (l .inv .1) (omega arith) x e in
+    record { few = s .pre .1 .few; values = λ z. absurd (omega arith); trapped = λ z. rw n at all; sized = l .inv .0; rest = λ z. absurd (omega arith) }
 
 loop-again : tie.Need-loop-again Inv-loop μ-loop
 loop-again c =
-    let a = c .before .before .before .before .before .before .before .before .before .before .before .args in
-    let l = c .before .before .before .before .before .before .loop in
-    let n = c .before .before .before .before .before .before .before .wide .result in
-    let cells : Cells = cellsFrom (a .state .now) (a .block .0) (a .present) (registersIn (a .state .now) (a .t .0)) in
+    let s = c .before .before .before .before .before .before .before .before .before .before .before .before .before .before in
+    let a = s .args in
+    let l = c .before .before .before .before .before .before .before .loop in
+    let n = c .before .before .before .before .before .before .before .before .wide .result in
+    let few : n ≤ operandCount = omega (arith, c .before .before .before .before .before .before .before .before .wide .ensures .0, c .before .before .before .before .before .before .before .before .before .operand-count .ensures, s .pre .1 .few) in
+    let cells : Cells = cellsOf (a .state .now) (a .w) (a .r .now) in
     let v : ℕ = c .before .v .given .0 .0 in
-    let f : read cells (c .before .before .before .before .operand-at .result) ≡ got v = reading-value _ v (sym (c .before .before .before .read-operand .ensures) ∙ c .before .v .given .1) in
+    let f : read cells (c .before .before .before .before .operand-at .result) ≡ got v = reading-value _ v (sym (rw (c .before .before .before .before .before .before .before .before .before .before .before .block-field .ensures) at (c .before .before .before .read-operand .ensures)) ∙ c .before .v .given .1) in
     let e : read cells (operandAt (a .r .now) (l .k)) ≡ got v = rw (c .before .before .before .before .operand-at .ensures) at f in
-    let h : l .k < length (l .values) = omega (arith, l .inv .0, c .before .before .before .before .before .before .before .wide .ensures .0, c .before .before .before .before .before .before .before .before .before .before .before .pre .4) in
-    (length-set (l .values) (l .k) v ∙ l .inv .0, reads-more cells (a .r .now) n (l .k) (l .values) (l .inv .1) (omega arith) v e h, stored-more (l .k) v (l .values) (omega (arith, l .inv .0)) (l .inv .2))
+    let h : l .k < length (l .values) = omega (arith, l .inv .0) in
+    (length-set (l .values) (l .k) v ∙ l .inv .0, reads-more cells (a .r .now) n (l .k) (l .values) (l .inv .1) (omega arith) v e h, stored-more (l .k) v (a .values .now) (l .values) (l .inv .2))
 
 returns-2 : tie.Need-returns-2 Inv-loop μ-loop
 returns-2 c =
-    let s = c .before .before .before .before .before .before in
+    let s = c .before .before .before .before .before .before .before .before in
     let a = s .args in
     let l = c .before .loop in
-    let all = reads-all (cellsFrom (a .state .now) (a .block .0) (a .present) (registersIn (a .state .now) (a .t .0))) (a .r .now) (c .before .before .wide .result) (l .k) (l .values) (l .inv .1) (omega arith) in
-    let n : ℕ = c .before .before .wide .result in
-    let e : l .k ≡ n = omega (arith, l .inv .1 .0) in
-    let rest = stored-all n (l .values) (l .inv .0) (omega (arith, c .before .before .wide .ensures .0, s .pre .4)) (rw e at (l .inv .2)) in
-    record {
-      few = s .pre .4;
-      values = λ z. rw (c .before .before .wide .ensures .0) at all;
-      trapped = λ z. absurd (z refl);
-      sized = l .inv .0;
-      zeros = λ z. rw (c .before .before .wide .ensures .0) at rest;
-    }
+    let n : c .before .before .wide .result ≡ operands (a .r .now) = c .before .before .wide .ensures .0 ∙ c .before .before .before .operand-count .ensures in
+    let all = reads-all (cellsOf (a .state .now) (a .w) (a .r .now)) (a .r .now) (c .before .before .wide .result) (l .k) (l .values) (l .inv .1) (omega arith) in
+    let e : l .k ≡ operands (a .r .now) = omega (arith, l .inv .1 .0) in
+    record { few = s .pre .1 .few; values = λ z. rw n at all; trapped = λ z. absurd (z refl); sized = l .inv .0; rest = λ z. rw e at (l .inv .2) }
 
 pub read-data-spec : {M : Type 1} → statement M
 read-data-spec =
@@ -89,7 +89,8 @@ read-data-spec =
     (tie.spec
     Inv-loop
     μ-loop
-    (λ c. search needs)
+    block-field-requires
+    operand-count-requires
     (λ c κs. search needs)
     loop-holds
     operand-at-requires

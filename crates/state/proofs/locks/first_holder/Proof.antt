@@ -1,30 +1,50 @@
-use mathlib.Core.Path.{_∙_}
+use borrow.Author.Needs.{needs}
+use mathlib.Core.Path.{_≡_, ap, _∙_}
 use Prim.Native.Nat.{_-_}
 use native.Mathlib.Omega.{arith}
+use lib.ListN.{set}
+use Rattle.rules.specs.Sizes.{threadCount}
+use Rattle.rules.specs.Machine.{idle}
+use Rattle.rules.specs.Encoding.{machineFrom}
+use Rattle.rules.specs.Walk.{holder}
 use Rattle.fields.specs.Tests.{Searching, begin, none, next, here}
-use Rattle.state.specs.Locks.{passes, holder-found}
+use Rattle.state.specs.declared.locks.Holder.the-variants.{Held}
+use Rattle.state.specs.Locks.{passes, holder-found, holderOf, holder-held, holder-free}
 use Rattle.state.proofs.locks.first_holder.Statement.{statement}
 use Rattle.state.proofs.locks.first_holder.Tie as tie
 
 abbrev Inv-loop : tie.InvT-loop
-Inv-loop state lock out i₀ i = Searching (passes state (lock .0) out) 8 i
+Inv-loop state lock out i₀ i = Searching (passes state (lock .0) (out .0)) threadCount i
 
 abbrev μ-loop : tie.MeasureT-loop
-μ-loop state lock out i₀ i = 8 - i
+μ-loop state lock out i₀ i = threadCount - i
+
+loop-holds : tie.Need-loop-holds Inv-loop μ-loop
+loop-holds c = begin _ threadCount
+
+passed-requires : tie.Need-passed-requires Inv-loop μ-loop
+passed-requires c κs = (c .before .before .before .before .pre .0 .long, c .before .before .before .before .pre .1, rw (c .thread-of .ensures) (c .before .loop-test .taken))
 
 returns : tie.Need-returns Inv-loop μ-loop
 returns c =
-    let s = c .before .before .before .before .before in
-    here _ 8 _ (c .before .before .before .loop .inv) _ (c .before .before .loop-test .taken) (c .before .passed .ensures) (c .if1 .taken)
-    ∙ holder-found _ _ (s .pre .0) (s .args .lock .0) (s .args .out)
+    let s = c .before .before .before .before .before .before in
+    let l = c .before .before .before .before .loop in
+    let e = rw (c .before .before .thread-of .ensures) at (c .before .passed .ensures) in
+    let p : l .i ≡ holder (s .args .lock .0) (set (machineFrom (s .args .state .now) .threads) (s .args .out .0) idle) =
+    here _ threadCount _ (l .inv) _ (c .before .before .before .loop-test .taken) e (c .if1 .taken) ∙ holder-found _ _ (s .pre .0) (s .args .lock .0) (s .args .out .0) in
+    ap Held (c .before .before .thread-of .ensures) ∙ holder-held (l .i) (c .before .before .before .loop-test .taken) ∙ ap holderOf p
 
 loop-again : tie.Need-loop-again Inv-loop μ-loop
-loop-again c = next _ 8 _ (c .before .before .before .loop .inv) _ (c .before .before .loop-test .taken) (c .before .passed .ensures) (c .if1 .left)
+loop-again c =
+    let e = rw (c .before .before .thread-of .ensures) at (c .before .passed .ensures) in
+    next _ threadCount _ (c .before .before .before .before .loop .inv) _ (c .before .before .before .loop-test .taken) e (c .if1 .left)
 
 returns-2 : tie.Need-returns-2 Inv-loop μ-loop
 returns-2 c =
     let s = c .before .before .before in
-    none _ 8 _ (c .before .loop .inv) (c .loop-test .left) ∙ holder-found _ _ (s .pre .0) (s .args .lock .0) (s .args .out)
+    let p : c .before .loop .i ≡ holder (s .args .lock .0) (set (machineFrom (s .args .state .now) .threads) (s .args .out .0) idle) =
+    none _ threadCount _ (c .before .loop .inv) (c .loop-test .left) ∙ holder-found _ _ (s .pre .0) (s .args .lock .0) (s .args .out .0) in
+    holder-free (c .before .loop .i) (omega arith) ∙ ap holderOf p
 
 pub first-holder-spec : {M : Type 1} → statement M
 first-holder-spec =
@@ -32,8 +52,10 @@ first-holder-spec =
     (tie.spec
     Inv-loop
     μ-loop
-    (λ c. begin _ 8)
-    (λ c κs. (c .before .before .before .pre .0 .long, c .before .before .before .pre .1, omega arith))
+    loop-holds
+    (λ c. omega arith)
+    (λ c κs. search needs)
+    passed-requires
     returns
     (λ c. omega arith)
     (λ c. omega arith)

@@ -1,0 +1,16 @@
+use mathlib.Core.Path.{ap}
+use lib.ListN.{take}
+use borrow.Author.Needs.{needs}
+use Rattle.rules.specs.Machine.{fill}
+use Rattle.threads.specs.Threads.{job, idle-fields, runs-as}
+use Rattle.threads.proofs.thread.ThreadState.take.Statement.{statement}
+use Rattle.threads.proofs.thread.ThreadState.take.Tie as tie
+
+returns : tie.Need-returns
+returns c =
+    let a = c .before .args in
+    let z = idle-fields (a .self) (c .before .pre .0) in
+    runs-as (c .enter .ensures) (z .0) (ap (λ k. job (a .label .0) (take k (a .self .returns)) (fill (take (a .count) (a .values)))) (z .1))
+
+pub take-spec : {M : Type 1} → statement M
+take-spec = tie.close (tie.spec (λ c κs. search needs) returns)
