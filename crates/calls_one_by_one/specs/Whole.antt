@@ -33,7 +33,7 @@ use Rattle.calls_one_by_one.specs.Joined.{eventLists, Good, Joined, join
 use Rattle.calls_one_by_one.specs.Ordered.{events-ordered, answers-ordered}
 
 -- what the reading of values asks of events that the image accepts: their threads are 0 to 7, and their bytes have room for them
-all-valid : (image : List ℕ) (l : List Event) → Each (Accepted image) l → AllValid l
+pub all-valid : (image : List ℕ) (l : List Event) → Each (Accepted image) l → AllValid l
 all-valid image [] h = tt
 all-valid image (e ∷ l) h = (accepted-valid image e (h .0), all-valid image l (h .1))
 
@@ -55,25 +55,25 @@ module _ (image table : List ℕ) where
       case false e = k
 
 module _ (image table words state : List ℕ) (runs : List Run) (calls : Calls image table words state runs) where
-  abbrev R : Rules
+  abbrev pub R : Rules
   R = rulesBy image table
 
   -- the machine that Fresh left, and its bytes
-  abbrev first : Machine
+  abbrev pub first : Machine
   first = fresh (wordsFrom words)
 
-  abbrev start : List ℕ
+  abbrev pub start : List ℕ
   start = freshState image table words state
 
-  checked : Checked image table
+  pub checked : Checked image table
   unfolding freshReturn
   checked = checked-of image table _ (calls .fresh) .0
 
-  start-bytes : start ≡ encode first
+  pub start-bytes : start ≡ encode first
   unfolding freshState
   start-bytes = rw (calls .fresh) refl
 
-  first-good : Good image table first
+  pub first-good : Good image table first
   unfolding wordsFrom
   first-good = record {
     sound = sound-fresh image table checked (wordsFrom words);
@@ -83,11 +83,11 @@ module _ (image table words state : List ℕ) (runs : List Run) (calls : Calls i
   start-machine : machineFrom start ≡ first
   start-machine = ap machineFrom start-bytes ∙ machine-back first (first-good .sized)
 
-  all : Joined image table checked first runs
+  pub all : Joined image table checked first runs
   all = joined image table checked first runs first-good (calls .bytes) (subst (λ (z : List ℕ). Follow image table z runs) start-bytes (calls .follow))
 
   -- the events of all calls, and with their answers
-  abbrev joint : List Event
+  abbrev pub joint : List Event
   joint = flatten (eventLists runs)
 
   abbrev noted : List Entry

@@ -12,7 +12,7 @@ use Rattle.rules.specs.declared.answer.Answer.the-variants.{Taken, ListFull, No
 -- ---- any other way of writing entries down
 
 module _ {A B : Type 0} (c : A → B) where
-  over : Sheet A → Sheet B
+  unfoldable pub over : Sheet A → Sheet B
   over h = record { written = map c (h .written); rows = map (map c) (h .rows) }
 
   map-flatten : (l : List (List A)) → map c (flatten l) ≡ flatten (map (map c) l)
@@ -20,7 +20,7 @@ module _ {A B : Type 0} (c : A → B) where
   map-flatten [] = refl
   map-flatten (r ∷ l) = map-append c r (flatten l) ∙ ap (λ (z : List B). map c r ++ z) (map-flatten l)
 
-  rows-get : (l : List (List A)) (t : ℕ) → getD (map (map c) l) t [] ≡ map c (getD l t [])
+  pub rows-get : (l : List (List A)) (t : ℕ) → getD (map (map c) l) t [] ≡ map c (getD l t [])
   rows-get [] t = refl
   rows-get (r ∷ l) zero = refl
   rows-get (r ∷ l) (suc t) = rows-get l t
@@ -72,12 +72,22 @@ byte-sort (Trapped r) = refl
 byte-sort WasCut = refl
 byte-sort NothingToCut = refl
 
-byte-row : (e : Event) → getD (eventBytes e) 1 0 ≡ rowOf e
+pub byte-row : (e : Event) → getD (eventBytes e) 1 0 ≡ rowOf e
 unfolding eventBytes
 byte-row (arrive g) = refl
 byte-row (turn k t) = refl
+
+-- what is written out before the last event of entries of bytes, and the rows that are left
+unfoldable pub byteNotes : List ByteEntry → Sheet ByteEntry
+byteNotes l = notesBy (λ (n : ByteEntry). sortOfCode (getD (n .answer) 0 0)) (λ (n : ByteEntry). getD (n .event) 1 0) blank l
 
 -- THE SECOND ORDER OF THE BYTES is that of the values
 pub byte-order : (l : List Entry) → map bytesOf (order l) ≡ byteOrder (map bytesOf l)
 unfolding order byteOrder
 byte-order l = order-over bytesOf _ _ _ _ (λ n. byte-sort (n .answer)) (λ n. byte-row (n .event)) l
+
+-- and so are its rows, before they are written out
+pub byte-rows : (l : List Entry)
+    → over bytesOf (notesBy (λ (n : Entry). sort (n .answer)) (λ (n : Entry). rowOf (n .event)) blank l) ≡ byteNotes (map bytesOf l)
+unfolding byteNotes over
+byte-rows l = notes-over bytesOf _ _ _ _ (λ n. byte-sort (n .answer)) (λ n. byte-row (n .event)) blank l

@@ -1,5 +1,6 @@
 -- The marked trials as the document tells them, on the bytes of the calls: each from Fresh's state, computed.
 use mathlib.Core.Path.{_≡_, refl}
+use mathlib.Core.Option.{Option·elim}
 use mathlib.Core.List.{List, [], _∷_, _++_}
 use Prim.Native.Nat.{ℕ, zero, suc, _*_}
 use native.Mathlib.Decide.{ℕ-discrete}
@@ -17,6 +18,8 @@ use Rattle.rules.specs.Events.{eventFrom, arrivalOk, turnOk, eventOk, ev
 use Rattle.rules.specs.Effects.{readAll, perform, outcome}
 use Rattle.rules.specs.Steps.{alien, actBy, planArrive, planIdle, planRunning, planStep, planCut, plan, held, blocked, attempt, carry, react, answers, final}
 use Rattle.rules.specs.WellFormed.{absentZero, runningTidy, threadTidy, signalTidy, signalAtTidy, treeTidy, threadAtTidy, treeAtTidy, stateTidy, apart, placeOk, threadOk, threadsOk, pendingOk, treeOk, homed, queuesOk, machineOk, wellFormed}
+use Rattle.rules.specs.Walk.{mem?, walkOn, walk, holder, awaits, walkFrom, metBytes, metCount}
+use Rattle.rules.specs.Calls.{threadFault, metLengthFault, walkFault, walkReturn, walkMet}
 use Rattle.rules.specs.Calls.{stateLengthFault, stateFault, eventsLengthFault, eventFault, answersLengthFault, wordsLengthFault, checkReturn, freshReturn, freshState, runReturn, runState, runAnswers}
 
 -- ---- records of an image, and events
@@ -109,6 +112,20 @@ entering = recordBytes 5 0 3 0 1 0 [] ++ recordBytes 10 1 1 0 0 0 []
 abbrev startAndStep : List ℕ
 startAndStep = arrivalBytes 0 (1 ∷ 7 ∷ 0 ∷ []) ++ times 2 (turnBytes 2 0)
 
+-- blocks 0 and 1 are CMX, on threads 0 and 1; labels 0 in block 0 and 2 in block 1: SEND direct to 1 in block 1, to 3 in block 0; labels 1
+-- and 3: EXIT
+abbrev both : List ℕ
+both = 0 ∷ 1 ∷ 1 ∷ 1 ∷ replicate 28 0
+
+abbrev crossing : List ℕ
+crossing = recordBytes 5 0 3 0 1 0 [] ++ recordBytes 10 1 1 0 0 0 [] ++ recordBytes 5 1 3 0 3 0 [] ++ recordBytes 10 0 1 0 0 0 []
+
+-- a job starts on thread 0, and one on thread 1: each holds the lock that the other's next step asks for
+abbrev ring : List ℕ
+ring =
+    runState crossing both (freshState crossing both words zeros)
+    (arrivalBytes 0 [] ++ arrivalBytes 2 [] ++ turnBytes 2 0 ++ turnBytes 2 1) (replicate 8 0)
+
 abbrev wholeList : List ℕ
 wholeList = arrivalBytes 0 [] ++ times 4 (turnBytes 2 0)
 
@@ -154,6 +171,12 @@ pub record OnBytes : Type 0 where
   -- also: a direct SEND to an FD block (kind 0) of another thread traps, reason 5; a CMX block (kind 1) is open
   pub foreign-FD : answersWith (foreign 0) entering 3 startAndStep ≡ 1 ∷ 0 ∷ 5 ∷ 0 ∷ 8 ∷ 5 ∷ []
   pub foreign-CMX : answersWith (foreign 1) entering 3 startAndStep ≡ 1 ∷ 0 ∷ 5 ∷ 0 ∷ 6 ∷ 0 ∷ []
+  -- also: two threads that wait for each other: from either the walk writes both once and reports the ring; a walk from a thread that
+  -- does not wait writes it alone
+  pub walk-ring : walkReturn crossing both ring 1 (replicate 8 0) ≡ 258
+  pub walk-met : walkMet crossing both ring 1 (replicate 8 0) ≡ 1 ∷ 0 ∷ replicate 6 255
+  pub walk-alone : walkReturn crossing both ring 2 (replicate 8 0) ≡ 1
+  pub alone-met : walkMet crossing both ring 2 (replicate 8 0) ≡ 2 ∷ replicate 7 255
   -- also: after two CALLs and a RETURN all three locks are held
   pub return : part (stateAfter (nested 8) 5 (arrivalBytes 0 [] ++ times 4 (turnBytes 2 0))) 512 5 ≡ 3 ∷ 0 ∷ 7 ∷ 0 ∷ 1 ∷ []
   -- also: a cut two calls deep leaves Fresh's state
@@ -169,7 +192,8 @@ unfolding num16 num32 part isZeros allFrom firstBad blocks pad chunks every labe
     alien actBy planArrive planIdle planRunning planStep planCut plan held blocked attempt carry react answers final absentZero
     runningTidy threadTidy signalTidy signalAtTidy treeTidy threadAtTidy treeAtTidy stateTidy apart placeOk threadOk threadsOk
     pendingOk treeOk homed queuesOk machineOk wellFormed stateLengthFault stateFault eventsLengthFault eventFault answersLengthFault
-    wordsLengthFault checkReturn freshReturn freshState runReturn runState runAnswers
+    wordsLengthFault checkReturn freshReturn freshState runReturn runState runAnswers Option·elim mem?
+    walkOn walk holder awaits walkFrom metBytes metCount threadFault metLengthFault walkFault walkReturn walkMet
 onBytes = record {
   sum = refl;
   difference = refl;
@@ -197,6 +221,10 @@ onBytes = record {
   not-equal = refl;
   foreign-FD = refl;
   foreign-CMX = refl;
+  walk-ring = refl;
+  walk-met = refl;
+  walk-alone = refl;
+  alone-met = refl;
   return = refl;
   cut = refl;
   cut-clears = refl;
