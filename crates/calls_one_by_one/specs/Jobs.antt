@@ -11,7 +11,7 @@ use Rattle.rules.specs.Sizes.{threadCount}
 use Rattle.rules.specs.Codes.{arrivalCode}
 use Rattle.rules.specs.Machine.{ThreadState, idle, running, Machine, threadAt, fresh}
 use Rattle.rules.specs.Encoding.{encode, wordsFrom, machineFrom}
-use Rattle.rules.specs.Events.{Event, arrive, step, cut, threadOf, eventBytes}
+use Rattle.rules.specs.Events.{Event, arrive, turn, threadOf, eventBytes}
 use Rattle.rules.specs.Answers.{code, answerBytes, now, close, sort}
 use Rattle.rules.specs.Steps.{rulesBy, final}
 use Rattle.rules.specs.Order.{Sheet, orderBy, notesBy, blank, Entry, log, ByteEntry, byteOrder}
@@ -91,8 +91,7 @@ thread-byte e t h = byte-row e ∙ row-is e t h
 arrival-kind : (e : Event) → threadOf e ≡ none → getD (eventBytes e) 0 0 ≡ arrivalCode
 unfolding eventBytes
 arrival-kind (arrive g) h = refl
-arrival-kind (step t) h = never (cc)
-arrival-kind (cut t) h = never (cc)
+arrival-kind (turn k t) h = never (cc)
 
 arrival-code : (a : Answer) → sort a ≡ now → (getD (answerBytes a) 0 0 ≡ 1) ⊎ (getD (answerBytes a) 0 0 ≡ 2)
 unfolding answerBytes code
