@@ -1,5 +1,4 @@
-// The image and the block table: the record at a label, the statement in a record, and the rules of a record.
+// The image and the block table: the record at a label, and the statement in a record.
 pub mod decode;
 pub mod records;
-pub mod rule;
 pub mod table;
