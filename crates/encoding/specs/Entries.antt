@@ -1,4 +1,4 @@
--- The entries of bytes, an event's 55 and its answer's 2, are those of the values.
+-- The entries of bytes, an event's and its answer's, are those of the values.
 use mathlib.Core.Path.{_≡_, refl, ap}
 use mathlib.Core.Bool.{true}
 use mathlib.Core.List.{List, [], _∷_, _++_, map, append-assoc, append-nil}

@@ -107,4 +107,4 @@ search t ok (x ∷ l) i h =
 pub first-found : (s : Machine) {b : List ℕ} (t : ℕ) → b ≡ encode s → length (s .trees) ≤ treeCount → firstBad (elsewhere b t) 0 (length (s .trees)) ≡ firstTree t (s .trees)
 unfolding elsewhere
 first-found s {b} t e l =
-    search t (elsewhere b t) (s .trees) 0 (λ j h. ap (λ n. not (eqb n t)) (ap (λ k. getD b (1113 + 426 * k) 0) (omega arith) ∙ thread-byte-is s j e l h (1113 + 426 * j) refl)) ∙ omega arith
+    search t (elsewhere b t) (s .trees) 0 (λ j h. ap (λ n. not (eqb n t)) (ap (λ k. getD b (treesPlace + treeSize * k) 0) (omega arith) ∙ thread-byte-is s j e l h (treesPlace + treeSize * j) refl)) ∙ omega arith

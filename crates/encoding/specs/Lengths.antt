@@ -1,9 +1,9 @@
 -- The sizes of document 01: every encoding has its length, whatever the value.
 use mathlib.Core.Path.{_≡_, refl}
 use mathlib.Core.List.{List}
-use Prim.Native.Nat.{ℕ}
+use Prim.Native.Nat.{ℕ, _*_}
 use lib.ListN.{length, length-append}
-use Rattle.rules.specs.Sizes.{wordsSize, threadSize, signalSize, treeSize, stateSize, eventSize, answerSize}
+use Rattle.rules.specs.Sizes.{threadCount, wordTotal, threadSize, signalSize, treeSize, wordsSize, stateSize, eventSize, answerSize}
 use Rattle.rules.specs.Bytes.{le16, blocks, pad}
 use Rattle.rules.specs.Machine.{Signal, Tree, ThreadState, idle, running, Machine}
 use Rattle.rules.specs.Encoding.{threadRaw, threadBytes, signalBytes, treeBytes, encode}
@@ -29,10 +29,10 @@ pub length-tree : (x : Tree) → length (treeBytes x) ≡ treeSize
 unfolding treeBytes
 length-tree x = simp (length-blocks signalBytes signalSize length-signal, length-pad)
 
-pub length-words : (s : Machine) → length (blocks le16 (pad 0 256 (s .words))) ≡ wordsSize
+pub length-words : (s : Machine) → length (blocks le16 (pad 0 wordTotal (s .words))) ≡ wordsSize
 length-words s = simp (length-blocks le16 2 (λ x. refl), length-pad)
 
-pub length-threads : (s : Machine) → length (blocks threadBytes (pad idle 8 (s .threads))) ≡ 600
+pub length-threads : (s : Machine) → length (blocks threadBytes (pad idle threadCount (s .threads))) ≡ threadSize * threadCount
 length-threads s = simp (length-blocks threadBytes threadSize length-thread, length-pad)
 
 pub length-encode : (s : Machine) → length (encode s) ≡ stateSize

@@ -6,7 +6,7 @@ use native.Mathlib.Nat.{add-zero}
 use native.Mathlib.Omega.{arith}
 use lib.ListN.{length, getD, drop, set, replicate, length-append, length-replicate, length-drop}
 use lib.Seq.{take-at, drop-drop, getD-drop}
-use Rattle.rules.specs.Sizes.{treeCount, pendingCount, signalSize, treeSize, treesPlace}
+use Rattle.rules.specs.Sizes.{treeCount, pendingCount, signalSize, signalsPlace, treeSize, treesPlace}
 use Rattle.rules.specs.Bytes.{part, blocks, pad}
 use Rattle.rules.specs.Machine.{Signal, Tree, Machine}
 use Rattle.rules.specs.Encoding.{noSignal, noTree, signalBytes, signalFrom, treeBytes, treeFrom, encode}
@@ -35,23 +35,23 @@ push-bytes : (x : Tree) (k : ℕ) (g : Signal) → length (x .pending) < pending
     → put (put (treeBytes x) (2 + signalSize * k) (signalBytes g)) 1 ((k + 1) ∷ []) ≡ treeBytes (pushed x g)
 unfolding treeBytes put
 push-bytes x k g h e =
-    let r : List ℕ = blocks signalBytes (pad noSignal 8 (x .pending)) in
-    let w : put r (53 * k) (signalBytes g) ≡ blocks signalBytes (pad noSignal 8 (x .pending ++ g ∷ [])) =
-    blocks-push signalBytes 53 length-signal noSignal 8 (x .pending) g (53 * k) (signalBytes g) h (rw e) (omega (arith, length-signal g)) (put-whole _ _ (length-signal _ ∙ sym (length-signal g))) in
+    let r : List ℕ = blocks signalBytes (pad noSignal pendingCount (x .pending)) in
+    let w : put r (signalSize * k) (signalBytes g) ≡ blocks signalBytes (pad noSignal pendingCount (x .pending ++ g ∷ [])) =
+    blocks-push signalBytes signalSize length-signal noSignal pendingCount (x .pending) g (signalSize * k) (signalBytes g) h (rw e) (omega (arith, length-signal g)) (put-whole _ _ (length-signal _ ∙ sym (length-signal g))) in
     let n : k + 1 ≡ length (x .pending ++ g ∷ []) = simp length-append (omega arith) in
-    ap (λ l. put l 1 ((k + 1) ∷ [])) (put-after (x .thread ∷ length (x .pending) ∷ []) r (2 + 53 * k) (53 * k) (signalBytes g) refl) ∙ rw (w, n)
+    ap (λ l. put l 1 ((k + 1) ∷ [])) (put-after (x .thread ∷ length (x .pending) ∷ []) r (signalsPlace + signalSize * k) (signalSize * k) (signalBytes g) refl) ∙ rw (w, n)
 
 take-bytes : (x : Tree) (k : ℕ) → 0 < length (x .pending) → length (x .pending) ≤ pendingCount → k ≡ length (x .pending)
     → put (put (treeBytes x) 2 (part (treeBytes x) (2 + signalSize) (signalSize * (k - 1)) ++ replicate signalSize 0)) 1 ((k - 1) ∷ []) ≡ treeBytes (rest x)
 unfolding treeBytes put removeAt
 take-bytes x k h l e =
-    let r : List ℕ = blocks signalBytes (pad noSignal 8 (x .pending)) in
+    let r : List ℕ = blocks signalBytes (pad noSignal pendingCount (x .pending)) in
     let z : k - 1 ≡ length (x .pending) - 1 - 0 = omega arith in
-    let p : part (x .thread ∷ length (x .pending) ∷ r) (2 + 53) (53 * (k - 1)) ≡ part r 53 (53 * (k - 1)) = part-after (x .thread ∷ length (x .pending) ∷ []) r (2 + 53) 53 (53 * (k - 1)) refl in
-    let w : put r 0 (part r 53 (53 * (k - 1)) ++ replicate 53 0) ≡ blocks signalBytes (pad noSignal 8 (drop 1 (x .pending))) =
-    blocks-remove signalBytes 53 length-signal noSignal 8 (x .pending) 0 0 53 (53 * (k - 1)) h l no-signal refl refl (rw z) in
+    let p : part (x .thread ∷ length (x .pending) ∷ r) (signalsPlace + signalSize) (signalSize * (k - 1)) ≡ part r signalSize (signalSize * (k - 1)) = part-after (x .thread ∷ length (x .pending) ∷ []) r (signalsPlace + signalSize) signalSize (signalSize * (k - 1)) refl in
+    let w : put r 0 (part r signalSize (signalSize * (k - 1)) ++ replicate signalSize 0) ≡ blocks signalBytes (pad noSignal pendingCount (drop 1 (x .pending))) =
+    blocks-remove signalBytes signalSize length-signal noSignal pendingCount (x .pending) 0 0 signalSize (signalSize * (k - 1)) h l no-signal refl refl (rw z) in
     let n : k - 1 ≡ length (drop 1 (x .pending)) = rw (length-drop, e) in
-    rw p (ap (λ l. put l 1 ((k - 1) ∷ [])) (put-after (x .thread ∷ length (x .pending) ∷ []) r 2 0 (part r 53 (53 * (k - 1)) ++ replicate 53 0) refl) ∙ rw (w, n))
+    rw p (ap (λ l. put l 1 ((k - 1) ∷ [])) (put-after (x .thread ∷ length (x .pending) ∷ []) r 2 0 (part r signalSize (signalSize * (k - 1)) ++ replicate signalSize 0) refl) ∙ rw (w, n))
 
 pub move-bytes : (x : Tree) (t : ℕ) → put (treeBytes x) 0 (t ∷ []) ≡ treeBytes (moved x t)
 unfolding treeBytes put
@@ -65,8 +65,8 @@ module _ (s : Machine) (i : ℕ) {b : List ℕ} (e : b ≡ encode s) (l : length
       → b₂ ≡ encode (withTrees s (set (s .trees) i (pushed (getD (s .trees) i noTree) g)))
   signal-push {b₁} {b₂} k at g ek few ea e₁ e₂ =
       let x = getD (s .trees) i noTree in
-      let f₁ = tree-put s i l h (treeBytes x) (at + 2 + 53 * k) (2 + 53 * k) (signalBytes g) (e ∙ tree-open s i l h) e₁ (length-tree x) (omega arith) (omega (arith, length-signal g)) in
-      let f₂ = tree-put s i l h (put (treeBytes x) (2 + 53 * k) (signalBytes g)) (at + 1) 1 ((k + 1) ∷ []) f₁ e₂ (length-put _ _ _ ∙ length-tree x) (omega arith) (omega arith) in
+      let f₁ = tree-put s i l h (treeBytes x) (at + signalsPlace + signalSize * k) (signalsPlace + signalSize * k) (signalBytes g) (e ∙ tree-open s i l h) e₁ (length-tree x) (omega arith) (omega (arith, length-signal g)) in
+      let f₂ = tree-put s i l h (put (treeBytes x) (signalsPlace + signalSize * k) (signalBytes g)) (at + 1) 1 ((k + 1) ∷ []) f₁ e₂ (length-put _ _ _ ∙ length-tree x) (omega arith) (omega arith) in
       f₂ ∙ rw (push-bytes x k g few ek) (tree-close s i l h (pushed x g))
 
   pub signal-take : {b₁ b₂ : List ℕ} (k at : ℕ) → k ≡ length (getD (s .trees) i noTree .pending) → 0 < length (getD (s .trees) i noTree .pending)
@@ -76,9 +76,9 @@ module _ (s : Machine) (i : ℕ) {b : List ℕ} (e : b ≡ encode s) (l : length
   signal-take {b₁} {b₂} k at ek some few ea e₁ e₂ =
       let x = getD (s .trees) i noTree in
       let f = e ∙ tree-open s i l h in
-      let p : part b (at + 2 + 53) (53 * (k - 1)) ≡ part (treeBytes x) (2 + 53) (53 * (k - 1)) = tree-part s i l h (treeBytes x) (at + 2 + 53) (2 + 53) (53 * (k - 1)) f (length-tree x) (omega arith) (omega arith) in
-      let a : List ℕ = part (treeBytes x) (2 + 53) (53 * (k - 1)) ++ replicate 53 0 in
-      let la : length a ≡ 53 * (k - 1) + 53 = simp (length-append, length-replicate, length-part (treeBytes x) (2 + 53) (53 * (k - 1)) (omega (arith, length-tree x))) in
+      let p : part b (at + signalsPlace + signalSize) (signalSize * (k - 1)) ≡ part (treeBytes x) (signalsPlace + signalSize) (signalSize * (k - 1)) = tree-part s i l h (treeBytes x) (at + signalsPlace + signalSize) (signalsPlace + signalSize) (signalSize * (k - 1)) f (length-tree x) (omega arith) (omega arith) in
+      let a : List ℕ = part (treeBytes x) (signalsPlace + signalSize) (signalSize * (k - 1)) ++ replicate signalSize 0 in
+      let la : length a ≡ signalSize * (k - 1) + signalSize = simp (length-append, length-replicate, length-part (treeBytes x) (signalsPlace + signalSize) (signalSize * (k - 1)) (omega (arith, length-tree x))) in
       let f₁ = tree-put s i l h (treeBytes x) (at + 2) 2 a f (rw p at e₁) (length-tree x) (omega arith) (omega arith) in
       let f₂ = tree-put s i l h (put (treeBytes x) 2 a) (at + 1) 1 ((k - 1) ∷ []) f₁ e₂ (length-put _ _ _ ∙ length-tree x) (omega arith) (omega arith) in
       f₂ ∙ rw (take-bytes x k some few ek) (tree-close s i l h (rest x))
@@ -107,7 +107,7 @@ module _ (s : Machine) (i : ℕ) {b : List ℕ} (e : b ≡ encode s) (l : length
   tree-bytes-are =
       let x = getD (s .trees) i noTree in
       let d = tree-on s i at l h ea in
-      rw (e, d .1) (take-at (treeBytes x) (d .0) 426 (length-tree x))
+      rw (e, d .1) (take-at (treeBytes x) (d .0) treeSize (length-tree x))
 
   pub tree-is : Each SizedTree (s .trees) → treeFrom (drop at b) ≡ getD (s .trees) i noTree
   tree-is z =
@@ -119,9 +119,9 @@ module _ (s : Machine) (i : ℕ) {b : List ℕ} (e : b ≡ encode s) (l : length
   signal-on z k hk =
       let x = getD (s .trees) i noTree in
       let d = tree-on s i at l h ea in
-      let g = signal-at x (d .0) (2 + 53 * k) k (each-at SizedTree (s .trees) i noTree z h) hk refl in
+      let g = signal-at x (d .0) (signalsPlace + signalSize * k) k (each-at SizedTree (s .trees) i noTree z h) hk refl in
       let f : drop at b ≡ treeBytes x ++ d .0 = ap (drop at) e ∙ d .1 in
-      (g .0, sym (drop-drop (2 + 53 * k) at b) ∙ rw f (g .1))
+      (g .0, sym (drop-drop (signalsPlace + signalSize * k) at b) ∙ rw f (g .1))
 
   pub signal-is : Each SizedTree (s .trees) → (k : ℕ) → k < length (getD (s .trees) i noTree .pending)
       → signalFrom (drop (at + (2 + signalSize * k)) b) ≡ getD (getD (s .trees) i noTree .pending) k noSignal

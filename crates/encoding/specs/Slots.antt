@@ -2,7 +2,7 @@
 use mathlib.Core.List.{List}
 use Prim.Native.Nat.{ℕ, _+_, _*_}
 use lib.ListN.{drop}
-use Rattle.rules.specs.Sizes.{registerCount, returnCount, wordsSize, threadSize}
+use Rattle.rules.specs.Sizes.{registerCount, returnCount, threadSize, wordsSize}
 use Rattle.rules.specs.Bytes.{num16, chunks}
 
 -- the return labels and the values of the registers in the bytes of thread t

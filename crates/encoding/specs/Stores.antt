@@ -4,7 +4,7 @@ use mathlib.Core.List.{List, []}
 use Prim.Native.Nat.{ℕ, _+_, _*_, _≤_, _<_}
 use native.Mathlib.Omega.{arith}
 use lib.ListN.{length, getD, drop, set, length-set}
-use Rattle.rules.specs.Sizes.{threadCount, blockCount, wordCount, wordsSize, threadSize}
+use Rattle.rules.specs.Sizes.{threadCount, blockCount, wordCount, wordTotal, threadSize, wordsSize, threadsPlace}
 use Rattle.rules.specs.Bytes.{num16, le16, blocks, pad}
 use Rattle.rules.specs.Machine.{ThreadState, idle, Machine, threadAt}
 use Rattle.rules.specs.Encoding.{threadBytes, threadFrom, encode}
@@ -47,33 +47,33 @@ module _ (s : Machine) where
   pub word-put : (n v : ℕ) → length (s .words) ≡ blockCount * wordCount → n < blockCount * wordCount → put (encode s) (2 * n) (le16 v) ≡ encode (withWord s n v)
   unfolding encode
   word-put n v l h =
-      let l′ : length (set (s .words) n v) ≡ 256 = length-set (s .words) n v ∙ l in
-      rw (pad-full 0 256 (s .words) l, pad-full 0 256 (set (s .words) n v) l′)
+      let l′ : length (set (s .words) n v) ≡ wordTotal = length-set (s .words) n v ∙ l in
+      rw (pad-full 0 wordTotal (s .words) l, pad-full 0 wordTotal (set (s .words) n v) l′)
       (block-put le16 2 (λ x. refl) 0 [] _ (s .words) (2 * n) n 0 (le16 v) v (omega arith) (omega arith) (omega arith) (put-whole _ _ refl))
 
   pub word-get : (n : ℕ) → length (s .words) ≡ blockCount * wordCount → n < blockCount * wordCount → num16 (drop (2 * n) (encode s)) ≡ getD (s .words) n 0
   unfolding encode
   word-get n l h =
-      rw (pad-full 0 256 (s .words) l, block-drop le16 2 (λ x. refl) 0 [] _ (s .words) (2 * n) n (omega arith) (omega arith)) (num16-le16 _ _)
+      rw (pad-full 0 wordTotal (s .words) l, block-drop le16 2 (λ x. refl) 0 [] _ (s .words) (2 * n) n (omega arith) (omega arith)) (num16-le16 _ _)
 
   -- a store inside thread t's record that makes it the record of w
   pub thread-inside : (t at j : ℕ) (a : List ℕ) (w : ThreadState) → length (s .threads) ≡ threadCount → t < threadCount → at ≡ wordsSize + threadSize * t + j
       → j + length a ≤ threadSize → put (threadBytes (threadAt s t)) j a ≡ threadBytes w → put (encode s) at a ≡ encode (withThread s t w)
   unfolding encode
   thread-inside t at j a w l h e k p =
-      let l′ : length (set (s .threads) t w) ≡ 8 = length-set (s .threads) t w ∙ l in
-      let words : List ℕ = blocks le16 (pad 0 256 (s .words)) in
-      rw (pad-full idle 8 (s .threads) l, pad-full idle 8 (set (s .threads) t w) l′)
-      (block-put threadBytes 75 length-thread idle words _ (s .threads) at t j a w (omega (arith, length-words s)) (omega arith) k p)
+      let l′ : length (set (s .threads) t w) ≡ threadCount = length-set (s .threads) t w ∙ l in
+      let words : List ℕ = blocks le16 (pad 0 wordTotal (s .words)) in
+      rw (pad-full idle threadCount (s .threads) l, pad-full idle threadCount (set (s .threads) t w) l′)
+      (block-put threadBytes threadSize length-thread idle words _ (s .threads) at t j a w (omega (arith, length-words s)) (omega arith) k p)
 
   pub thread-put : (t : ℕ) (w : ThreadState) → length (s .threads) ≡ threadCount → t < threadCount
       → put (encode s) (wordsSize + threadSize * t) (threadBytes w) ≡ encode (withThread s t w)
   thread-put t w l h =
-      thread-inside t (512 + 75 * t) 0 (threadBytes w) w l h (omega arith) (omega (arith, length-thread w)) (put-whole (threadBytes (threadAt s t)) (threadBytes w) (length-thread (threadAt s t) ∙ sym (length-thread w)))
+      thread-inside t (threadsPlace + threadSize * t) 0 (threadBytes w) w l h (omega arith) (omega (arith, length-thread w)) (put-whole (threadBytes (threadAt s t)) (threadBytes w) (length-thread (threadAt s t) ∙ sym (length-thread w)))
 
   pub thread-get : (t : ℕ) → Sized s → t < threadCount → threadFrom (drop (wordsSize + threadSize * t) (encode s)) ≡ threadAt s t
   thread-get t z h =
-      let d = thread-on s t (512 + 75 * t) (z .threads) h refl in
+      let d = thread-on s t (threadsPlace + threadSize * t) (z .threads) h refl in
       rw (d .1) (thread-back (threadAt s t) (thread-at-sized s t z h) (d .0))
 
 -- the same along equations: what a run of calls leaves and answers

@@ -8,7 +8,8 @@ use lib.Dec.{eqb, leb, ltb}
 use lib.ListN.{length, getD, take, drop, replicate, length-drop}
 use lib.Seq.{drop-at, drop-drop, getD-drop, take-all}
 use borrow.Author.Tests.{eqb-true, eqb-false, ne-eqb, leb-true, le-leb, ltb-true, lt-ltb}
-use Rattle.rules.specs.Sizes.{registerCount, returnCount, threadSize, idleLabel}
+use Rattle.rules.specs.Sizes.{registerCount, returnCount, idleLabel, locksPlace, returnCountPlace, returnsPlace, presencePlace}
+use Rattle.rules.specs.Sizes.{registersPlace, threadSize}
 use Rattle.rules.specs.Bytes.{num16, num32, le16, le32, part, isZeros, blocks, pad, chunks, allFrom}
 use Rattle.rules.specs.Machine.{Job, ThreadState, idle, running}
 use Rattle.rules.specs.Encoding.{presence, valueOr0, registersFrom, threadRaw, threadBytes, jobFrom, threadFrom}
@@ -25,20 +26,20 @@ use Rattle.encoding.specs.Registers.{length-values, registers-back, leng
 -- ---- written, and read back
 
 after : Job → List ℕ → List ℕ
-after j q = le32 (presence (j .registers)) ++ blocks le16 (pad 0 25 (map valueOr0 (j .registers))) ++ q
+after j q = le32 (presence (j .registers)) ++ blocks le16 (pad 0 registerCount (map valueOr0 (j .registers))) ++ q
 
 -- a running thread's record from its return labels on
-returns-on : (locks : ℕ) (j : Job) (q : List ℕ) → drop 5 (threadBytes (running locks j) ++ q) ≡ blocks le16 (pad 0 8 (j .returns)) ++ after j q
+returns-on : (locks : ℕ) (j : Job) (q : List ℕ) → drop 5 (threadBytes (running locks j) ++ q) ≡ blocks le16 (pad 0 returnCount (j .returns)) ++ after j q
 unfolding threadBytes threadRaw after
-returns-on locks j q = append-assoc (blocks le16 (pad 0 8 (j .returns))) (le32 (presence (j .registers)) ++ blocks le16 (pad 0 25 (map valueOr0 (j .registers)))) q
+returns-on locks j q = append-assoc (blocks le16 (pad 0 returnCount (j .returns))) (le32 (presence (j .registers)) ++ blocks le16 (pad 0 registerCount (map valueOr0 (j .registers)))) q
 
 present-on : (locks : ℕ) (j : Job) (q : List ℕ) → drop 21 (threadBytes (running locks j) ++ q) ≡ after j q
 present-on locks j q =
-    let r : List ℕ = blocks le16 (pad 0 8 (j .returns)) in
-    let m : length r ≡ 16 = length-blocks le16 2 (λ x. refl) (pad 0 8 (j .returns)) ∙ rw (length-pad 0 8 (j .returns)) in
-    sym (drop-drop 16 5 (threadBytes (running locks j) ++ q)) ∙ ap (drop 16) (returns-on locks j q) ∙ drop-at r (after j q) 16 m
+    let r : List ℕ = blocks le16 (pad 0 returnCount (j .returns)) in
+    let m : length r ≡ 2 * returnCount = length-blocks le16 2 (λ x. refl) (pad 0 returnCount (j .returns)) ∙ rw (length-pad 0 returnCount (j .returns)) in
+    sym (drop-drop (2 * returnCount) returnsPlace (threadBytes (running locks j) ++ q)) ∙ ap (drop (2 * returnCount)) (returns-on locks j q) ∙ drop-at r (after j q) (2 * returnCount) m
 
-values-on : (locks : ℕ) (j : Job) (q : List ℕ) → drop 25 (threadBytes (running locks j) ++ q) ≡ blocks le16 (pad 0 25 (map valueOr0 (j .registers))) ++ q
+values-on : (locks : ℕ) (j : Job) (q : List ℕ) → drop registersPlace (threadBytes (running locks j) ++ q) ≡ blocks le16 (pad 0 registerCount (map valueOr0 (j .registers))) ++ q
 unfolding after
 values-on locks j q = sym (drop-drop 4 21 (threadBytes (running locks j) ++ q)) ∙ ap (drop 4) (present-on locks j q)
 
@@ -56,13 +57,13 @@ count-back locks j q = refl
 
 present-back : (locks : ℕ) (j : Job) (q : List ℕ) → num32 (drop 21 (threadBytes (running locks j) ++ q)) ≡ presence (j .registers)
 unfolding after
-present-back locks j q = rw present-on (num32-le32 (presence (j .registers)) (blocks le16 (pad 0 25 (map valueOr0 (j .registers))) ++ q))
+present-back locks j q = rw present-on (num32-le32 (presence (j .registers)) (blocks le16 (pad 0 registerCount (map valueOr0 (j .registers))) ++ q))
 
-values-back : (locks : ℕ) (j : Job) (q : List ℕ) → SizedJob j → chunks num16 2 25 (drop 25 (threadBytes (running locks j) ++ q)) ≡ map valueOr0 (j .registers)
+values-back : (locks : ℕ) (j : Job) (q : List ℕ) → SizedJob j → chunks num16 2 registerCount (drop registersPlace (threadBytes (running locks j) ++ q)) ≡ map valueOr0 (j .registers)
 values-back locks j q z =
     let vs : List ℕ = map valueOr0 (j .registers) in
-    let n : length vs ≡ 25 = length-values (j .registers) ∙ z .registers in
-    rw (values-on, pad-full 0 25 vs n) (nums-back 25 vs q n)
+    let n : length vs ≡ registerCount = length-values (j .registers) ∙ z .registers in
+    rw (values-on, pad-full 0 registerCount vs n) (nums-back registerCount vs q n)
 
 job-back : (locks : ℕ) (j : Job) → SizedJob j → (q : List ℕ) → jobFrom (threadBytes (running locks j) ++ q) ≡ j
 unfolding jobFrom
@@ -70,8 +71,8 @@ job-back locks j z q =
     let b : List ℕ = threadBytes (running locks j) ++ q in
     let n : getD (drop 4 b) 0 0 ≡ length (j .returns) = getD-drop 4 b 0 0 ∙ count-back locks j q in
     let c : chunks num16 2 (getD (drop 4 b) 0 0) (drop 5 b) ≡ j .returns =
-    rw (n, returns-on, pad-split 0 8 (j .returns) (z .returns), blocks-append, append-assoc (blocks le16 (j .returns))) (nums-back (length (j .returns)) (j .returns) _ refl) in
-    let f : registersFrom (num32 (drop 21 b)) (chunks num16 2 25 (drop 25 b)) 0 25 ≡ j .registers =
+    rw (n, returns-on, pad-split 0 returnCount (j .returns) (z .returns), blocks-append, append-assoc (blocks le16 (j .returns))) (nums-back (length (j .returns)) (j .returns) _ refl) in
+    let f : registersFrom (num32 (drop 21 b)) (chunks num16 2 registerCount (drop registerCount b)) 0 registerCount ≡ j .registers =
     rw (present-back, values-back locks j q z, ← z .registers) (registers-back (j .registers) (presence (j .registers)) (map valueOr0 (j .registers)) 0 (omega arith) refl) in
     λ i. record { label = label-back locks j q i; returns = c i; registers = f i }
 
@@ -80,7 +81,7 @@ unfolding threadBytes threadRaw
 idle-back q = num16-le16 idleLabel _
 
 -- an idle thread's other fields are all zero
-idle-raw : threadBytes idle ≡ le16 idleLabel ++ replicate 73 0
+idle-raw : threadBytes idle ≡ le16 idleLabel ++ replicate (threadSize - locksPlace) 0
 unfolding threadBytes threadRaw blocks pad
 idle-raw = refl
 
@@ -102,43 +103,43 @@ unfolding runningTidy
 running-read b l e =
     let n = getD b 4 0 in
     let p = num32 (drop 21 b) in
-    let count = leb n 8 in
-    let zeros = isZeros (part b (5 + 2 * n) (2 * (8 - n))) in
-    let present = ltb p (2 ^ 25) in
-    let t = both (count && zeros && present) (allFrom (absentZero b) 0 25) e in
+    let count = leb n returnCount in
+    let zeros = isZeros (part b (5 + 2 * n) (2 * (returnCount - n))) in
+    let present = ltb p (2 ^ registerCount) in
+    let t = both (count && zeros && present) (allFrom (absentZero b) 0 registerCount) e in
     let u = both (count && zeros) present (t .0) in
     let v = both count zeros (u .0) in
-    let h : n ≤ 8 = leb-true n 8 (v .0) in
+    let h : n ≤ returnCount = leb-true n returnCount (v .0) in
     record {
       few = h;
-      zeros = rw part-drop (zeros-part b (5 + 2 * n) (2 * (8 - n)) (omega arith) (v .1));
-      present = ltb-true p (2 ^ 25) (u .1);
-      absent = λ r lr. all-at (absentZero b) 0 25 (t .1) r (omega arith) (omega arith);
+      zeros = rw part-drop (zeros-part b (5 + 2 * n) (2 * (returnCount - n)) (omega arith) (v .1));
+      present = ltb-true p (2 ^ registerCount) (u .1);
+      absent = λ r lr. all-at (absentZero b) 0 registerCount (t .1) r (omega arith) (omega arith);
     }
 
 -- the registers of a record give its presence set and its values
 module _ (b : List ℕ) (o : RunningRead b) where
   present-forth : presence (jobFrom b .registers) ≡ num32 (drop 21 b)
   unfolding jobFrom
-  present-forth = presence-forth (num32 (drop 21 b)) (chunks num16 2 25 (drop 25 b)) 0 25 (omega (arith, o .present)) ∙ omega arith
+  present-forth = presence-forth (num32 (drop 21 b)) (chunks num16 2 registerCount (drop registerCount b)) 0 registerCount (omega (arith, o .present)) ∙ omega arith
 
-  registers-forth : map valueOr0 (jobFrom b .registers) ≡ chunks num16 2 25 (drop 25 b)
+  registers-forth : map valueOr0 (jobFrom b .registers) ≡ chunks num16 2 registerCount (drop registerCount b)
   unfolding jobFrom absentZero
   registers-forth =
-      let vs : List ℕ = chunks num16 2 25 (drop 25 b) in
-      let lv : length vs ≡ 25 = length-chunks num16 2 25 (drop 25 b) in
-      values-forth (num32 (drop 21 b)) vs 0 25 (omega arith) (λ i l h. rw (chunks-at num16 2 25 (drop 25 b) 0 i (omega arith), drop-drop) (o .absent i (omega arith)))
-      ∙ take-all 25 vs (omega arith)
+      let vs : List ℕ = chunks num16 2 registerCount (drop registerCount b) in
+      let lv : length vs ≡ registerCount = length-chunks num16 2 registerCount (drop registerCount b) in
+      values-forth (num32 (drop 21 b)) vs 0 registerCount (omega arith) (λ i l h. rw (chunks-at num16 2 registerCount (drop registerCount b) 0 i (omega arith), drop-drop) (o .absent i (omega arith)))
+      ∙ take-all registerCount vs (omega arith)
 
 raw-forth : (b : List ℕ) (label locks count : ℕ) (returns : List ℕ) (present : ℕ) (values : List ℕ) → le16 label ≡ part b 0 2 → le16 locks ≡ part b 2 2
-    → count ∷ [] ≡ part b 4 1 → blocks le16 (pad 0 returnCount returns) ≡ part b 5 16 → le32 present ≡ part b 21 4 → blocks le16 (pad 0 registerCount values) ≡ part b 25 50
+    → count ∷ [] ≡ part b returnCountPlace 1 → blocks le16 (pad 0 returnCount returns) ≡ part b returnsPlace (2 * returnCount) → le32 present ≡ part b presencePlace 4 → blocks le16 (pad 0 registerCount values) ≡ part b registersPlace (2 * registerCount)
     → threadRaw label locks count returns present values ≡ part b 0 threadSize
 unfolding threadRaw
 raw-forth b label locks count returns present values e₁ e₂ e₃ e₄ e₅ e₆ =
-    glue b 0 2 73 _ _ e₁ (glue b 2 2 71 _ _ e₂ (glue b 4 1 70 _ _ e₃ (glue b 5 16 54 _ _ e₄ (glue b 21 4 50 _ _ e₅ e₆))))
+    glue b 0 locksPlace (threadSize - locksPlace) _ _ e₁ (glue b locksPlace 2 (threadSize - returnCountPlace) _ _ e₂ (glue b returnCountPlace 1 (threadSize - returnsPlace) _ _ e₃ (glue b returnsPlace (2 * returnCount) (threadSize - presencePlace) _ _ e₄ (glue b presencePlace 4 (2 * registerCount) _ _ e₅ e₆))))
 
 module _ (b : List ℕ) (h : AreBytes b) (l : threadSize ≤ length b) (o : RunningRead b) where
-  returns-forth : blocks le16 (pad 0 returnCount (jobFrom b .returns)) ≡ part b 5 16
+  returns-forth : blocks le16 (pad 0 returnCount (jobFrom b .returns)) ≡ part b returnsPlace (2 * returnCount)
   unfolding jobFrom part
   returns-forth =
       let n = getD b 4 0 in
@@ -152,23 +153,23 @@ module _ (b : List ℕ) (h : AreBytes b) (l : threadSize ≤ length b) (o : Runn
   running-forth : threadBytes (running (num16 (drop 2 b)) (jobFrom b)) ≡ part b 0 threadSize
   unfolding threadBytes
   running-forth =
-      let v : pad 0 25 (map valueOr0 (jobFrom b .registers)) ≡ chunks num16 2 25 (drop 25 b) =
-      ap (pad 0 25) (registers-forth b o) ∙ pad-full 0 25 _ (length-chunks num16 2 25 (drop 25 b)) in
+      let v : pad 0 registerCount (map valueOr0 (jobFrom b .registers)) ≡ chunks num16 2 registerCount (drop registerCount b) =
+      ap (pad 0 registerCount) (registers-forth b o) ∙ pad-full 0 registerCount _ (length-chunks num16 2 registerCount (drop registerCount b)) in
       raw-forth b _ _ _ _ _ _ (label-forth (num-forth b 0 h (omega arith))) (num-forth b 2 h (omega arith)) (ap (λ n. n ∷ []) length-returns ∙ byte-forth b 4 (omega arith)) returns-forth
-      (ap le32 (present-forth b o) ∙ num32-forth b 21 h (omega arith)) (ap (blocks le16) v ∙ nums-forth b 25 25 50 h (omega arith) refl)
+      (ap le32 (present-forth b o) ∙ num32-forth b presencePlace h (omega arith)) (ap (blocks le16) v ∙ nums-forth b registersPlace registerCount (2 * registerCount) h (omega arith) refl)
     where
       label-forth : le16 (num16 b) ≡ part b 0 2 → le16 (jobFrom b .label) ≡ part b 0 2
       label-forth e = unfold jobFrom in e
 
-idle-forth : (b : List ℕ) → AreBytes b → threadSize ≤ length b → num16 b ≡ idleLabel → isZeros (part b 2 73) ≡ true → threadBytes idle ≡ part b 0 threadSize
+idle-forth : (b : List ℕ) → AreBytes b → threadSize ≤ length b → num16 b ≡ idleLabel → isZeros (part b locksPlace (threadSize - locksPlace)) ≡ true → threadBytes idle ≡ part b 0 threadSize
 idle-forth b h l e t =
-    idle-raw ∙ glue b 0 2 73 (le16 idleLabel) (replicate 73 0) (ap le16 (sym e) ∙ num-forth b 0 h (omega arith)) (sym (zeros-part b 2 73 (omega arith) t))
+    idle-raw ∙ glue b 0 locksPlace (threadSize - locksPlace) (le16 idleLabel) (replicate (threadSize - locksPlace) 0) (ap le16 (sym e) ∙ num-forth b 0 h (omega arith)) (sym (zeros-part b locksPlace (threadSize - locksPlace) (omega arith) t))
 
 pub thread-forth : (b : List ℕ) → AreBytes b → threadSize ≤ length b → threadTidy b ≡ true → threadBytes (threadFrom b) ≡ take threadSize b
 unfolding threadFrom threadTidy part
 thread-forth b h l e = go (eqb (num16 b) idleLabel) refl e
   where
-    go : (c : Bool) → eqb (num16 b) idleLabel ≡ c → cond c (isZeros (part b 2 73)) (runningTidy b) ≡ true
+    go : (c : Bool) → eqb (num16 b) idleLabel ≡ c → cond c (isZeros (part b locksPlace (threadSize - locksPlace))) (runningTidy b) ≡ true
         → threadBytes (cond c idle (running (num16 (drop 2 b)) (jobFrom b))) ≡ part b 0 threadSize
     go true p t = idle-forth b h l (eqb-true (num16 b) idleLabel p) t
     go false p t = running-forth b h l (running-read b l t)
@@ -181,10 +182,10 @@ thread-sized b l e = go (eqb (num16 b) idleLabel) refl e
     job p o = unfold jobFrom in record {
       label = eqb-false (num16 b) idleLabel p;
       returns = rw (getD-drop 4 b 0 0, length-chunks num16 2 (getD b 4 0) (drop 5 b)) (o .few);
-      registers = length-registers (num32 (drop 21 b)) (chunks num16 2 25 (drop 25 b)) 0 25;
+      registers = length-registers (num32 (drop 21 b)) (chunks num16 2 registerCount (drop registerCount b)) 0 registerCount;
     }
 
-    go : (c : Bool) → eqb (num16 b) idleLabel ≡ c → cond c (isZeros (part b 2 73)) (runningTidy b) ≡ true → SizedThread (cond c idle (running (num16 (drop 2 b)) (jobFrom b)))
+    go : (c : Bool) → eqb (num16 b) idleLabel ≡ c → cond c (isZeros (part b locksPlace (threadSize - locksPlace))) (runningTidy b) ≡ true → SizedThread (cond c idle (running (num16 (drop 2 b)) (jobFrom b)))
     go true p t = tt
     go false p t = job p (running-read b l t)
 
@@ -195,27 +196,27 @@ module _ (locks : ℕ) (j : Job) (z : SizedJob j) (q : List ℕ) where
   unfolding absentZero
   absent-tidy r h =
       let b : List ℕ = threadBytes (running locks j) ++ q in
-      let v : num16 (drop (25 + 2 * r) b) ≡ getD (map valueOr0 (j .registers)) r 0 =
-      ap num16 (sym (drop-drop (2 * r) 25 b)) ∙ sym (chunks-at num16 2 25 (drop 25 b) 0 r h) ∙ ap (λ l. getD l r 0) (values-back locks j q z) in
+      let v : num16 (drop (registerCount + 2 * r) b) ≡ getD (map valueOr0 (j .registers)) r 0 =
+      ap num16 (sym (drop-drop (2 * r) registerCount b)) ∙ sym (chunks-at num16 2 registerCount (drop registerCount b) 0 r h) ∙ ap (λ l. getD l r 0) (values-back locks j q z) in
       rw (present-back, v) (absent-zero (j .registers) r (omega (arith, z .registers)))
 
   returns-tidy : isZeros (part (threadBytes (running locks j) ++ q) (5 + 2 * length (j .returns)) (2 * (returnCount - length (j .returns)))) ≡ true
   returns-tidy =
       let n = length (j .returns) in
-      rw (← part-drop (threadBytes (running locks j) ++ q) 5 (2 * n) (2 * (8 - n)), returns-on)
-      (padded-tail le16 2 (λ x. refl) 0 8 (j .returns) [] (after j q) (2 * n) (2 * (8 - n)) refl (z .returns) (omega arith) refl)
+      rw (← part-drop (threadBytes (running locks j) ++ q) 5 (2 * n) (2 * (returnCount - n)), returns-on)
+      (padded-tail le16 2 (λ x. refl) 0 returnCount (j .returns) [] (after j q) (2 * n) (2 * (returnCount - n)) refl (z .returns) (omega arith) refl)
 
   running-tidy : runningTidy (threadBytes (running locks j) ++ q) ≡ true
   unfolding runningTidy
   running-tidy =
       let b : List ℕ = threadBytes (running locks j) ++ q in
       let n = length (j .returns) in
-      let p : presence (j .registers) < 2 ^ 25 = rw (z .registers) at (presence-lt (j .registers)) in
+      let p : presence (j .registers) < 2 ^ registerCount = rw (z .registers) at (presence-lt (j .registers)) in
       rw (count-back, present-back)
-      (both-hold _ _ (both-hold _ _ (both-hold _ _ (le-leb n 8 (z .returns)) returns-tidy) (lt-ltb (presence (j .registers)) (2 ^ 25) p)) (all-hold (absentZero b) 0 25 (λ r l h. absent-tidy r (omega arith))))
+      (both-hold _ _ (both-hold _ _ (both-hold _ _ (le-leb n returnCount (z .returns)) returns-tidy) (lt-ltb (presence (j .registers)) (2 ^ registerCount) p)) (all-hold (absentZero b) 0 registerCount (λ r l h. absent-tidy r (omega arith))))
 
-idle-zeros : (q : List ℕ) → isZeros (part (threadBytes idle ++ q) 2 73) ≡ true
-idle-zeros q = rw (idle-raw, part-at (le16 idleLabel) (replicate 73 0) q 2 73 refl refl) (are-zeros 73)
+idle-zeros : (q : List ℕ) → isZeros (part (threadBytes idle ++ q) locksPlace (threadSize - locksPlace)) ≡ true
+idle-zeros q = rw (idle-raw, part-at (le16 idleLabel) (replicate (threadSize - locksPlace) 0) q locksPlace (threadSize - locksPlace) refl refl) (are-zeros (threadSize - locksPlace))
 
 pub thread-tidy : (w : ThreadState) → SizedThread w → (q : List ℕ) → threadTidy (threadBytes w ++ q) ≡ true
 unfolding threadTidy

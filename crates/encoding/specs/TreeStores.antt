@@ -47,15 +47,15 @@ tree-remove s {b} {b₁} {b₂} i n at e l h en ea e₁ e₂ =
     let hd = header s in
     let lh = length-header s in
     let c = length (s .trees) in
-    let r : List ℕ = blocks treeBytes (pad noTree 16 (s .trees)) in
-    let r′ : List ℕ = blocks treeBytes (pad noTree 16 (removeAt i (s .trees))) in
-    let more = 426 * (n - 1 - i) in
+    let r : List ℕ = blocks treeBytes (pad noTree treeCount (s .trees)) in
+    let r′ : List ℕ = blocks treeBytes (pad noTree treeCount (removeAt i (s .trees))) in
+    let more = treeSize * (n - 1 - i) in
     let f : b ≡ hd ++ (c ∷ r) = e ∙ encode-header s in
-    let p : part b (at + 426) more ≡ part r (426 * i + 426) more = rw f (slots-part hd 1112 lh c r (at + 426) (426 * i + 426) more (omega arith)) in
-    let w : put r (426 * i) (part r (426 * i + 426) more ++ replicate 426 0) ≡ r′ =
-    blocks-remove treeBytes 426 length-tree noTree 16 (s .trees) i (426 * i) (426 * i + 426) more h l no-tree refl refl (rw en) in
-    let g₁ : b₁ ≡ hd ++ (c ∷ r′) = e₁ ∙ rw (p, f) (slots-put hd 1112 lh c r at (426 * i) _ (omega arith) ∙ rw w) in
-    let g₂ : b₂ ≡ hd ++ ((n - 1) ∷ r′) = e₂ ∙ rw g₁ (count-put hd 1112 lh c r′ (n - 1)) in
+    let p : part b (at + treeSize) more ≡ part r (treeSize * i + treeSize) more = rw f (slots-part hd treeCountPlace lh c r (at + treeSize) (treeSize * i + treeSize) more (omega arith)) in
+    let w : put r (treeSize * i) (part r (treeSize * i + treeSize) more ++ replicate treeSize 0) ≡ r′ =
+    blocks-remove treeBytes treeSize length-tree noTree treeCount (s .trees) i (treeSize * i) (treeSize * i + treeSize) more h l no-tree refl refl (rw en) in
+    let g₁ : b₁ ≡ hd ++ (c ∷ r′) = e₁ ∙ rw (p, f) (slots-put hd treeCountPlace lh c r at (treeSize * i) _ (omega arith) ∙ rw w) in
+    let g₂ : b₂ ≡ hd ++ ((n - 1) ∷ r′) = e₂ ∙ rw g₁ (count-put hd treeCountPlace lh c r′ (n - 1)) in
     let k : n - 1 ≡ length (removeAt i (s .trees)) = rw (length-removeAt i (s .trees) h, en) in
     g₂ ∙ rw k (sym (encode-header (withTrees s (removeAt i (s .trees)))))
 
@@ -69,12 +69,12 @@ tree-push s {b} {b₁} {b₂} n at x a e l en ea la w e₁ e₂ =
     let hd = header s in
     let lh = length-header s in
     let c = length (s .trees) in
-    let r : List ℕ = blocks treeBytes (pad noTree 16 (s .trees)) in
-    let r′ : List ℕ = blocks treeBytes (pad noTree 16 (s .trees ++ x ∷ [])) in
+    let r : List ℕ = blocks treeBytes (pad noTree treeCount (s .trees)) in
+    let r′ : List ℕ = blocks treeBytes (pad noTree treeCount (s .trees ++ x ∷ [])) in
     let f : b ≡ hd ++ (c ∷ r) = e ∙ encode-header s in
-    let v : put r (426 * n) a ≡ r′ = blocks-push treeBytes 426 length-tree noTree 16 (s .trees) x (426 * n) a l (rw en) la w in
-    let g₁ : b₁ ≡ hd ++ (c ∷ r′) = e₁ ∙ rw f (slots-put hd 1112 lh c r at (426 * n) a (omega arith) ∙ rw v) in
-    let g₂ : b₂ ≡ hd ++ ((n + 1) ∷ r′) = e₂ ∙ rw g₁ (count-put hd 1112 lh c r′ (n + 1)) in
+    let v : put r (treeSize * n) a ≡ r′ = blocks-push treeBytes treeSize length-tree noTree treeCount (s .trees) x (treeSize * n) a l (rw en) la w in
+    let g₁ : b₁ ≡ hd ++ (c ∷ r′) = e₁ ∙ rw f (slots-put hd treeCountPlace lh c r at (treeSize * n) a (omega arith) ∙ rw v) in
+    let g₂ : b₂ ≡ hd ++ ((n + 1) ∷ r′) = e₂ ∙ rw g₁ (count-put hd treeCountPlace lh c r′ (n + 1)) in
     let k : n + 1 ≡ length (s .trees ++ x ∷ []) = simp length-append (omega arith) in
     g₂ ∙ rw k (sym (encode-header (withTrees s (s .trees ++ x ∷ []))))
 
@@ -99,35 +99,35 @@ signal-append s t n at g e l en ea e₁ e₂ = tree-push s n at _ (t ∷ 1 ∷ s
 -- ---- inside tree i: its bytes are c for the time being
 
 unfoldable pub opened : Machine → ℕ → List ℕ → List ℕ
-opened s i c = header s ++ (length (s .trees) ∷ (blocks treeBytes (take i (pad noTree 16 (s .trees))) ++ c ++ blocks treeBytes (drop (suc i) (pad noTree 16 (s .trees)))))
+opened s i c = header s ++ (length (s .trees) ∷ (blocks treeBytes (take i (pad noTree treeCount (s .trees))) ++ c ++ blocks treeBytes (drop (suc i) (pad noTree treeCount (s .trees)))))
 
 module _ (s : Machine) (i : ℕ) (l : length (s .trees) ≤ treeCount) (h : i < length (s .trees)) where
   pub tree-open : encode s ≡ opened s i (treeBytes (getD (s .trees) i noTree))
   unfolding opened slots
-  tree-open = encode-header s ∙ rw (blocks-cut treeBytes (pad noTree 16 (s .trees)) i noTree (omega (arith, length-pad noTree 16 (s .trees))), pad-at noTree 16 (s .trees) i l)
+  tree-open = encode-header s ∙ rw (blocks-cut treeBytes (pad noTree treeCount (s .trees)) i noTree (omega (arith, length-pad noTree treeCount (s .trees))), pad-at noTree treeCount (s .trees) i l)
 
   pub tree-close : (y : Tree) → opened s i (treeBytes y) ≡ encode (withTrees s (set (s .trees) i y))
   unfolding opened slots header
   tree-close y =
       sym (encode-header (withTrees s (set (s .trees) i y))
-      ∙ rw (length-set (s .trees) i y, ← pad-set noTree 16 (s .trees) i y h, blocks-set treeBytes (pad noTree 16 (s .trees)) i y (omega (arith, length-pad noTree 16 (s .trees)))))
+      ∙ rw (length-set (s .trees) i y, ← pad-set noTree treeCount (s .trees) i y h, blocks-set treeBytes (pad noTree treeCount (s .trees)) i y (omega (arith, length-pad noTree treeCount (s .trees)))))
 
-  front : length (blocks treeBytes (take i (pad noTree 16 (s .trees)))) ≡ treeSize * i
-  front = length-blocks treeBytes 426 length-tree (take i (pad noTree 16 (s .trees))) ∙ rw (length-take-le i (pad noTree 16 (s .trees)) (omega (arith, length-pad noTree 16 (s .trees))))
+  front : length (blocks treeBytes (take i (pad noTree treeCount (s .trees)))) ≡ treeSize * i
+  front = length-blocks treeBytes treeSize length-tree (take i (pad noTree treeCount (s .trees))) ∙ rw (length-take-le i (pad noTree treeCount (s .trees)) (omega (arith, length-pad noTree treeCount (s .trees))))
 
   pub tree-put : (c : List ℕ) {b b′ : List ℕ} (at j : ℕ) (a : List ℕ) → b ≡ opened s i c → b′ ≡ put b at a → length c ≡ treeSize → at ≡ treesPlace + treeSize * i + j
       → j + length a ≤ treeSize → b′ ≡ opened s i (put c j a)
   unfolding opened
   tree-put c at j a e e′ lc ea k =
       e′
-      ∙ rw e (slots-put (header s) 1112 (length-header s) _ _ at (426 * i + j) a (omega arith)
-      ∙ rw (put-inside (blocks treeBytes (take i (pad noTree 16 (s .trees)))) c (blocks treeBytes (drop (suc i) (pad noTree 16 (s .trees)))) (426 * i + j) j a (omega (arith, front)) (omega arith)))
+      ∙ rw e (slots-put (header s) treeCountPlace (length-header s) _ _ at (treeSize * i + j) a (omega arith)
+      ∙ rw (put-inside (blocks treeBytes (take i (pad noTree treeCount (s .trees)))) c (blocks treeBytes (drop (suc i) (pad noTree treeCount (s .trees)))) (treeSize * i + j) j a (omega (arith, front)) (omega arith)))
 
   pub tree-part : (c : List ℕ) {b : List ℕ} (at j n : ℕ) → b ≡ opened s i c → length c ≡ treeSize → at ≡ treesPlace + treeSize * i + j → j + n ≤ treeSize → part b at n ≡ part c j n
   unfolding opened part
   tree-part c at j n e lc ea k =
-      let x : List ℕ = blocks treeBytes (take i (pad noTree 16 (s .trees))) in
-      let y : List ℕ = blocks treeBytes (drop (suc i) (pad noTree 16 (s .trees))) in
-      let f₁ : part (x ++ c ++ y) (426 * i + j) n ≡ part (c ++ y) j n = rw append-assoc (part-after x (c ++ y) (426 * i + j) j n (omega (arith, front))) in
+      let x : List ℕ = blocks treeBytes (take i (pad noTree treeCount (s .trees))) in
+      let y : List ℕ = blocks treeBytes (drop (suc i) (pad noTree treeCount (s .trees))) in
+      let f₁ : part (x ++ c ++ y) (treeSize * i + j) n ≡ part (c ++ y) j n = rw append-assoc (part-after x (c ++ y) (treeSize * i + j) j n (omega (arith, front))) in
       let f₂ : part (c ++ y) j n ≡ part c j n = rw (drop-append-le j c y (omega arith)) (take-append-le n (drop j c) y (simp length-drop (omega arith))) in
-      rw e (slots-part (header s) 1112 (length-header s) _ _ at (426 * i + j) n (omega arith) ∙ f₁ ∙ f₂)
+      rw e (slots-part (header s) treeCountPlace (length-header s) _ _ at (treeSize * i + j) n (omega arith) ∙ f₁ ∙ f₂)

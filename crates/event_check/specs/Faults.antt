@@ -6,6 +6,7 @@ use native.Mathlib.Omega.{arith}
 use lib.Dec.{eqb, leb}
 use lib.ListN.{length}
 use borrow.Author.Tests.{eqb-true, leb-true}
+use Rattle.rules.specs.Sizes.{eventCount, eventSize}
 use Rattle.rules.specs.Calls.{eventsLengthFault, eventFault, answersLengthFault}
 use Rattle.image_check.specs.Faults.{refusal-none}
 use Rattle.laws.specs.Logic.{and-both}
@@ -16,11 +17,11 @@ eventsFaults image events space = eventsLengthFault events ∷ eventFault image 
 
 -- the length of events that number 7 lets pass
 pub record Counted (s : List ℕ) : Type 0 where
-  pub whole : length s ≡ 55 * (length s / 55)
-  pub few : length s / 55 ≤ 1024
+  pub whole : length s ≡ eventSize * (length s / eventSize)
+  pub few : length s / eventSize ≤ eventCount
 
 pub counted : (s : List ℕ) → eventsLengthFault s ≡ 0 → Counted s
 unfolding eventsLengthFault
 counted s e =
-    let k = and-both (eqb (length s) (55 * (length s / 55))) (leb (length s / 55) 1024) (refusal-none _ 7 0 (omega arith) e) in
-    record { whole = eqb-true _ _ (k .0); few = leb-true _ 1024 (k .1) }
+    let k = and-both (eqb (length s) (eventSize * (length s / eventSize))) (leb (length s / eventSize) eventCount) (refusal-none _ 7 0 (omega arith) e) in
+    record { whole = eqb-true _ _ (k .0); few = leb-true _ eventCount (k .1) }

@@ -8,8 +8,9 @@ use native.Mathlib.Omega.{arith}
 use lib.Dec.{eqb, leb, ltb}
 use lib.ListN.{getD, drop}
 use lib.Seq.{drop-drop, getD-drop}
+use Rattle.rules.specs.Sizes.{threadCount, registerCount, signalSize, eventThreadPlace, eventSignalPlace, eventSize}
 use Rattle.rules.specs.Bytes.{num16, part, isZeros}
-use Rattle.rules.specs.Codes.{stepCode, cutCode}
+use Rattle.rules.specs.Codes.{externalCode, arrivalCode, stepCode, cutCode}
 use Rattle.rules.specs.Image.{labels, recordAt, entry}
 use Rattle.rules.specs.Events.{stepping, cutting, kindCode, kindOf, arrivalOk, turnOk, eventOk, eventAtOk}
 use Rattle.rules.specs.WellFormed.{signalTidy}
@@ -17,21 +18,21 @@ use Rattle.fields.specs.Put.{part-drop}
 use Rattle.image.specs.Records.{no-record}
 
 module _ (image s : List ℕ) (at : ℕ) where
-  pub arrival-at : arrivalOk image (drop at s) ≡ (eqb (getD s (at + 1) 0) 0 && eqb (entry (recordAt image (num16 (drop (at + 2) s)))) 3 && signalTidy (drop (at + 2) s))
+  pub arrival-at : arrivalOk image (drop at s) ≡ (eqb (getD s (at + eventThreadPlace) 0) 0 && eqb (entry (recordAt image (num16 (drop (at + eventSignalPlace) s)))) externalCode && signalTidy (drop (at + eventSignalPlace) s))
   unfolding arrivalOk signalTidy
   arrival-at =
-      let a = eqb (getD s (at + 1) 0) 0 in
-      let e = eqb (entry (recordAt image (num16 (drop (at + 2) s)))) 3 in
+      let a = eqb (getD s (at + eventThreadPlace) 0) 0 in
+      let e = eqb (entry (recordAt image (num16 (drop (at + eventSignalPlace) s)))) externalCode in
       let c = getD s (at + 4) 0 in
       let f : at + 2 + 2 ≡ at + 4 = omega arith in
       let g : at + 2 + (3 + 2 * c) ≡ at + (5 + 2 * c) = omega arith in
-      rw (getD-drop at s 1 0, drop-drop 2 at s, getD-drop at s 4 0, getD-drop (at + 2) s 2 0, f, part-drop, part-drop, g)
-      (and-assoc (a && e) (leb c 25) (isZeros (part s (at + (5 + 2 * c)) (2 * (25 - c)))))
+      rw (getD-drop at s 1 0, drop-drop 2 at s, getD-drop at s 4 0, getD-drop (at + eventSignalPlace) s 2 0, f, part-drop, part-drop, g)
+      (and-assoc (a && e) (leb c registerCount) (isZeros (part s (at + (5 + 2 * c)) (2 * (registerCount - c)))))
 
-  pub arrival-past : labels image ≤ num16 (drop (at + 2) s) → arrivalOk image (drop at s) ≡ false
-  arrival-past h = arrival-at ∙ rw (no-record image (num16 (drop (at + 2) s)) h, and-false)
+  pub arrival-past : labels image ≤ num16 (drop (at + eventSignalPlace) s) → arrivalOk image (drop at s) ≡ false
+  arrival-past h = arrival-at ∙ rw (no-record image (num16 (drop (at + eventSignalPlace) s)) h, and-false)
 
-pub turn-at : (s : List ℕ) (at : ℕ) → turnOk (drop at s) ≡ (ltb (getD s (at + 1) 0) 8 && isZeros (part s (at + 2) 53))
+pub turn-at : (s : List ℕ) (at : ℕ) → turnOk (drop at s) ≡ (ltb (getD s (at + eventThreadPlace) 0) threadCount && isZeros (part s (at + eventSignalPlace) signalSize))
 unfolding turnOk
 turn-at s at = rw (getD-drop at s 1 0, part-drop)
 
@@ -44,6 +45,7 @@ turn-kinds c = case (eqb c stepCode) refl
     case false e = refl
 
 module _ (image s : List ℕ) (i : ℕ) where
-  pub event-at : eventAtOk image s i ≡ cond (eqb (getD s (55 * i) 0) 1) (arrivalOk image (drop (55 * i) s)) ((eqb (getD s (55 * i) 0) 2 || eqb (getD s (55 * i) 0) 3) && turnOk (drop (55 * i) s))
+  pub event-at : eventAtOk image s i ≡ cond (eqb (getD s (eventSize * i) 0) arrivalCode) (arrivalOk image (drop (eventSize * i) s))
+      ((eqb (getD s (eventSize * i) 0) stepCode || eqb (getD s (eventSize * i) 0) cutCode) && turnOk (drop (eventSize * i) s))
   unfolding eventAtOk eventOk
-  event-at = rw (getD-drop (55 * i) s 0 0, add-zero, turn-kinds (getD s (55 * i) 0))
+  event-at = rw (getD-drop (eventSize * i) s 0 0, add-zero, turn-kinds (getD s (eventSize * i) 0))

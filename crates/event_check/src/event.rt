@@ -5,7 +5,13 @@ use fields::read::get16;
 use image::records::count_labels;
 use image::records::entry_at;
 use image::records::index_of;
+use rules::codes::ARRIVAL;
+use rules::codes::CUT;
+use rules::codes::EXTERNAL;
+use rules::codes::STEP;
+use rules::layout::EVENT_SIGNAL_PLACE;
 use rules::layout::EVENT_SIZE;
+use rules::layout::EVENT_THREAD_PLACE;
 use rules::layout::SIGNAL_SIZE;
 use rules::sorts::Thread;
 use rules::sorts::label_of;
@@ -18,26 +24,18 @@ ghost use Rattle.rules.specs.Bytes.{firstBad};
 ghost use Rattle.rules.specs.Image.{labels};
 ghost use Rattle.rules.specs.Events.{arrivalOk, turnOk, eventAtOk};
 
-// Kind 1 is an arrival, 2 a step, 3 a cut.
-const ARRIVAL: u8 = 1;
-
-const STEP: u8 = 2;
-
-const CUT: u8 = 3;
-
-// Entry 3 is external.
-const EXTERNAL: u8 = 3;
-
 // An arrival has thread zero, a label of entry 3, a count 0 to 25 and zeros in what is unused.
 pub fn arrival_ok(image: &[u8], n: usize, s: &[u8], at: usize) -> bool
     requires { ⌜ (n ≡ labels (now image)) × (at + eventSize ≤ length (now s)) ⌝ }
     ensures { λ r. ⌜ r ≡ arrivalOk (now (image .entry)) (drop at (now (s .entry))) ⌝ }
 {
-    let l = label_of(get16(s, at + 2));
+    let l = label_of(get16(s, at + EVENT_SIGNAL_PLACE));
     if n <= index_of(l) {
         return false;
     }
-    (s[at + 1] == 0) & (entry_at(image, l) == EXTERNAL) & signal_tidy(s, at + 2)
+    (s[at + EVENT_THREAD_PLACE] == 0)
+        & (entry_at(image, l) == EXTERNAL)
+        & signal_tidy(s, at + EVENT_SIGNAL_PLACE)
 }
 
 // A step and a cut have a thread 0 to 7, and the rest is zero.
@@ -45,7 +43,8 @@ pub fn turn_ok(s: &[u8], at: usize) -> bool
     requires { ⌜ at + eventSize ≤ length (now s) ⌝ }
     ensures { λ r. ⌜ r ≡ turnOk (drop at (now (s .entry))) ⌝ }
 {
-    (get8(s, at + 1) < Thread::COUNT) & all_zero(s, at + 2, SIGNAL_SIZE)
+    (get8(s, at + EVENT_THREAD_PLACE) < Thread::COUNT)
+        & all_zero(s, at + EVENT_SIGNAL_PLACE, SIGNAL_SIZE)
 }
 
 // The event at an index breaks no rule.

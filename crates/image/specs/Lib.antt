@@ -1,4 +1,3 @@
--- The laws of the image's records, and what the rules ask of a record but for its operands.
+-- The laws of the image's records, and of their opcodes.
 pub mod Records
 pub mod Assigns
-pub mod Forms

@@ -48,11 +48,7 @@ pub table-length : (table : List ℕ) → tableLengthFault table ≡ 0 → lengt
 unfolding tableLengthFault
 table-length table e = eqb-true (length table) tableSize (refusal-none (eqb (length table) tableSize) 2 0 (omega arith) e)
 
--- number 3 applies exactly where a row is out of range
+-- number 3 does not apply where no row is out of range
 pub rows-pass : (table : List ℕ) → allFrom (rowOk table) 0 blockCount ≡ true → tableFault table ≡ 0
 unfolding tableFault
 rows-pass table e = rw (none-bad (rowOk table) 0 blockCount, e)
-
-pub rows-fail : (table : List ℕ) → allFrom (rowOk table) 0 blockCount ≡ false → tableFault table ≡ 0 → ⊥
-unfolding tableFault
-rows-fail table e = rw (none-bad (rowOk table) 0 blockCount, e) (λ z. omega arith)

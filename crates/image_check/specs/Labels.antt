@@ -11,7 +11,7 @@ use Rattle.rules.specs.Statements.{operationAt, statementOf, roleA, roleB}
 use Rattle.rules.specs.Check.{shapeOk, headOk, slotOk, labelOk, ruleOk}
 use Rattle.laws.specs.Logic.{and-both}
 use Rattle.laws.specs.Heads.{few-by}
-use Rattle.image.specs.Forms.{labelsOk, formOk, outlineOk}
+use Rattle.record_check.specs.Forms.{labelsOk, formOk, outlineOk}
 use Rattle.operand_check.specs.Operands.{slotsOk}
 
 abbrev pub outlineAt : List ℕ → ℕ → Bool

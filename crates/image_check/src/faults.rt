@@ -1,15 +1,15 @@
 // The image check: the refusals 1 to 4, lowest number first.
+use crate::marks::MARKS;
+use crate::marks::ROOM;
 use fields::read::wide;
 use image::records::count_labels;
 use image::records::record_of;
-use image::rule::outline_ok;
 use image::table::first_bad_row;
 use image::table::rows_ok;
 use operand_check::operand_places::FEW;
-use operand_check::operand_places::MARKS;
-use operand_check::operand_places::ROOM;
 use operand_check::operand_places::few_ok;
 use operand_check::operand_places::slots_ok;
+use record_check::rule::outline_ok;
 use rules::layout::OPERAND_COUNT_PLACE;
 use rules::layout::TABLE_SIZE;
 use rules::sorts::Block;
@@ -109,12 +109,21 @@ pub fn table_length_fault(table: &[u8]) -> u32
     refuse(table.len() == TABLE_SIZE, 2, 0)
 }
 
-pub fn table_fault(table: &[u8]) -> u32
+// Number 3, at the first row that is out of range.
+pub fn row_fault(table: &[u8]) -> u32
     requires { ⌜ length (now table) ≡ tableSize ⌝ }
     ensures { λ r. ⌜ r ≡ tableFault (now (table .entry)) ⌝ }
 {
     let b = first_bad_row(table);
     refuse(b == Block::COUNT, 3, b)
+}
+
+// The same. The first row is looked for only where there is one.
+pub fn table_fault(table: &[u8]) -> u32
+    requires { ⌜ length (now table) ≡ tableSize ⌝ }
+    ensures { λ r. ⌜ r ≡ tableFault (now (table .entry)) ⌝ }
+{
+    if rows_ok(table) { 0 } else { row_fault(table) }
 }
 
 pub fn record_fault(image: &[u8], n: usize) -> u32
@@ -126,7 +135,7 @@ pub fn record_fault(image: &[u8], n: usize) -> u32
     refuse(l == n, 4, l)
 }
 
-// The first of the refusals 1 to 4, or 0. The first bad row is looked for only where there is one.
+// The first of the refusals 1 to 4, or 0.
 pub fn image_fault(image: &[u8], table: &[u8]) -> u32
     ensures { λ r. ⌜ r ≡ firstOf (imageFaults (now (image .entry)) (now (table .entry)) []) ⌝ }
 {
@@ -139,8 +148,7 @@ pub fn image_fault(image: &[u8], table: &[u8]) -> u32
     if b != 0 {
         return b;
     }
-    if !rows_ok(table) {
-        return table_fault(table);
-    }
-    record_fault(image, n)
+    let rows = table_fault(table);
+    let records = record_fault(image, n);
+    first_of(rows, records)
 }

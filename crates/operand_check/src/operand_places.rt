@@ -8,8 +8,6 @@ use rules::layout::OPERAND_SIZE;
 use rules::layout::OPERANDS_PLACE;
 use rules::layout::RECORD_SIZE;
 use rules::limits::Image;
-use rules::sorts::Block;
-use rules::sorts::Thread;
 ghost use mathlib.Core.Path.{_≡_};
 ghost use mathlib.Core.Bool.{true};
 ghost use Prim.Native.Nat.{_+_, _*_, _-_, _≤_};
@@ -20,15 +18,6 @@ ghost use Rattle.rules.specs.Bytes.{allFrom, part, isZeros};
 ghost use Rattle.rules.specs.Image.{operands};
 ghost use Rattle.operand_check.specs.Operands.{placesSize, fewCount, Marks, roomOf, bitsOk, placeOk, valueOk, slotsOk};
 
-// The room from the limit of a kind up to 65,536: a value is below the limit exactly if value and room add up to less than 65,536.
-// Kind 0 allows no value and a number any; then come registers and shared words.
-pub const ROOM: [u32; 4] = [
-    65536,
-    0,
-    65536 - Thread::REGISTERS as u32,
-    65536 - Block::WORDS as u32,
-];
-
 // The bytes of the places for operands.
 const PLACES_SIZE: usize = OPERAND_SIZE * Image::OPERANDS;
 
@@ -37,15 +26,6 @@ const FIRST_VALUE_PLACE: usize = OPERANDS_PLACE + 1;
 
 // As many for places that are used, and for places that are not.
 pub const MARKS_SIZE: usize = 2 * PLACES_SIZE;
-
-// The bits that are zero in the places' bytes. The second half is for places that are not used; before them are three for each place
-// that is: its kind is below 4.
-pub const MARKS: [u8; MARKS_SIZE] = *b"\
-\xfc\0\0\xfc\0\0\xfc\0\0\xfc\0\0\xfc\0\0\xfc\0\0\xfc\0\0\xfc\0\0\xfc\0\0\xfc\0\0\xfc\0\0\xfc\0\0\xfc\0\0\
-\xfc\0\0\xfc\0\0\xfc\0\0\xfc\0\0\xfc\0\0\xfc\0\0\xfc\0\0\xfc\0\0\xfc\0\0\xfc\0\0\xfc\0\0\xfc\0\0\
-\xff\xff\xff\xff\xff\xff\xff\xff\xff\xff\xff\xff\xff\xff\xff\xff\xff\xff\xff\xff\xff\xff\xff\xff\xff\
-\xff\xff\xff\xff\xff\xff\xff\xff\xff\xff\xff\xff\xff\xff\xff\xff\xff\xff\xff\xff\xff\xff\xff\xff\xff\
-\xff\xff\xff\xff\xff\xff\xff\xff\xff\xff\xff\xff\xff\xff\xff\xff\xff\xff\xff\xff\xff\xff\xff\xff\xff";
 
 // The bits that should be zero and are not, in the bytes from one up to another of the places of a record with c operands.
 pub fn wrong_bits(r: &[u8], marks: &[u8; MARKS_SIZE], c: usize, from: usize, to: usize) -> u8

@@ -108,12 +108,12 @@ unfolding part
 tree-moved {b} {b₁} {b₂} {b₃} k i n tree h en et k₁ m e₂ e₃ =
     let s = machineFrom b in
     let x = treeAt s i in
-    let f : part b (1113 + 426 * i) 426 ≡ treeBytes x = tree-bytes-are s i (k .same) (k .sized .trees) h (1113 + 426 * i) refl in
-    let g : tree ≡ treeBytes x = et ∙ rw f (put-whole (replicate 426 0) (treeBytes x) (sym (length-tree x))) in
-    let w : part tree 0 426 ≡ treeBytes x = rw g (take-all 426 (treeBytes x) (omega (arith, length-tree x))) in
+    let f : part b (treesPlace + treeSize * i) treeSize ≡ treeBytes x = tree-bytes-are s i (k .same) (k .sized .trees) h (treesPlace + treeSize * i) refl in
+    let g : tree ≡ treeBytes x = et ∙ rw f (put-whole (replicate treeSize 0) (treeBytes x) (sym (length-tree x))) in
+    let w : part tree 0 treeSize ≡ treeBytes x = rw g (take-all treeSize (treeBytes x) (omega (arith, length-tree x))) in
     let l : length (machineFrom b₁ .trees) ≡ length (s .trees) - 1 = rw m (length-removeAt i (s .trees) h) in
     let o : n ≡ n - 1 + 1 = omega arith in
-    let r = tree-appended k₁ (n - 1) (1113 + 426 * (n - 1)) x (sized-at s (k .sized) i h) (omega (arith, k .sized .trees)) (omega arith) refl (rw w at e₂) (rw o at e₃) in
+    let r = tree-appended k₁ (n - 1) (treesPlace + treeSize * (n - 1)) x (sized-at s (k .sized) i h) (omega (arith, k .sized .trees)) (omega arith) refl (rw w at e₂) (rw o at e₃) in
     (r .0, r .1 ∙ rw m)
 
 -- the last tree gets another thread
@@ -124,6 +124,6 @@ last-moved {b} {b′} k s a x t n m en e =
     let p : n - 1 ≡ length a = omega arith in
     let h : n - 1 < length (machineFrom b .trees) = omega arith in
     let y = moved (treeAt (machineFrom b) (n - 1)) t in
-    let q = tree-move (machineFrom b) (n - 1) (k .same) (k .sized .trees) h t (1113 + 426 * (n - 1)) refl e in
+    let q = tree-move (machineFrom b) (n - 1) (k .same) (k .sized .trees) h t (treesPlace + treeSize * (n - 1)) refl e in
     let z = sized-set (machineFrom b) (k .sized) (n - 1) h y (sized-moved _ t (sized-at (machineFrom b) (k .sized) (n - 1) h)) in
     (canon _ z q, says _ z q ∙ rw m (rw (getD-at a x [] noTree (n - 1) (sym p), set-at a x [] (moved x t) (n - 1) (sym p))))

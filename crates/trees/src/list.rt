@@ -18,6 +18,7 @@ ghost use mathlib.Core.Bool.{true};
 ghost use mathlib.Core.List.{[], _∷_, _++_};
 ghost use Prim.Native.Nat.{ℕ, _+_, _<_, _≤_};
 ghost use lib.ListN.{length, drop};
+ghost use Rattle.rules.specs.Sizes.{treeCount, signalSize};
 ghost use Rattle.rules.specs.Encoding.{signalFrom, machineFrom};
 ghost use Rattle.rules.specs.WellFormed.{signalTidy};
 ghost use Rattle.fields.specs.Filled.{removeAt};
@@ -53,7 +54,7 @@ pub fn first_tree(state: &[u8], t: Thread) -> usize
 
 // An arrival: a tree on thread t with the one signal whose bytes stand at a place of another buffer.
 pub fn append(state: &mut [u8], t: Thread, bytes: &[u8], at: usize)
-    requires { ⌜ Canon (now state) × (length (machineFrom (now state) .trees) < 16) × (at + 53 ≤ length (now bytes)) × (signalTidy (drop at (now bytes)) ≡ true) ⌝ }
+    requires { ⌜ Canon (now state) × (length (machineFrom (now state) .trees) < treeCount) × (at + signalSize ≤ length (now bytes)) × (signalTidy (drop at (now bytes)) ≡ true) ⌝ }
     ensures { λ _. ⌜ Canon (now (state .exit)) ⌝ }
     ensures { λ _. ⌜ machineFrom (now (state .exit)) ≡ arrived (t .0) (signalFrom (drop at (now (bytes .entry)))) (machineFrom (now (state .entry))) ⌝ }
 {

@@ -16,6 +16,7 @@ use rules::sorts::label_of;
 ghost use mathlib.Core.Path.{_≡_};
 ghost use Prim.Native.Nat.{ℕ, _<_};
 ghost use lib.ListN.{length, getD};
+ghost use Rattle.rules.specs.Sizes.{pendingCount};
 ghost use Rattle.rules.specs.Sorts.{label};
 ghost use Rattle.rules.specs.Encoding.{noSignal, machineFrom};
 ghost use Rattle.encoding.specs.FirstTree.{firstTree};
@@ -64,7 +65,7 @@ pub fn take_oldest(state: &mut [u8], i: usize)
 
 // A signal comes to the tree's end.
 pub fn push(state: &mut [u8], i: usize, g: Signal)
-    requires { ⌜ Canon (now state) × (i < length (machineFrom (now state) .trees)) × (length (pendingAt (machineFrom (now state)) i) < 8) × TidySignal g ⌝ }
+    requires { ⌜ Canon (now state) × (i < length (machineFrom (now state) .trees)) × (length (pendingAt (machineFrom (now state)) i) < pendingCount) × TidySignal g ⌝ }
     ensures { λ _. ⌜ Canon (now (state .exit)) ⌝ }
     ensures { λ _. ⌜ ((u : ℕ) → i ≡ firstTree u (machineFrom (now (state .entry)) .trees) → machineFrom (now (state .exit)) ≡ sent u i (signalOf g) (machineFrom (now (state .entry)))) ⌝ }
 {

@@ -3,6 +3,7 @@ use borrow.Author.Needs.{needs}
 use lib.ListN.{length}
 use Prim.Native.Nat.{_/_}
 use denote.Ref.{now}
+use Rattle.rules.specs.Sizes.{eventSize}
 use Rattle.rules.specs.Events.{eventAtOk}
 use Rattle.rules.specs.Calls.{eventFault}
 use Rattle.fields.specs.Tests.{within}
@@ -14,7 +15,7 @@ refuse-requires : tie.Need-refuse-requires
 refuse-requires c κs =
     let a = c .before .before .before .args in
     let k = counted (now (a .events)) (c .before .before .before .pre) in
-    omega (arith, within (eventAtOk (now (a .image)) (now (a .events))) 0 (length (now (a .events)) / 55))
+    omega (arith, within (eventAtOk (now (a .image)) (now (a .events))) 0 (length (now (a .events)) / eventSize))
 
 returns : tie.Need-returns
 unfolding eventFault

@@ -1,16 +1,12 @@
-use native.Mathlib.Omega.{arith}
-use Rattle.rules.specs.Check.{rowOk, tableFault}
-use Rattle.fields.specs.Tests.{within}
+use mathlib.Core.Path.{sym, _∙_}
 use borrow.Author.Needs.{needs}
+use denote.Ref.{now}
+use Rattle.image_check.specs.Faults.{rows-pass}
 use Rattle.image_check.proofs.faults.table_fault.Statement.{statement}
 use Rattle.image_check.proofs.faults.table_fault.Tie as tie
 
-refuse-requires : tie.Need-refuse-requires
-refuse-requires c κs = omega (arith, within (rowOk (c .before .before .args .table .now)) 0 16)
-
 returns : tie.Need-returns
-unfolding tableFault
-returns c = simp (c .refuse .ensures, c .before .first-bad-row .ensures)
+returns c = sym (rows-pass (now (c .before .before .before .args .table)) (sym (c .before .rows-ok .ensures) ∙ c .if1 .taken))
 
 pub table-fault-spec : {M : Type 1} → statement M
-table-fault-spec = tie.close (tie.spec (λ c κs. search needs) refuse-requires returns)
+table-fault-spec = tie.close (tie.spec (λ c κs. search needs) (λ c κs. search needs) returns (λ c. search needs))

@@ -3,6 +3,7 @@ use mathlib.Core.Path.{_≡_, refl, _∙_}
 use Prim.Native.Nat.{_≤_}
 use denote.Ref.{now}
 use lib.ListN.{length, drop, length-drop}
+use Rattle.rules.specs.Sizes.{signalSize}
 use Rattle.rules.specs.Encoding.{signalFrom}
 use Rattle.fields.specs.Put.{put-then}
 use Rattle.encoding.specs.Numbers.{bytes-drop}
@@ -12,7 +13,7 @@ use Rattle.trees.specs.Stored.{signal-arrived}
 use Rattle.trees.proofs.list.append.Statement.{statement}
 use Rattle.trees.proofs.list.append.Tie as tie
 
-fits : (c : tie.Start) → 53 ≤ length (drop (c .args .at) (now (c .args .bytes)))
+fits : (c : tie.Start) → signalSize ≤ length (drop (c .args .at) (now (c .args .bytes)))
 fits c = simp length-drop (omega arith)
 
 -- what is read is the signal of the bytes

@@ -3,6 +3,7 @@ use mathlib.Core.Path.{_≡_, refl, _∙_}
 use Prim.Native.Nat.{_+_, _*_}
 use denote.Ref.{now}
 use lib.ListN.{length, getD}
+use Rattle.rules.specs.Sizes.{registerCount, pendingCountPlace, treeSize, treesPlace}
 use Rattle.rules.specs.Encoding.{machineFrom}
 use Rattle.trees.specs.Canon.{pendingAt}
 use Rattle.trees.specs.Signals.{signalOf, value-sized}
@@ -11,11 +12,11 @@ use borrow.Author.Needs.{needs}
 use Rattle.trees.proofs.pending.push.Statement.{statement}
 use Rattle.trees.proofs.pending.push.Tie as tie
 
-long : (c : tie.Start) → length (c .args .g .values) ≡ 25
+long : (c : tie.Start) → length (c .args .g .values) ≡ registerCount
 long c = search needs
 
 -- the tree's pending count
-counted : (c : tie.Start) → getD (now (c .args .state)) (1113 + 426 * c .args .i + 1) 0 ≡ length (pendingAt (machineFrom (now (c .args .state))) (c .args .i))
+counted : (c : tie.Start) → getD (now (c .args .state)) (treesPlace + treeSize * c .args .i + pendingCountPlace) 0 ≡ length (pendingAt (machineFrom (now (c .args .state))) (c .args .i))
 counted c = pending-byte (c .pre .0) _ (c .pre .1) _ refl
 
 write-signal-requires : tie.Need-write-signal-requires

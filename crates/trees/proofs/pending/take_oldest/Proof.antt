@@ -3,6 +3,7 @@ use mathlib.Core.Path.{_≡_, refl, _∙_}
 use Prim.Native.Nat.{_+_, _*_, _≤_}
 use denote.Ref.{now}
 use lib.ListN.{length, getD}
+use Rattle.rules.specs.Sizes.{pendingCountPlace, treeSize, treesPlace}
 use Rattle.rules.specs.Encoding.{machineFrom}
 use Rattle.trees.specs.Canon.{pendingAt}
 use Rattle.trees.specs.Stored.{pending-byte, pending-few, oldest-taken}
@@ -10,7 +11,7 @@ use Rattle.trees.proofs.pending.take_oldest.Statement.{statement}
 use Rattle.trees.proofs.pending.take_oldest.Tie as tie
 
 -- the tree's pending count, and its limit
-counted : (c : tie.Start) → (getD (now (c .args .state)) (1113 + 426 * c .args .i + 1) 0 ≡ length (pendingAt (machineFrom (now (c .args .state))) (c .args .i))) × (length (pendingAt (machineFrom (now (c .args .state))) (c .args .i)) ≤ 8)
+counted : (c : tie.Start) → (getD (now (c .args .state)) (treesPlace + treeSize * c .args .i + pendingCountPlace) 0 ≡ length (pendingAt (machineFrom (now (c .args .state))) (c .args .i))) × (length (pendingAt (machineFrom (now (c .args .state))) (c .args .i)) ≤ 8)
 counted c = (pending-byte (c .pre .0) _ (c .pre .1) _ refl, pending-few (c .pre .0) _ (c .pre .1) _ refl)
 
 sub-remove : tie.Need-sub-remove

@@ -1,13 +1,14 @@
 use native.Mathlib.Omega.{arith}
 use mathlib.Core.Path.{_≡_, refl, _∙_}
 use lib.ListN.{length}
+use Rattle.rules.specs.Sizes.{registerCount}
 use Rattle.fields.specs.Put.{put-then}
 use Rattle.trees.specs.Signals.{value-bytes}
 use borrow.Author.Needs.{needs}
 use Rattle.trees.proofs.signals.write_signal.Statement.{statement}
 use Rattle.trees.proofs.signals.write_signal.Tie as tie
 
-long : (c : tie.Start) → length (c .args .g .values) ≡ 25
+long : (c : tie.Start) → length (c .args .g .values) ≡ registerCount
 long c = search needs
 
 put16s-requires : tie.Need-put16s-requires

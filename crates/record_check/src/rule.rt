@@ -1,12 +1,12 @@
 // The rules of a record.
-use crate::decode::Assigns;
-use crate::decode::destinations_of;
-use crate::decode::operation_at;
-use crate::decode::shape_of;
-use crate::records::block_at;
-use crate::records::entry_at;
 use fields::read::get16;
 use fields::read::wide;
+use image::decode::Assigns;
+use image::decode::destinations_of;
+use image::decode::operation_at;
+use image::decode::shape_of;
+use image::records::block_at;
+use image::records::entry_at;
 use rules::limits::Image;
 use rules::sorts::Block;
 use rules::sorts::block_of;
@@ -23,7 +23,7 @@ ghost use Rattle.rules.specs.Sizes.{recordSize, operandCount};
 ghost use Rattle.rules.specs.Image.{labels, recordAt, opcode, blockField, entry, operator, operands, labelA, labelB, kind, value};
 ghost use Rattle.rules.specs.Statements.{otherOf};
 ghost use Rattle.rules.specs.Check.{assignOk, otherOk, labelOk};
-ghost use Rattle.image.specs.Forms.{labelsOk, formOk, outlineOk};
+ghost use Rattle.record_check.specs.Forms.{labelsOk, formOk, outlineOk};
 
 // A label is below n, and its record is in this block.
 pub fn in_block(image: &[u8], n: usize, own: Block, v: u16) -> bool

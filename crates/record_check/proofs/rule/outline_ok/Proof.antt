@@ -1,11 +1,11 @@
 use mathlib.Core.Path.{sym}
 use native.Mathlib.Omega.{arith}
-use Rattle.image.specs.Forms.{outlineOk}
+use Rattle.record_check.specs.Forms.{outlineOk}
 use Rattle.image.specs.Records.{getD-any}
-use Rattle.image.proofs.Forms.{too-many}
+use Rattle.record_check.proofs.Forms.{too-many}
 use borrow.Author.Needs.{needs}
-use Rattle.image.proofs.rule.outline_ok.Statement.{statement}
-use Rattle.image.proofs.rule.outline_ok.Tie as tie
+use Rattle.record_check.proofs.rule.outline_ok.Statement.{statement}
+use Rattle.record_check.proofs.rule.outline_ok.Tie as tie
 
 returns : tie.Need-returns
 returns c = sym (too-many _ _ (omega arith))

@@ -1,8 +1,8 @@
 use native.Mathlib.Omega.{arith}
 use Rattle.image.specs.Records.{getD-any}
 use borrow.Author.Needs.{needs}
-use Rattle.image.proofs.rule.labels_ok.Statement.{statement}
-use Rattle.image.proofs.rule.labels_ok.Tie as tie
+use Rattle.record_check.proofs.rule.labels_ok.Statement.{statement}
+use Rattle.record_check.proofs.rule.labels_ok.Tie as tie
 
 returns : tie.Need-returns
 returns c =

@@ -1,13 +1,13 @@
 use Rattle.rules.specs.Statements.{conditionOf, otherOf}
 use Rattle.rules.specs.Check.{otherOk}
 use Rattle.rules.specs.declared.statement.Statement.the-variants.{Skip, If, SendDirect, SendBuffered, Call, Return, Transfer, Exit}
-use Rattle.image.proofs.Forms.{no-other, form-other}
+use Rattle.record_check.proofs.Forms.{no-other, form-other}
 use mathlib.Core.Logic.{⊎-elim, inl, inr}
 use mathlib.Core.Bool.{and-true}
 use borrow.Author.Tests.{le-leb}
 use borrow.Author.Needs.{needs}
-use Rattle.image.proofs.rule.other_ok.Statement.{statement}
-use Rattle.image.proofs.rule.other_ok.Tie as tie
+use Rattle.record_check.proofs.rule.other_ok.Statement.{statement}
+use Rattle.record_check.proofs.rule.other_ok.Tie as tie
 
 returns : tie.Need-returns
 unfolding otherOf otherOk

@@ -1,10 +1,10 @@
 use lib.Dec.{eqb, ltb}
 use Rattle.rules.specs.Image.{labels, recordAt, blockField, entry}
 use Rattle.rules.specs.Check.{labelOk}
-use Rattle.image.proofs.Forms.{within}
+use Rattle.record_check.proofs.Forms.{within}
 use borrow.Author.Needs.{needs}
-use Rattle.image.proofs.rule.label_ok.Statement.{statement}
-use Rattle.image.proofs.rule.label_ok.Tie as tie
+use Rattle.record_check.proofs.rule.label_ok.Statement.{statement}
+use Rattle.record_check.proofs.rule.label_ok.Tie as tie
 
 returns : tie.Need-returns
 unfolding labelOk

@@ -1,9 +1,9 @@
 use mathlib.Core.Path.{sym, _∙_}
 use Rattle.image.specs.Assigns.{assigns-none, assigns-some}
-use Rattle.image.proofs.Forms.{form-none, form-assign}
+use Rattle.record_check.proofs.Forms.{form-none, form-assign}
 use borrow.Author.Needs.{needs}
-use Rattle.image.proofs.rule.form_ok.Statement.{statement}
-use Rattle.image.proofs.rule.form_ok.Tie as tie
+use Rattle.record_check.proofs.rule.form_ok.Statement.{statement}
+use Rattle.record_check.proofs.rule.form_ok.Tie as tie
 
 returns : tie.Need-returns
 returns c =

@@ -15,7 +15,7 @@ use Rattle.rules.specs.declared.statement.Statement.{Statement}
 use Rattle.rules.specs.declared.statement.Statement.the-variants.{Assign}
 use Rattle.rules.specs.Check.{otherOk, shapeOk}
 use Rattle.laws.specs.Heads.{few-by}
-use Rattle.image.specs.Forms.{labelsOk, formOk, outlineOk}
+use Rattle.record_check.specs.Forms.{labelsOk, formOk, outlineOk}
 
 -- below n, in the block and of the entry
 pub within : (below same direct : Bool) → (below && same && (below && direct)) ≡ (below && same && direct)

@@ -2,8 +2,8 @@ use native.Mathlib.Omega.{arith}
 use Rattle.rules.specs.Check.{assignOk}
 use mathlib.Core.Bool.{and-true}
 use borrow.Author.Needs.{needs}
-use Rattle.image.proofs.rule.assign_ok.Statement.{statement}
-use Rattle.image.proofs.rule.assign_ok.Tie as tie
+use Rattle.record_check.proofs.rule.assign_ok.Statement.{statement}
+use Rattle.record_check.proofs.rule.assign_ok.Tie as tie
 
 returns : tie.Need-returns
 unfolding assignOk

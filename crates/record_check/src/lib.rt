@@ -1,0 +1,2 @@
+// What the image check tests of a record, but for its operands.
+pub mod rule;
