@@ -20,9 +20,9 @@ thread-at-requires c κs =
 
 lock-at-requires : tie.Need-lock-at-requires
 lock-at-requires c κs =
-    let a = c .before .before .before .before .before .before .before .before .args in
-    let p = c .before .before .before .before .before .before .before .before .pre in
-    (rw (c .before .before .before .block-at .ensures) (block-below (now (a .image)) (now (a .table)) (p .0) (a .l .0) (omega arith)), p .0 .wholeTable)
+    let a = c .before .before .before .before .before .before .before .args in
+    let p = c .before .before .before .before .before .before .before .pre in
+    (rw (c .before .before .block-at .ensures) (block-below (now (a .image)) (now (a .table)) (p .0) (a .l .0) (omega arith)), p .0 .wholeTable)
 
 holds-requires : tie.Need-holds-requires
 holds-requires c κs =
@@ -50,7 +50,6 @@ place-ok-spec =
     returns
     (λ c κs. search needs)
     thread-at-requires
-    (λ c κs. search needs)
     (λ c κs. search needs)
     lock-at-requires
     holds-requires
