@@ -7,7 +7,7 @@ use lib.ListN.{replicate, drop}
 use Rattle.rules.specs.Sizes.{tableSize, wordsSize, stateSize}
 use Rattle.rules.specs.Bytes.{num16, num32, part, isZeros, allFrom, firstBad, blocks, pad, chunks, every}
 use Rattle.rules.specs.Image.{labels, recordAt, rowAt}
-use Rattle.rules.specs.Statements.{operandOf, operandAt, operandsFrom, operationAt, optional, assignmentBy, otherOf, statementOf}
+use Rattle.rules.specs.Statements.{operandOf, operandAt, operandsFrom, operationAt, optional, assignmentBy, otherAt, statementOf}
 use Rattle.rules.specs.Check.{assignOk, otherOk, headOk, slotOk, labelOk, ruleOk, recordOk, rowOk, imageLengthFault, tableLengthFault, tableFault, recordFault, firstOf}
 use Rattle.rules.specs.Machine.{fresh, queue, first, put, cells, stores, window, keep}
 use Rattle.rules.specs.Encoding.{presence, threadRaw, threadBytes, registersFrom, jobFrom, threadFrom, signalBytes, signalFrom, treeBytes, treeFrom, encode, wordsFrom, machineFrom}
@@ -123,7 +123,7 @@ pub record OnBytes : Type 0 where
   pub cut-clears : stateAfter (nested 10) 5 (arrivalBytes 0 [] ++ times 3 (turnBytes 2 0) ++ turnBytes 3 0) ≡ initial (nested 10)
 
 pub onBytes : OnBytes
-unfolding num16 num32 part isZeros allFrom firstBad blocks pad chunks every labels recordAt rowAt operandOf operandAt operandsFrom operationAt optional assignmentBy otherOf statementOf assignOk otherOk headOk slotOk labelOk ruleOk recordOk rowOk imageLengthFault tableLengthFault tableFault recordFault firstOf ℕ-discrete fresh queue first put cells stores window keep presence threadRaw threadBytes registersFrom jobFrom threadFrom signalBytes signalFrom treeBytes treeFrom encode wordsFrom machineFrom code detail answerBytes eventFrom arrivalOk turnOk eventOk eventAtOk eventsFrom readAll perform outcome alien actBy planArrive planIdle planRunning planStep planCut plan held blocked attempt carry react answers final absentZero runningTidy threadTidy signalTidy signalAtTidy treeTidy threadAtTidy treeAtTidy stateTidy apart placeOk threadOk threadsOk pendingOk treeOk homed queuesOk machineOk wellFormed stateLengthFault stateFault eventsLengthFault eventFault answersLengthFault wordsLengthFault checkReturn freshReturn freshState runReturn runState runAnswers
+unfolding num16 num32 part isZeros allFrom firstBad blocks pad chunks every labels recordAt rowAt operandOf operandAt operandsFrom operationAt optional assignmentBy otherAt statementOf assignOk otherOk headOk slotOk labelOk ruleOk recordOk rowOk imageLengthFault tableLengthFault tableFault recordFault firstOf ℕ-discrete fresh queue first put cells stores window keep presence threadRaw threadBytes registersFrom jobFrom threadFrom signalBytes signalFrom treeBytes treeFrom encode wordsFrom machineFrom code detail answerBytes eventFrom arrivalOk turnOk eventOk eventAtOk eventsFrom readAll perform outcome alien actBy planArrive planIdle planRunning planStep planCut plan held blocked attempt carry react answers final absentZero runningTidy threadTidy signalTidy signalAtTidy treeTidy threadAtTidy treeAtTidy stateTidy apart placeOk threadOk threadsOk pendingOk treeOk homed queuesOk machineOk wellFormed stateLengthFault stateFault eventsLengthFault eventFault answersLengthFault wordsLengthFault checkReturn freshReturn freshState runReturn runState runAnswers
 onBytes = record {
   returns = refl;
   calls = refl;
