@@ -1,31 +1,34 @@
 -- Whom a thread waits for, by the lock that its step asks for.
 use mathlib.Core.Path.{_≡_, refl, ap, _∙_, subst}
-use mathlib.Core.Bool.{Bool, true, false, cond, _||_}
+use mathlib.Core.Bool.{Bool, true, false, cond}
 use mathlib.Core.Option.{Option, none, some}
 use mathlib.Core.List.{List, [], _∷_}
 use Prim.Native.Nat.{ℕ, suc, _≤_, _<_}
 use native.Mathlib.Omega.{arith}
-use lib.Dec.{eqb, leb}
-use borrow.Author.Tests.{ne-eqb}
-use lib.ListN.{length, getD, set}
+use lib.Dec.{eqb}
+use borrow.Author.Tests.{eqb-true}
+use lib.ListN.{length, set}
 use Rattle.rules.specs.Sorts
-use Rattle.rules.specs.Sizes.{blockCount, pendingCount}
+use Rattle.rules.specs.Sizes.{blockCount}
+use Rattle.rules.specs.Codes.{sendDirectCode, callCode}
 use Rattle.rules.specs.Bytes.{has}
-use Rattle.rules.specs.Image.{opcode, operator, recordAt, Row, rowAt}
-use Rattle.rules.specs.Statements.{operationAt, conditionOf, otherOf, statementBy, statementOf, reads}
+use Rattle.rules.specs.Image.{opcode, operator, recordAt, labelA, labelB, Row, rowAt}
+use Rattle.rules.specs.Statements.{operationAt, Other, others, otherIn, otherAt, otherOr, statementBy, statementOf, dataOf, roleA, roleB}
 use Rattle.rules.specs.Machine.{Signal, Job, ThreadState, Machine, idle, running, threadAt, locksOf, first}
 use Rattle.rules.specs.Encoding.{machineFrom}
 use Rattle.rules.specs.Events.{step}
-use Rattle.rules.specs.Effects.{Got, trap, got, then, unless, Cells, readAll, Results, compute, holds, onA, onB, goes, View, go, perform, outcome}
-use Rattle.rules.specs.Steps.{Rules, Reply, Effect, traps, exits, moves, rulesBy, blockAt, resolve, view, actBy, held, react}
+use Rattle.rules.specs.Effects.{Got, trap, got, Next, onA, onB, intoA, callA, back, Going, Outcome, ends, goes, outcome}
+use Rattle.rules.specs.Steps.{Rules, Reply, Effect, traps, exits, moves, rulesBy, blockAt, steer, resolve, view, actBy, held, react}
 use Rattle.rules.specs.Walk.{asked, holder, awaits}
 use Rattle.rules.specs.declared.sorts.Lock as sorts
-use Rattle.rules.specs.declared.statement.Operand.{Operand}
+use Rattle.rules.specs.declared.statement.Role.{Role}
+use Rattle.rules.specs.declared.statement.Role.the-variants.{Unused, Inner, Direct, Local, Buffered}
 use Rattle.rules.specs.declared.statement.Operation.{Operation}
 use Rattle.rules.specs.declared.statement.Statement.{Statement}
-use Rattle.rules.specs.declared.statement.Statement.the-variants.{Skip, Assign, If, SendDirect, SendBuffered, Call, Return, Transfer, Exit}
+use Rattle.rules.specs.declared.statement.Statement.the-variants.{SendDirect, Call}
 use Rattle.rules.specs.declared.answer.Answer.{Answer}
 use Rattle.rules.specs.declared.answer.Answer.the-variants.{Waiting, Moved}
+use Rattle.laws.specs.Roles.{Leads, Refers, refers}
 use Rattle.step_laws.specs.Events.{reply, no-tree}
 use Rattle.step_laws.specs.Running.{effect, traps-by, exits-by, moves-by}
 use Rattle.threads.specs.Whole.{whole}
@@ -82,81 +85,76 @@ Quiet exits = Unit {0}
 Quiet (moves j ws g none) = Unit {0}
 Quiet (moves j ws g (some b)) = ⊥
 
-abbrev pub Lockless : Statement → Type 0
-Lockless Skip = Unit {0}
-Lockless (Assign a) = Unit {0}
-Lockless (If c) = Unit {0}
-Lockless SendDirect = ⊥
-Lockless SendBuffered = Unit {0}
-Lockless Call = ⊥
-Lockless Return = Unit {0}
-Lockless Transfer = Unit {0}
-Lockless Exit = Unit {0}
+-- by the role of label A: only the signal of a direct SEND or a CALL asks for a lock
+abbrev pub Lockless : Role → Type 0
+Lockless Unused = Unit {0}
+Lockless Inner = Unit {0}
+Lockless Direct = ⊥
+Lockless Local = Unit {0}
+Lockless Buffered = Unit {0}
 
 -- of the opcodes 5 is a direct SEND, 7 a CALL, and no other takes a lock
 module _ (r : List ℕ) where
-  pub opcode-send : opcode r ≡ 5 → statementOf r ≡ SendDirect
-  unfolding operationAt otherOf statementOf
+  pub opcode-send : opcode r ≡ sendDirectCode → statementOf r ≡ SendDirect
+  unfolding operationAt otherAt statementOf
   opcode-send e = rw e (rw e)
 
-  pub opcode-call : opcode r ≡ 7 → statementOf r ≡ Call
-  unfolding operationAt otherOf statementOf
+  pub opcode-call : opcode r ≡ callCode → statementOf r ≡ Call
+  unfolding operationAt otherAt statementOf
   opcode-call e = rw e (rw e)
 
-  pub opcode-other : (opcode r ≡ 5 → ⊥) → (opcode r ≡ 7 → ⊥) → Lockless (statementOf r)
-  unfolding otherOf statementOf
-  opcode-other n m = by (operationAt (opcode r) (operator r)) (rw (ne-eqb (opcode r) 5 n, ne-eqb (opcode r) 7 m)
-      (case (eqb (opcode r) 1 || eqb (opcode r) 3) (eqb (opcode r) 4) (eqb (opcode r) 6) (eqb (opcode r) 8) (eqb (opcode r) 9)))
+  -- each row of the opcodes that are not of ASSIGN's kind
+  AllLockless : List Other → Type 0
+  AllLockless [] = Unit {0}
+  AllLockless (x ∷ xs) = (opcode r ≡ x .opcode → Lockless (roleA (x .statement r))) × AllLockless xs
+
+  lockless-in : (xs : List Other) → AllLockless xs → Lockless (roleA (otherOr (otherIn xs (opcode r) r)))
+  unfolding AllLockless
+  lockless-in [] h = tt
+  lockless-in (x ∷ xs) h = case (eqb (opcode r) (x .opcode)) refl (lockless-in xs (h .1))
     where
-      by : (k : Option Operation) → Lockless (otherOf r) → Lockless (statementBy k r)
-      by none h = h
-      by (some k) h = tt
+      case : (b : Bool) → eqb (opcode r) (x .opcode) ≡ b → Lockless (roleA (otherOr (otherIn xs (opcode r) r)))
+          → Lockless (roleA (otherOr (cond b (some (x .statement r)) (otherIn xs (opcode r) r))))
+      case true e ih = h .0 (eqb-true (opcode r) (x .opcode) e)
+      case false e ih = ih
 
-      case : (a c d e f : Bool) → Lockless (cond a Skip (cond c (If (conditionOf r)) (cond d SendBuffered (cond e Return (cond f Transfer Exit)))))
-      case true c d e f = tt
-      case false true d e f = tt
-      case false false true e f = tt
-      case false false false true f = tt
-      case false false false false true = tt
-      case false false false false false = tt
-
-module _ (block : ℕ → ℕ) (row : ℕ → Row) (t a b : ℕ) (v : View) where
-  quiet-assign : (g : Got Results) (rs : List ℕ) (f : Results → Cells) → Quiet (resolve block row t rs a b (then g (λ x. go onA (f x))))
-  quiet-assign (trap r) rs f = tt
-  quiet-assign (got x) rs f = tt
-
-  quiet-if : (h : Bool) (rs : List ℕ) (c : Cells) → Quiet (resolve block row t rs a b (go (cond h onA onB) c))
-  quiet-if true rs c = tt
-  quiet-if false rs c = tt
-
-  quiet-buffered : (full : Bool) (rs vs : List ℕ) → Quiet (resolve block row t rs a b (unless full 4 (got (goes (record { next = onB; cells = v .cells; sent = some vs })))))
-  quiet-buffered true rs vs = tt
-  quiet-buffered false rs vs = tt
-
-  quiet-perform : (S : Statement) (rs vs : List ℕ) → Lockless S → Quiet (resolve block row t rs a b (perform v S vs))
-  unfolding perform
-  quiet-perform Skip rs vs h = tt
-  quiet-perform (Assign x) rs vs h = quiet-assign (compute (x .operation) (getD vs 0 0) (getD vs 1 0)) rs _
-  quiet-perform (If c) rs vs h = quiet-if (holds (c .relation) (getD vs 0 0) (getD vs 1 0)) rs (v .cells)
-  quiet-perform SendDirect rs vs h = absurd h
-  quiet-perform SendBuffered rs vs h = quiet-buffered (leb pendingCount (v .pending)) rs vs
-  quiet-perform Call rs vs h = absurd h
-  quiet-perform Return [] vs h = tt
-  quiet-perform Return (r ∷ rs) vs h = tt
-  quiet-perform Transfer rs vs h = tt
-  quiet-perform Exit rs vs h = tt
-
-  quiet-outcome : (S : Statement) (given : List Operand) (rs : List ℕ) → Lockless S → Quiet (resolve block row t rs a b (outcome v S given))
-  unfolding outcome
-  quiet-outcome S given rs h = case (readAll (v .cells) (reads S given))
+  pub opcode-other : (opcode r ≡ sendDirectCode → ⊥) → (opcode r ≡ callCode → ⊥) → Lockless (roleA (statementOf r))
+  unfolding otherAt statementOf AllLockless
+  opcode-other n m = by (operationAt (opcode r) (operator r))
     where
-      case : (g : Got (List ℕ)) → Quiet (resolve block row t rs a b (then g (λ vs. perform v S vs)))
-      case (trap r) = tt
-      case (got vs) = quiet-perform S rs vs h
+      rows : AllLockless others
+      rows = (λ e. tt, (λ e. tt, (λ e. tt, (λ e. absurd (n e), (λ e. tt, (λ e. absurd (m e), (λ e. tt, (λ e. tt, (λ e. tt, tt)))))))))
 
-quiet-act : (image table : List ℕ) (t : ℕ) (j : Job) (words : List ℕ) (pending : ℕ) → Lockless (statementOf (recordAt image (j .label))) → Quiet (actBy image table t j words pending)
+      by : (k : Option Operation) → Lockless (roleA (statementBy k r))
+      by none = lockless-in others rows
+      by (some k) = tt
+
+module _ (block : ℕ → ℕ) (row : ℕ → Row) (t a b : ℕ) where
+  quiet-back : (g : Going) (rs : List ℕ) → Quiet (steer block row t a b g back rs)
+  quiet-back g [] = tt
+  quiet-back g (r ∷ rs) = tt
+
+  -- what leads into no other block asks for no lock
+  quiet-steer : (x y : Role) (g : Going) (n : Next) (rs : List ℕ) → Leads x y n → Lockless x → Quiet (steer block row t a b g n rs)
+  quiet-steer x y g onA rs l h = tt
+  quiet-steer x y g onB rs l h = tt
+  quiet-steer x y g intoA rs l h = absurd (subst Lockless l h)
+  quiet-steer x y g callA rs l h = absurd (subst Lockless (l .0) h)
+  quiet-steer x y g back rs l h = quiet-back g rs
+
+  quiet-resolve : (x y : Role) (o : Got Outcome) (rs : List ℕ) → Refers x y o → Lockless x → Quiet (resolve block row t rs a b o)
+  quiet-resolve x y (trap r) rs l h = tt
+  quiet-resolve x y (got ends) rs l h = tt
+  quiet-resolve x y (got (goes g)) rs l h = quiet-steer x y g (g .next) rs (l .0) h
+
+quiet-act : (image table : List ℕ) (t : ℕ) (j : Job) (words : List ℕ) (pending : ℕ) → Lockless (roleA (statementOf (recordAt image (j .label))))
+    → Quiet (actBy image table t j words pending)
 unfolding actBy
-quiet-act image table t j words pending h = quiet-outcome (blockAt image) (rowAt table) t _ _ (view j words pending) (statementOf (recordAt image (j .label))) _ (j .returns) h
+quiet-act image table t j words pending h =
+    let r : List ℕ = recordAt image (j .label) in
+    let s : Statement = statementOf r in
+    quiet-resolve (blockAt image) (rowAt table) t (labelA r) (labelB r) (roleA s) (roleB s) (outcome (view j words pending) s (dataOf r)) (j .returns)
+    (refers (view j words pending) s (dataOf r)) h
 
 module _ (R : Rules) (s : Machine) (t l : ℕ) (j : Job) (p : List Signal) (runs : threadAt s t ≡ running l j) (own : first t (s .trees) ≡ some p) where
   quiet-asks : Quiet (effect R s t l j p runs own) → asked (react R s (step t) .answer) ≡ none
@@ -168,10 +166,10 @@ module _ (R : Rules) (s : Machine) (t l : ℕ) (j : Job) (p : List Signal) (runs
       case (moves k ws g none) e q = answered _ _ (moves-by R s t l j p runs own k ws g e)
       case (moves k ws g (some b)) e q = absurd q
 
-pub wants-nothing : {image table b : List ℕ} {t : ℕ} {w : State.ThreadState} {r : List ℕ} → At image table b t w r → Lockless (statementOf r) → Wants image table (machineFrom b) t Nothing
+pub wants-nothing : {image table b : List ℕ} {t : ℕ} {w : State.ThreadState} {r : List ℕ} → At image table b t w r → Lockless (roleA (statementOf r)) → Wants image table (machineFrom b) t Nothing
 wants-nothing {image} {table} {b} {t} {w} {r} h q =
     quiet-asks (rulesBy image table) (machineFrom b) t (w .locks) (jobOf (whole b t w)) (tree h .0) (h .runs) (tree h .1)
-    (quiet-act image table t (jobOf (whole b t w)) _ _ (subst (λ (x : List ℕ). Lockless (statementOf x)) (h .here) q))
+    (quiet-act image table t (jobOf (whole b t w)) _ _ (subst (λ (x : List ℕ). Lockless (roleA (statementOf x))) (h .here) q))
 
 -- ---- the start of a job
 

@@ -12,7 +12,6 @@ use lib.Seq.{getD-set-other}
 use borrow.Author.Tests.{eq-eqb, ne-eqb}
 use Rattle.rules.specs.Sizes.{threadCount}
 use Rattle.rules.specs.Image.{recordAt, labelB}
-use Rattle.rules.specs.Statements.{statementOf}
 use Rattle.rules.specs.Machine.{Job, ThreadState, idle, running, Machine, threadAt, fresh}
 use Rattle.rules.specs.Events.{Event}
 use Rattle.rules.specs.Answers.{out, sort}
@@ -21,14 +20,14 @@ use Rattle.rules.specs.declared.answer.Answer.{Answer}
 use Rattle.rules.specs.declared.answer.Answer.the-variants.{Taken, ListFull, NoWork, Waiting, Started, Moved, Exited, Trapped, WasCut, NothingToCut}
 use Rattle.laws.specs.Logic.{never, getD-same}
 use Rattle.soundness.specs.Happens.{Happens, remains, founds, starts, goes, ends, happens}
-use Rattle.invariants.specs.Paths.{opened, openAfter, openCalls, labelOf, noted, isOf, pathNext, pathFrom, pathOf}
+use Rattle.invariants.specs.Paths.{opened, wayAt, openAfter, openCalls, labelOf, noted, isOf, pathNext, pathFrom, pathOf}
 use Rattle.invariants.specs.Returns.{Turned, EffectTurned, act-turned}
 
 -- one more statement
-open-snoc : (image rs path : List ℕ) (l : ℕ) → openAfter image rs (path ++ l ∷ []) ≡ opened (statementOf (recordAt image l)) (labelB (recordAt image l)) (openAfter image rs path)
+open-snoc : (image rs path : List ℕ) (l : ℕ) → openAfter image rs (path ++ l ∷ []) ≡ opened (wayAt image l) (labelB (recordAt image l)) (openAfter image rs path)
 unfolding openAfter
 open-snoc image rs [] l = refl
-open-snoc image rs (x ∷ path) l = open-snoc image (opened (statementOf (recordAt image x)) (labelB (recordAt image x)) rs) path l
+open-snoc image rs (x ∷ path) l = open-snoc image (opened (wayAt image x) (labelB (recordAt image x)) rs) path l
 
 -- an event that changes nothing is not noted
 quiet : (a : Answer) (w : ThreadState) (path : List ℕ) → (sort a ≡ out) ⊎ (a ≡ ListFull) → noted a w path ≡ path
@@ -73,10 +72,10 @@ module _ (image table : List ℕ) (t : ℕ) where
         case (no e) = rw (ne-eqb u t e, getD-set-other (s .threads) u t w idle (λ z. e (sym z))) h
 
     turned-by : (locks : ℕ) (j k : Job) → threadAt s t ≡ running locks j
-        → Turned (statementOf (recordAt image (j .label))) (labelB (recordAt image (j .label))) (j .returns) k → k .returns ≡ openCalls image (path ++ labelOf (threadAt s t))
+        → Turned (wayAt image (j .label)) (labelB (recordAt image (j .label))) (j .returns) k → k .returns ≡ openCalls image (path ++ labelOf (threadAt s t))
     turned-by locks j k w d =
         let r : j .returns ≡ openCalls image path = subst (Tracks path) w h in
-        d .returns ∙ ap (opened (statementOf (recordAt image (j .label))) (labelB (recordAt image (j .label)))) r ∙ sym (open-snoc image [] path (j .label))
+        d .returns ∙ ap (opened (wayAt image (j .label)) (labelB (recordAt image (j .label)))) r ∙ sym (open-snoc image [] path (j .label))
         ∙ ap (λ (x : ThreadState). openCalls image (path ++ labelOf x)) (sym w)
 
     tracks : (e : Event) (r : Reply) → Happens R s e r → Tracks (pathNext R t s e (r .answer) path) (threadAt (r .state) t)

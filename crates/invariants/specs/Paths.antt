@@ -5,14 +5,12 @@ use mathlib.Core.List.{List, [], _∷_, _++_}
 use Prim.Native.Nat.{ℕ}
 use lib.Dec.{eqb}
 use Rattle.rules.specs.Image.{recordAt, labelB}
-use Rattle.rules.specs.Statements.{statementOf}
+use Rattle.rules.specs.Statements.{statementOf, Way, following, branching, transferring, entering, posting, calling, returning, ending, way}
 use Rattle.rules.specs.Machine.{ThreadState, idle, running, Machine, threadAt, fresh}
 use Rattle.rules.specs.Events.{Event, arrive, turn}
 use Rattle.rules.specs.Steps.{Rules, older, react}
 use Rattle.rules.specs.declared.answer.Answer.{Answer}
 use Rattle.rules.specs.declared.answer.Answer.the-variants.{Taken, ListFull, NoWork, Waiting, Started, Moved, Exited, Trapped, WasCut, NothingToCut}
-use Rattle.rules.specs.declared.statement.Statement.{Statement}
-use Rattle.rules.specs.declared.statement.Statement.the-variants.{Skip, Assign, If, SendDirect, SendBuffered, Call, Return, Transfer, Exit}
 
 -- ---- what a job's statements do to the calls that are open
 
@@ -21,22 +19,25 @@ abbrev pub withoutNewest : List ℕ → List ℕ
 withoutNewest [] = []
 withoutNewest (r ∷ rs) = older r rs
 
--- a statement that is carried out, with label B: CALL adds B, RETURN takes the newest, any other statement changes nothing
-abbrev pub opened : Statement → ℕ → List ℕ → List ℕ
-opened Skip b rs = rs
-opened (Assign a) b rs = rs
-opened (If c) b rs = rs
-opened SendDirect b rs = rs
-opened SendBuffered b rs = rs
-opened Call b rs = rs ++ b ∷ []
-opened Return b rs = withoutNewest rs
-opened Transfer b rs = rs
-opened Exit b rs = rs
+-- by where a statement that is carried out leads, with label B: CALL adds B, RETURN takes the newest, any other changes nothing
+abbrev pub opened : Way → ℕ → List ℕ → List ℕ
+opened following b rs = rs
+opened branching b rs = rs
+opened transferring b rs = rs
+opened entering b rs = rs
+opened posting b rs = rs
+opened calling b rs = rs ++ b ∷ []
+opened returning b rs = withoutNewest rs
+opened ending b rs = rs
+
+-- the way of the statement at a label
+abbrev pub wayAt : List ℕ → ℕ → Way
+wayAt image l = way (statementOf (recordAt image l))
 
 -- the statements at these labels, carried out one after the other
 unfoldable pub openAfter : List ℕ → List ℕ → List ℕ → List ℕ
 openAfter image rs [] = rs
-openAfter image rs (l ∷ path) = openAfter image (opened (statementOf (recordAt image l)) (labelB (recordAt image l)) rs) path
+openAfter image rs (l ∷ path) = openAfter image (opened (wayAt image l) (labelB (recordAt image l)) rs) path
 
 -- a job begins without open calls
 abbrev pub openCalls : List ℕ → List ℕ → List ℕ

@@ -7,28 +7,27 @@ use Prim.Native.Nat.{ℕ, _<_}
 use lib.Dec.{ltb}
 use borrow.Author.Tests.{ltb-true}
 use Rattle.rules.specs.Image.{labels, recordAt, blockField, labelB}
-use Rattle.rules.specs.Statements.{operationAt, otherOf, statementOf, roleB}
+use Rattle.rules.specs.Statements.{operationAt, otherAt, statementOf, Way, following, branching, transferring, entering, posting, calling, returning, ending, way, wayB}
 use Rattle.rules.specs.Check.{labelOk, Checked}
 use Rattle.rules.specs.Machine.{Job, ThreadState, running, Machine, threadAt, fresh}
 use Rattle.rules.specs.Events.{Event, step}
 use Rattle.rules.specs.Answers.{sort}
 use Rattle.rules.specs.Steps.{Rules, older, blockAt, rulesBy, Reply, react, final}
 use Rattle.rules.specs.declared.answer.Answer.the-variants.{Moved}
-use Rattle.rules.specs.declared.statement.Statement.{Statement}
-use Rattle.rules.specs.declared.statement.Statement.the-variants.{Skip, Assign, If, SendDirect, SendBuffered, Call, Return, Transfer, Exit}
+use Rattle.rules.specs.declared.statement.Statement.the-variants.{Return}
 use Rattle.laws.specs.Logic.{never}
 use Rattle.laws.specs.Passed.{passed, no-record}
 use Rattle.soundness.specs.Happens.{Happens, remains, founds, starts, goes, ends, happens}
 use Rattle.soundness.specs.Destinations.{label-in, parts}
-use Rattle.invariants.specs.Paths.{withoutNewest, opened, openAfter, openCalls, pathOf}
+use Rattle.invariants.specs.Paths.{withoutNewest, opened, wayAt, openAfter, openCalls, pathOf}
 use Rattle.invariants.specs.Returns.{EffectTurned, act-turned}
 use Rattle.invariants.specs.OpenCalls.{set-here, returns-are-open-calls}
 
--- a label that a CALL of this path has as its label B
+-- a label that a CALL of this path has as its label B (CALL is the statement whose way is `calling`)
 pub record CalledFrom (image path : List ℕ) (l : ℕ) : Type 0 where
   pub call : ℕ
   pub made : List·Memᴰ call path
-  pub statement : statementOf (recordAt image call) ≡ Call
+  pub calls : wayAt image call ≡ calling
   pub label : l ≡ labelB (recordAt image call)
 
 module _ (image : List ℕ) where
@@ -36,7 +35,7 @@ module _ (image : List ℕ) where
   AllCalled path rs = (l : ℕ) → List·Memᴰ l rs → CalledFrom image path l
 
   further : (path : List ℕ) (x l : ℕ) → CalledFrom image path l → CalledFrom image (path ++ x ∷ []) l
-  further path x l c = record { call = c .call; made = Memᴰ·append-left (x ∷ []) (c .made); statement = c .statement; label = c .label }
+  further path x l c = record { call = c .call; made = Memᴰ·append-left (x ∷ []) (c .made); calls = c .calls; label = c .label }
 
   older-of : (r : ℕ) (rs : List ℕ) (l : ℕ) → List·Memᴰ l (older r rs) → List·Memᴰ l (r ∷ rs)
   older-of r [] l m = absurd (List·Memᴰ·not-nil m)
@@ -47,28 +46,26 @@ module _ (image : List ℕ) where
   without-of [] l m = m
   without-of (r ∷ rs) l m = older-of r rs l m
 
-  opened-called : (path rs : List ℕ) (x : ℕ) (s : Statement) → statementOf (recordAt image x) ≡ s → AllCalled path rs
-      → AllCalled (path ++ x ∷ []) (opened s (labelB (recordAt image x)) rs)
-  opened-called path rs x Skip e h l m = further path x l (h l m)
-  opened-called path rs x (Assign a) e h l m = further path x l (h l m)
-  opened-called path rs x (If c) e h l m = further path x l (h l m)
-  opened-called path rs x SendDirect e h l m = further path x l (h l m)
-  opened-called path rs x SendBuffered e h l m = further path x l (h l m)
-  opened-called path rs x Call e h l m = case (List·Memᴰ·append-cases rs m)
+  opened-called : (path rs : List ℕ) (x : ℕ) (w : Way) → wayAt image x ≡ w → AllCalled path rs → AllCalled (path ++ x ∷ []) (opened w (labelB (recordAt image x)) rs)
+  opened-called path rs x following e h l m = further path x l (h l m)
+  opened-called path rs x branching e h l m = further path x l (h l m)
+  opened-called path rs x transferring e h l m = further path x l (h l m)
+  opened-called path rs x entering e h l m = further path x l (h l m)
+  opened-called path rs x posting e h l m = further path x l (h l m)
+  opened-called path rs x calling e h l m = case (List·Memᴰ·append-cases rs m)
     where
       case : List·Memᴰ l rs ⊎ List·Memᴰ l (labelB (recordAt image x) ∷ []) → CalledFrom image (path ++ x ∷ []) l
       case (inl k) = further path x l (h l k)
-      case (inr k) = record { call = x; made = Memᴰ·append-right path (List·Memᴰ·head refl); statement = e; label = List·Memᴰ·eq-of-singleton k }
-  opened-called path rs x Return e h l m = further path x l (h l (without-of rs l m))
-  opened-called path rs x Transfer e h l m = further path x l (h l m)
-  opened-called path rs x Exit e h l m = further path x l (h l m)
+      case (inr k) = record { call = x; made = Memᴰ·append-right path (List·Memᴰ·head refl); calls = e; label = List·Memᴰ·eq-of-singleton k }
+  opened-called path rs x returning e h l m = further path x l (h l (without-of rs l m))
+  opened-called path rs x ending e h l m = further path x l (h l m)
 
   after-called : (done path rs : List ℕ) → AllCalled done rs → AllCalled (done ++ path) (openAfter image rs path)
   unfolding openAfter
   after-called done [] rs h = rw (append-nil done) h
   after-called done (x ∷ path) rs h =
-      subst (λ (z : List ℕ). AllCalled z (openAfter image (opened (statementOf (recordAt image x)) (labelB (recordAt image x)) rs) path)) (append-assoc done (x ∷ []) path)
-      (after-called (done ++ x ∷ []) path (opened (statementOf (recordAt image x)) (labelB (recordAt image x)) rs) (opened-called done rs x (statementOf (recordAt image x)) refl h))
+      subst (λ (z : List ℕ). AllCalled z (openAfter image (opened (wayAt image x) (labelB (recordAt image x)) rs) path)) (append-assoc done (x ∷ []) path)
+      (after-called (done ++ x ∷ []) path (opened (wayAt image x) (labelB (recordAt image x)) rs) (opened-called done rs x (wayAt image x) refl h))
 
   -- every open call is a CALL of the path
   pub open-calls-are-called : (path : List ℕ) → AllCalled path (openCalls image path)
@@ -93,8 +90,9 @@ module _ (image table : List ℕ) (t : ℕ) where
   returned s locks j w i e r (goes u l k k′ words g want v a b) n m =
       let z : u ≡ t = cc in
       let y : k ≡ j = same (rw z at v) in
+      let q : statementOf (recordAt image (k .label)) ≡ Return = rw y i in
       rw z (set-here (To (j .returns)) (s .threads) t _
-      (λ locks′ j′ x. let x′ : k′ ≡ j′ = cc in rw (x′, y) at (subst (EffectTurned _ _ (k .returns)) a (act-turned image table u k _ _) .label (rw y i)))
+      (λ locks′ j′ x. let x′ : k′ ≡ j′ = cc in rw (x′, y) at (subst (EffectTurned _ _ (k .returns)) a (act-turned image table u k _ _) .label (ap way q)))
       (λ locks′ j′ x. never (cc)))
     where
       same : {l : ℕ} {k : Job} → threadAt s t ≡ running l k → k ≡ j
@@ -113,11 +111,11 @@ module _ (image table : List ℕ) (t : ℕ) where
 
 -- and in a checked image it is in the block that this CALL was made from
 module _ (image table : List ℕ) (checked : Checked image table) where
-  call-below : (c : ℕ) → statementOf (recordAt image c) ≡ Call → c < labels image
+  call-below : (c : ℕ) → wayAt image c ≡ calling → c < labels image
   call-below c e = case (ltb c (labels image)) refl
     where
-      none : ltb c (labels image) ≡ false → statementOf (recordAt image c) ≡ Exit
-      none h = unfold operationAt otherOf statementOf in rw (no-record image c h) refl
+      none : ltb c (labels image) ≡ false → wayAt image c ≡ ending
+      none h = unfold operationAt otherAt statementOf in rw (no-record image c h) refl
 
       case : (b : Bool) → ltb c (labels image) ≡ b → c < labels image
       case true h = ltb-true c (labels image) h
@@ -126,9 +124,9 @@ module _ (image table : List ℕ) (checked : Checked image table) where
   pub call-block : (path : List ℕ) (l : ℕ) (c : CalledFrom image path l) → blockAt image l ≡ blockAt image (c .call)
   call-block path l c =
       let r = recordAt image (c .call) in
-      let h = parts image table (passed image table [] checked .0) (c .call) (call-below (c .call) (c .statement)) .b in
-      let k : labelOk image (roleB Call) (blockField r) (labelB r) ≡ true = subst (λ (s : Statement). labelOk image (roleB s) (blockField r) (labelB r) ≡ true) (c .statement) h in
-      ap (blockAt image) (c .label) ∙ label-in image table (roleB Call) (blockField r) (labelB r) k .1
+      let h = parts image table (passed image table [] checked .0) (c .call) (call-below (c .call) (c .calls)) .b in
+      let k : labelOk image (wayB calling) (blockField r) (labelB r) ≡ true = subst (λ (w : Way). labelOk image (wayB w) (blockField r) (labelB r) ≡ true) (c .calls) h in
+      ap (blockAt image) (c .label) ∙ label-in image table (wayB calling) (blockField r) (labelB r) k .1
 
   -- NO RETURN LEADS INTO A BLOCK THAT THE JOB DID NOT CALL FROM
   pub return-leads-to-a-calling-block : (t : ℕ) (words : List ℕ) (l : List Event) (locks locks′ : ℕ) (j j′ : Job)

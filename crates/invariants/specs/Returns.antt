@@ -1,21 +1,18 @@
 -- What a statement does to the return labels of its job, and where RETURN leads.
 use mathlib.Core.Path.{_≡_, refl, ap, _∙_}
-use mathlib.Core.Bool.{Bool, true, false, cond}
+use mathlib.Core.Bool.{Bool, true, false}
+use mathlib.Core.Option.{Option, none, some}
 use mathlib.Core.List.{List, [], _∷_, _++_, List·Memᴰ, List·Memᴰ·head, List·Memᴰ·tail}
 use Prim.Native.Nat.{ℕ}
-use lib.Dec.{leb}
-use lib.ListN.{getD}
-use Rattle.rules.specs.Sizes.{returnCount, pendingCount}
 use Rattle.rules.specs.Image.{recordAt, labelA, labelB, Row, rowAt}
-use Rattle.rules.specs.Statements.{statementOf, dataOf, reads}
+use Rattle.rules.specs.Statements.{statementOf, dataOf, Way, following, branching, transferring, entering, posting, calling, returning, ending, way, reads}
 use Rattle.rules.specs.Machine.{Job}
-use Rattle.rules.specs.Effects.{Got, trap, got, then, unless, readAll, compute, holds, Next, onA, onB, intoA, callA, back, Going, Outcome, ends, goes, View, perform, outcome}
+use Rattle.rules.specs.Effects.{Got, trap, got, then, unless, Cells, readAll, Next, onA, onB, intoA, callA, back, Going, Outcome, ends, goes, View, leave, overflow, worked, chosen, perform, outcome}
 use Rattle.rules.specs.Steps.{Effect, traps, exits, moves, trapIf, newest, alien, steer, resolve, blockAt, actBy, view}
 use Rattle.rules.specs.declared.statement.Operand.{Operand}
 use Rattle.rules.specs.declared.statement.Statement.{Statement}
-use Rattle.rules.specs.declared.statement.Statement.the-variants.{Skip, Assign, If, SendDirect, SendBuffered, Call, Return, Transfer, Exit}
 use Rattle.laws.specs.Logic.{never}
-use Rattle.invariants.specs.Paths.{withoutNewest, opened}
+use Rattle.invariants.specs.Paths.{withoutNewest, opened, wayAt}
 
 -- by where it leads
 abbrev nextReturns : Next → ℕ → List ℕ → List ℕ
@@ -25,45 +22,42 @@ nextReturns intoA b rs = rs
 nextReturns callA b rs = rs ++ b ∷ []
 nextReturns back b rs = withoutNewest rs
 
-abbrev Opens : Statement → Got Outcome → Type 0
-Opens s (trap r) = Unit {0}
-Opens s (got ends) = Unit {0}
-Opens s (got (goes g)) = (b : ℕ) (rs : List ℕ) → nextReturns (g .next) b rs ≡ opened s b rs
+abbrev Opens : Way → Got Outcome → Type 0
+Opens w (trap r) = Unit {0}
+Opens w (got ends) = Unit {0}
+Opens w (got (goes g)) = (b : ℕ) (rs : List ℕ) → nextReturns (g .next) b rs ≡ opened w b rs
 
-unless-opens : (s : Statement) (c : Bool) (r : ℕ) (o : Got Outcome) → Opens s o → Opens s (unless c r o)
-unless-opens s true r o h = tt
-unless-opens s false r o h = h
+unless-opens : (w : Way) (c : Option ℕ) (o : Got Outcome) → Opens w o → Opens w (unless c o)
+unless-opens w none o h = h
+unless-opens w (some r) o h = tt
 
-then-opens : {A : Type 0} (s : Statement) (o : Got A) (f : A → Got Outcome) → ((a : A) → Opens s (f a)) → Opens s (then o f)
-then-opens s (trap r) f h = tt
-then-opens s (got a) f h = h a
+then-opens : {A : Type 0} (w : Way) (o : Got A) (f : A → Got Outcome) → ((a : A) → Opens w (f a)) → Opens w (then o f)
+then-opens w (trap r) f h = tt
+then-opens w (got a) f h = h a
 
-branch-opens : (c : Bool) (b : ℕ) (rs : List ℕ) → nextReturns (cond c onA onB) b rs ≡ rs
-branch-opens true b rs = refl
-branch-opens false b rs = refl
+leave-opens : (w : Way) (c : Bool) (vs : List ℕ) (d : Cells) → Opens w (got (leave w c vs d))
+leave-opens following c vs d = λ b rs. refl
+leave-opens branching true vs d = λ b rs. refl
+leave-opens branching false vs d = λ b rs. refl
+leave-opens transferring c vs d = λ b rs. refl
+leave-opens entering c vs d = λ b rs. refl
+leave-opens posting c vs d = λ b rs. refl
+leave-opens calling c vs d = λ b rs. refl
+leave-opens returning c vs d = λ b rs. refl
+leave-opens ending c vs d = tt
 
-perform-opens : (v : View) (s : Statement) (vs : List ℕ) → Opens s (perform v s vs)
-unfolding perform
-perform-opens v Skip vs = λ b rs. refl
-perform-opens v (Assign a) vs = then-opens (Assign a) (compute (a .operation) (getD vs 0 0) (getD vs 1 0)) _ (λ x b rs. refl)
-perform-opens v (If c) vs = branch-opens (holds (c .relation) (getD vs 0 0) (getD vs 1 0))
-perform-opens v SendDirect vs = λ b rs. refl
-perform-opens v SendBuffered vs = unless-opens SendBuffered (leb pendingCount (v .pending)) 4 _ (λ b rs. refl)
-perform-opens v Call vs = unless-opens Call (leb returnCount (v .depth)) 3 _ (λ b rs. refl)
-perform-opens v Return vs = λ b rs. refl
-perform-opens v Transfer vs = λ b rs. refl
-perform-opens v Exit vs = tt
-
-outcome-opens : (v : View) (s : Statement) (given : List Operand) → Opens s (outcome v s given)
-unfolding outcome
-outcome-opens v s given = then-opens s (readAll (v .cells) (reads s given)) _ (λ vs. perform-opens v s vs)
+outcome-opens : (v : View) (s : Statement) (given : List Operand) → Opens (way s) (outcome v s given)
+unfolding outcome perform
+outcome-opens v s given =
+    then-opens (way s) (readAll (v .cells) (reads s given)) _
+    (λ vs. unless-opens (way s) (overflow v s) _ (then-opens (way s) (worked s vs (v .cells)) _ (λ c. leave-opens (way s) (chosen s vs) vs c)))
 
 -- the job goes on with the calls that are open after its statement; RETURN leads to one of those that were open before
-pub record Turned (s : Statement) (b : ℕ) (rs : List ℕ) (j : Job) : Type 0 where
-  pub returns : j .returns ≡ opened s b rs
-  pub label : s ≡ Return → List·Memᴰ (j .label) rs
+pub record Turned (w : Way) (b : ℕ) (rs : List ℕ) (j : Job) : Type 0 where
+  pub returns : j .returns ≡ opened w b rs
+  pub label : w ≡ returning → List·Memᴰ (j .label) rs
 
-abbrev pub EffectTurned : Statement → ℕ → List ℕ → Effect → Type 0
+abbrev pub EffectTurned : Way → ℕ → List ℕ → Effect → Type 0
 EffectTurned s b rs (traps r) = Unit {0}
 EffectTurned s b rs exits = Unit {0}
 EffectTurned s b rs (moves j words g want) = Turned s b rs j
@@ -73,10 +67,10 @@ newest-of r [] = List·Memᴰ·head refl
 newest-of r (x ∷ rs) = List·Memᴰ·tail (newest-of x rs)
 
 -- RETURN takes a label, so a statement that takes none is no RETURN
-no-return : (s : Statement) (n : ℕ) (q : List ℕ) → n ∷ q ≡ opened s 0 (0 ∷ []) → s ≡ Return → ⊥
-no-return s n q h e = let z : n ∷ q ≡ [] = h ∙ ap (λ (w : Statement). opened w 0 (0 ∷ [])) e in never (cc)
+no-return : (s : Way) (n : ℕ) (q : List ℕ) → n ∷ q ≡ opened s 0 (0 ∷ []) → s ≡ returning → ⊥
+no-return s n q h e = let z : n ∷ q ≡ [] = h ∙ ap (λ (w : Way). opened w 0 (0 ∷ [])) e in never (cc)
 
-module _ (s : Statement) (block : ℕ → ℕ) (row : ℕ → Row) (t a b : ℕ) where
+module _ (s : Way) (block : ℕ → ℕ) (row : ℕ → Row) (t a b : ℕ) where
   trap-turned : (c : Bool) (r : ℕ) (rs : List ℕ) (e : Effect) → EffectTurned s b rs e → EffectTurned s b rs (trapIf c r e)
   trap-turned true r rs e h = tt
   trap-turned false r rs e h = h
@@ -97,9 +91,9 @@ module _ (s : Statement) (block : ℕ → ℕ) (row : ℕ → Row) (t a b : ℕ)
   resolve-turned rs (got (goes g)) h = steer-turned g (g .next) rs h
 
 pub act-turned : (image table : List ℕ) (t : ℕ) (j : Job) (words : List ℕ) (n : ℕ)
-    → EffectTurned (statementOf (recordAt image (j .label))) (labelB (recordAt image (j .label))) (j .returns) (actBy image table t j words n)
+    → EffectTurned (wayAt image (j .label)) (labelB (recordAt image (j .label))) (j .returns) (actBy image table t j words n)
 unfolding actBy
 act-turned image table t j words n =
     let r = recordAt image (j .label) in
-    resolve-turned (statementOf r) (blockAt image) (rowAt table) t (labelA r) (labelB r) (j .returns) (outcome (view j words n) (statementOf r) (dataOf r))
+    resolve-turned (wayAt image (j .label)) (blockAt image) (rowAt table) t (labelA r) (labelB r) (j .returns) (outcome (view j words n) (statementOf r) (dataOf r))
     (outcome-opens (view j words n) (statementOf r) (dataOf r))

@@ -1,7 +1,7 @@
 -- What the head of a record that breaks no rule has: a block of the table, as many operands as there are places, and what its opcode
 -- asks for.
 use mathlib.Core.Path.{_≡_, refl}
-use mathlib.Core.Bool.{Bool, true, false, cond, not, _&&_, _||_}
+use mathlib.Core.Bool.{Bool, true, false, cond, not, _&&_, false≢true}
 use mathlib.Core.Option.{Option, none, some}
 use mathlib.Core.List.{List}
 use Prim.Native.Nat.{ℕ, _+_, _≤_, _<_}
@@ -10,10 +10,11 @@ use lib.Dec.{eqb, leb, ltb}
 use borrow.Author.Tests.{eqb-true, leb-true, ltb-true}
 use Rattle.rules.specs.Sizes.{blockCount, operandCount}
 use Rattle.rules.specs.Image.{opcode, blockField, entry, operator, operands, kind, value}
-use Rattle.rules.specs.Statements.{shape, destinations, operationAt}
-use Rattle.rules.specs.Check.{assignOk, otherOk, shapeOk, headOk}
+use Rattle.rules.specs.Statements.{shape, destinations, operationAt, others, otherIn, otherAt, Sources, nothing, carried, pair, usage}
+use Rattle.rules.specs.Check.{assignOk, operatorOk, countOk, usageOk, otherOk, shapeOk, headOk}
 use Rattle.rules.specs.declared.statement.Operation.{Operation}
 use Rattle.rules.specs.declared.statement.Shape.{Shape}
+use Rattle.rules.specs.declared.statement.Statement.{Statement}
 use Rattle.laws.specs.Logic.{and-both}
 
 pub record Head (r : List ℕ) : Type 0 where
@@ -45,14 +46,23 @@ least true false = omega arith
 least false true = omega arith
 least false false = omega arith
 
-few-other : (branch sends : Bool) (a b d c : Bool) (n : ℕ) → cond branch (a && eqb n 2) (cond sends (b && leb n operandCount) (d && c && eqb n 0)) ≡ true → n ≤ operandCount
-few-other true sends a b d c n h = omega (arith, eqb-true n 2 (and-both a (eqb n 2) h .1))
-few-other false true a b d c n h = leb-true n operandCount (and-both b (leb n operandCount) h .1)
-few-other false false a b d c n h = omega (arith, eqb-true n 0 (and-both (d && c) (eqb n 0) h .1))
+-- the statement of an opcode that is not of ASSIGN's kind
+pub other-found : (r : List ℕ) (op : ℕ) (s : Statement) → opcode r ≡ op → otherIn others op r ≡ some s → otherAt r ≡ some s
+unfolding otherAt
+other-found r op s e f = rw e f
+
+few-read : (s : Sources) (n : ℕ) → countOk s n ≡ true → n ≤ operandCount
+few-read nothing n h = omega (arith, eqb-true n 0 h)
+few-read carried n h = leb-true n operandCount h
+few-read (pair p q) n h = omega (arith, eqb-true n 2 h)
+
+few-used : (s : Option Statement) (o n : ℕ) → usageOk s o n ≡ true → n ≤ operandCount
+few-used none o n h = absurd (false≢true h)
+few-used (some s) o n h = few-read (usage s .sources) n (and-both (operatorOk (usage s .operators) o) (countOk (usage s .sources) n) h .1)
 
 pub few-by : (k : Option Operation) (r : List ℕ) → shapeOk k r ≡ true → operands r ≤ operandCount
 unfolding otherOk
-few-by none r h = few-other (eqb (opcode r) 4) (leb 5 (opcode r) && leb (opcode r) 9) (leb 1 (operator r) && leb (operator r) 2) (eqb (operator r) 0) (eqb (opcode r) 1 || eqb (opcode r) 3 || eqb (opcode r) 10) (eqb (operator r) 0) (operands r) h
+few-by none r h = few-used (otherAt r) (operator r) (operands r) h
 few-by (some k) r h = omega (arith, assigning (shape k) (operands r) (kind r 0) (value r 0) (kind r 1) (value r 1) h .count, least (shape k .second) (shape k .right))
 
 pub few-operands : {r : List ℕ} → Head r → operands r ≤ operandCount

@@ -1,20 +1,16 @@
--- What is shown statement by statement: a statement speaks of no label that it does not use, and uses each by its role.
+-- What is shown by where a statement leads: it speaks of no label that it does not use, and uses each by its role.
 use mathlib.Core.Path.{_≡_, refl}
 use mathlib.Core.Logic.{_⊎_, inl, inr}
-use mathlib.Core.Bool.{Bool, true, false, cond}
+use mathlib.Core.Bool.{Bool, true, false}
 use mathlib.Core.Option.{Option, none, some}
 use mathlib.Core.List.{List}
 use Prim.Native.Nat.{ℕ}
-use lib.Dec.{leb}
-use lib.ListN.{getD}
-use Rattle.rules.specs.Sizes.{returnCount, pendingCount}
-use Rattle.rules.specs.Statements.{reads, roleA, roleB}
-use Rattle.rules.specs.Effects.{Got, trap, got, then, unless, Next, onA, onB, intoA, callA, back, Outcome, ends, goes, View, readAll, compute, holds, perform, outcome}
+use Rattle.rules.specs.Statements.{Way, following, branching, transferring, entering, posting, calling, returning, ending, way, wayA, wayB, roleA, roleB, reads}
+use Rattle.rules.specs.Effects.{Got, trap, got, then, unless, Cells, readAll, Next, onA, onB, intoA, callA, back, Outcome, ends, goes, View, leave, overflow, worked, chosen, perform, outcome}
 use Rattle.rules.specs.declared.statement.Operand.{Operand}
 use Rattle.rules.specs.declared.statement.Role.{Role}
 use Rattle.rules.specs.declared.statement.Role.the-variants.{Inner, Direct, Local, Buffered}
 use Rattle.rules.specs.declared.statement.Statement.{Statement}
-use Rattle.rules.specs.declared.statement.Statement.the-variants.{Skip, Assign, If, SendDirect, SendBuffered, Call, Return, Transfer, Exit}
 
 -- given the roles of A and B: where it leads
 abbrev pub Leads : Role → Role → Next → Type 0
@@ -35,29 +31,30 @@ Refers x y (got ends) = Unit {0}
 Refers x y (got (goes g)) = Leads x y (g .next) × Sends x (g .sent)
 
 module _ (x y : Role) where
-  unless-refers : (c : Bool) (r : ℕ) (o : Got Outcome) → Refers x y o → Refers x y (unless c r o)
-  unless-refers true r o h = tt
-  unless-refers false r o h = h
+  unless-refers : (c : Option ℕ) (o : Got Outcome) → Refers x y o → Refers x y (unless c o)
+  unless-refers none o h = h
+  unless-refers (some r) o h = tt
 
   then-refers : {A : Type 0} (o : Got A) (f : A → Got Outcome) → ((a : A) → Refers x y (f a)) → Refers x y (then o f)
   then-refers (trap r) f h = tt
   then-refers (got a) f h = h a
 
-branches : (c : Bool) → Leads Inner Inner (cond c onA onB)
-branches true = inl refl
-branches false = refl
+leave-refers : (w : Way) (c : Bool) (vs : List ℕ) (d : Cells) → Refers (wayA w) (wayB w) (got (leave w c vs d))
+leave-refers following c vs d = (inl refl, tt)
+leave-refers branching true vs d = (inl refl, tt)
+leave-refers branching false vs d = (refl, tt)
+leave-refers transferring c vs d = (inr refl, tt)
+leave-refers entering c vs d = (refl, tt)
+leave-refers posting c vs d = (refl, refl)
+leave-refers calling c vs d = ((refl, refl), tt)
+leave-refers returning c vs d = (tt, tt)
+leave-refers ending c vs d = tt
 
 perform-refers : (v : View) (s : Statement) (vs : List ℕ) → Refers (roleA s) (roleB s) (perform v s vs)
 unfolding perform
-perform-refers v Skip vs = (inl refl, tt)
-perform-refers v (Assign a) vs = then-refers _ _ (compute (a .operation) (getD vs 0 0) (getD vs 1 0)) _ (λ w. (inl refl, tt))
-perform-refers v (If c) vs = (branches (holds (c .relation) (getD vs 0 0) (getD vs 1 0)), tt)
-perform-refers v SendDirect vs = (refl, tt)
-perform-refers v SendBuffered vs = unless-refers _ _ (leb pendingCount (v .pending)) 4 _ (refl, refl)
-perform-refers v Call vs = unless-refers _ _ (leb returnCount (v .depth)) 3 _ ((refl, refl), tt)
-perform-refers v Return vs = (tt, tt)
-perform-refers v Transfer vs = (inr refl, tt)
-perform-refers v Exit vs = tt
+perform-refers v s vs =
+    unless-refers (roleA s) (roleB s) (overflow v s) _
+    (then-refers (roleA s) (roleB s) (worked s vs (v .cells)) _ (λ c. leave-refers (way s) (chosen s vs) vs c))
 
 pub refers : (v : View) (s : Statement) (given : List Operand) → Refers (roleA s) (roleB s) (outcome v s given)
 unfolding outcome

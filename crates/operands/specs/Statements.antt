@@ -1,17 +1,18 @@
 -- What the statement of a record that breaks no rule has: the opcode that it says, operands within limits, and for an assignment a
 -- register or a shared word as its destination.
-use mathlib.Core.Path.{_≡_, refl, subst}
-use mathlib.Core.Bool.{Bool, true, false, cond, _&&_, _||_, false≢true}
+use mathlib.Core.Path.{_≡_, refl, sym, subst}
+use mathlib.Core.Bool.{Bool, true, false, cond, _&&_, false≢true}
 use mathlib.Core.Option.{Option, none, some}
-use mathlib.Core.List.{List}
+use mathlib.Core.List.{List, [], _∷_}
 use Prim.Native.Nat.{ℕ, zero, suc, _+_, _<_}
 use native.Mathlib.Omega.{arith}
 use lib.Dec.{eqb, leb}
 use borrow.Author.Tests.{eqb-true}
 use Rattle.rules.specs.Sizes.{registerCount, wordCount}
+use Rattle.rules.specs.Codes.{ifCode, lessCode}
 use Rattle.rules.specs.Image.{opcode, operator, operands, kind, value}
-use Rattle.rules.specs.Statements.{operandOf, operandAt, operationAt, shape, destinations, optional, assignmentBy, assignmentOf, conditionOf, otherOf, statementBy, statementOf}
-use Rattle.rules.specs.Check.{otherOk}
+use Rattle.rules.specs.Statements.{operandOf, operandAt, operationAt, shape, destinations, optional, assignmentBy, assignmentOf, conditionOf, Other, others, otherIn, otherAt, otherOr, statementBy, statementOf}
+use Rattle.rules.specs.Check.{operatorOk, otherOk, shapeOk}
 use Rattle.rules.specs.declared.statement.Operand.{Operand}
 use Rattle.rules.specs.declared.statement.Operand.the-variants.{Number, Register, Word}
 use Rattle.rules.specs.declared.statement.Operation.{Operation}
@@ -20,7 +21,7 @@ use Rattle.rules.specs.declared.statement.Assignment.{Assignment}
 use Rattle.rules.specs.declared.statement.Condition.{Condition}
 use Rattle.rules.specs.declared.statement.Statement.{Statement}
 use Rattle.rules.specs.declared.statement.Statement.the-variants.{Skip, Assign, If, SendDirect, SendBuffered, Call, Return, Transfer, Exit}
-use Rattle.laws.specs.Logic.{and-both}
+use Rattle.laws.specs.Logic.{never, and-both}
 use Rattle.laws.specs.Heads.{head-fields, Assigning, assigning}
 use Rattle.laws.specs.Passed.{Parts}
 use Rattle.operands.specs.Legal.{Fits, slot-fits}
@@ -30,7 +31,7 @@ use Rattle.operands.specs.Legal.{Fits, slot-fits}
 abbrev Says : List ℕ → Statement → Type 0
 Says r Skip = Unit {0}
 Says r (Assign a) = (operationAt (opcode r) (operator r) ≡ some (a .operation)) × (a ≡ assignmentOf (a .operation) r)
-Says r (If c) = (operationAt (opcode r) (operator r) ≡ none) × (opcode r ≡ 4) × (c ≡ conditionOf r)
+Says r (If c) = (otherAt r ≡ some (If c)) × (opcode r ≡ ifCode) × (c ≡ conditionOf r)
 Says r SendDirect = Unit {0}
 Says r SendBuffered = Unit {0}
 Says r Call = Unit {0}
@@ -38,23 +39,35 @@ Says r Return = Unit {0}
 Says r Transfer = Unit {0}
 Says r Exit = Unit {0}
 
+-- each row of the opcodes that are not of ASSIGN's kind
+AllSay : List ℕ → List Other → Type 0
+AllSay r [] = Unit {0}
+AllSay r (x ∷ xs) = (opcode r ≡ x .opcode → otherAt r ≡ some (x .statement r) → Says r (x .statement r)) × AllSay r xs
+
+others-say : (r : List ℕ) → AllSay r others
+unfolding AllSay
+others-say r = (λ e f. tt, (λ e f. tt, (λ e f. (f, e, refl), (λ e f. tt, (λ e f. tt, (λ e f. tt, (λ e f. tt, (λ e f. tt, (λ e f. tt, tt)))))))))
+
+says-in : (r : List ℕ) (xs : List Other) → AllSay r xs → otherAt r ≡ otherIn xs (opcode r) r → Says r (otherOr (otherIn xs (opcode r) r))
+unfolding AllSay
+says-in r [] h f = tt
+says-in r (x ∷ xs) h f = case (eqb (opcode r) (x .opcode)) refl f (says-in r xs (h .1))
+  where
+    case : (b : Bool) → eqb (opcode r) (x .opcode) ≡ b → otherAt r ≡ cond b (some (x .statement r)) (otherIn xs (opcode r) r)
+        → (otherAt r ≡ otherIn xs (opcode r) r → Says r (otherOr (otherIn xs (opcode r) r))) → Says r (otherOr (cond b (some (x .statement r)) (otherIn xs (opcode r) r)))
+    case true e f ih = h .0 (eqb-true (opcode r) (x .opcode) e) f
+    case false e f ih = ih f
+
+others-are : (r : List ℕ) → otherAt r ≡ otherIn others (opcode r) r
+unfolding otherAt
+others-are r = refl
+
 says : (r : List ℕ) → Says r (statementOf r)
-unfolding statementOf assignmentBy otherOf
+unfolding statementOf assignmentBy
 says r = by (operationAt (opcode r) (operator r)) refl
   where
-    go : operationAt (opcode r) (operator r) ≡ none → (a c d e f g h : Bool) → eqb (opcode r) 4 ≡ c
-        → Says r (cond a Skip (cond c (If (conditionOf r)) (cond d SendDirect (cond e SendBuffered (cond f Call (cond g Return (cond h Transfer Exit)))))))
-    go n true c d e f g h q = tt
-    go n false true d e f g h q = (n, eqb-true (opcode r) 4 q, refl)
-    go n false false true e f g h q = tt
-    go n false false false true f g h q = tt
-    go n false false false false true g h q = tt
-    go n false false false false false true h q = tt
-    go n false false false false false false true q = tt
-    go n false false false false false false false q = tt
-
     by : (k : Option Operation) → operationAt (opcode r) (operator r) ≡ k → Says r (statementBy k r)
-    by none n = go n (eqb (opcode r) 1 || eqb (opcode r) 3) (eqb (opcode r) 4) (eqb (opcode r) 5) (eqb (opcode r) 6) (eqb (opcode r) 7) (eqb (opcode r) 8) (eqb (opcode r) 9) refl
+    by none n = subst (λ (o : Option Statement). Says r (otherOr o)) (sym (others-are r)) (says-in r others (others-say r) (others-are r))
     by (some k) n = (n, refl)
 
 -- ---- ASSIGN and its kind
@@ -118,15 +131,21 @@ module _ {image r : List ℕ} (p : Parts image r) (a : Assignment) (e : statemen
 -- ---- IF
 
 module _ {image r : List ℕ} (p : Parts image r) (c : Condition) (e : statementOf r ≡ If c) where
-  said : (operationAt (opcode r) (operator r) ≡ none) × (opcode r ≡ 4) × (c ≡ conditionOf r)
+  said : (otherAt r ≡ some (If c)) × (opcode r ≡ ifCode) × (c ≡ conditionOf r)
   said = subst (Says r) e (says r)
 
-  pub tests : (opcode r ≡ 4) × (c ≡ conditionOf r)
+  pub tests : (opcode r ≡ ifCode) × (c ≡ conditionOf r)
   tests = (said .1, said .2)
 
   two : operands r ≡ 2
-  unfolding otherOk
-  two = eqb-true (operands r) 2 (and-both (leb 1 (operator r) && leb (operator r) 2) (eqb (operands r) 2) (rw (said .0, said .1) at (head-fields r (p .head) .shaped)) .1)
+  two = case (operationAt (opcode r) (operator r)) refl (head-fields r (p .head) .shaped)
+    where
+      pair : otherOk r ≡ true → operands r ≡ 2
+      pair h = unfold otherOk in eqb-true (operands r) 2 (and-both (operatorOk lessCode (operator r)) (eqb (operands r) 2) (rw (said .0) at h) .1)
+
+      case : (k : Option Operation) → operationAt (opcode r) (operator r) ≡ k → shapeOk k r ≡ true → operands r ≡ 2
+      case none f h = pair h
+      case (some k) f h = never (let z : statementBy (some k) r ≡ If c = unfold statementOf in rw f at e in cc)
 
   pub tests-left : Fits (operandAt r 0)
   tests-left = slot-fits r (p .slots) 0 (omega (arith, two)) (omega arith)

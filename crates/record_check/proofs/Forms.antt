@@ -1,19 +1,21 @@
 -- What the opcode of a record asks for, opcode by opcode.
-use mathlib.Core.Path.{_≡_, refl}
-use mathlib.Core.Bool.{Bool, true, false, _&&_, and-false}
+use mathlib.Core.Path.{_≡_, refl, ap, _∙_}
+use mathlib.Core.Bool.{Bool, true, false, cond, _&&_, and-true, and-false}
 use mathlib.Core.Option.{Option, none, some}
-use mathlib.Core.List.{List}
-use Prim.Native.Nat.{ℕ, _<_}
-use native.Mathlib.Decide.{decLt}
+use mathlib.Core.List.{List, [], _∷_, _++_}
+use Prim.Native.Nat.{ℕ, _≤_, _<_}
 use native.Mathlib.Omega.{arith}
-use lib.Dec.{leb, ltb}
-use borrow.Author.Tests.{lt-leb, ne-eqb}
+use lib.Dec.{eqb, ltb}
+use lib.ListN.{take, drop}
+use borrow.Author.Tests.{le-leb, ne-eqb}
+use Rattle.rules.specs.Sizes.{operandCount}
+use Rattle.rules.specs.Codes.{exitCode}
 use Rattle.rules.specs.Image.{opcode, blockField, entry, operator, operands}
-use Rattle.rules.specs.Statements.{operationAt, assignmentOf, otherOf, statementOf}
+use Rattle.rules.specs.Statements.{operationAt, assignmentOf, Other, others, otherIn, otherAt, otherOr, otherOf, statementOf, carried, usage}
 use Rattle.rules.specs.declared.statement.Operation.{Operation}
 use Rattle.rules.specs.declared.statement.Statement.{Statement}
-use Rattle.rules.specs.declared.statement.Statement.the-variants.{Assign}
-use Rattle.rules.specs.Check.{otherOk, shapeOk}
+use Rattle.rules.specs.declared.statement.Statement.the-variants.{Assign, Exit}
+use Rattle.rules.specs.Check.{usageOk, otherOk, shapeOk}
 use Rattle.laws.specs.Heads.{few-by}
 use Rattle.record_check.specs.Forms.{labelsOk, formOk, outlineOk}
 
@@ -22,18 +24,27 @@ pub within : (below same direct : Bool) → (below && same && (below && direct))
 within true same direct = refl
 within false same direct = refl
 
--- no SEND, CALL, RETURN or TRANSFER
-no-data : (op : ℕ) → (op ≡ 5 → ⊥) → (op ≡ 6 → ⊥) → (op ≡ 7 → ⊥) → (op ≡ 8 → ⊥) → (op ≡ 9 → ⊥) → (leb 5 op && leb op 9) ≡ false
-no-data op a b c d e = go (decLt op 5) (decLt 9 op)
-  where
-    go : Dec (op < 5) → Dec (9 < op) → (leb 5 op && leb op 9) ≡ false
-    go (yes h) k = rw (lt-leb 5 op h) refl
-    go (no h) (yes k) = rw (lt-leb op 9 k) (and-false (leb 5 op))
-    go (no h) (no k) = absurd (omega arith)
+-- none of these opcodes
+abbrev pub NoRow : ℕ → List Other → Type 0
+NoRow op [] = Unit {0}
+NoRow op (x ∷ xs) = (op ≡ x .opcode → ⊥) × NoRow op xs
 
-pub no-other : (op o c : ℕ) → (op ≡ 1 → ⊥) → (op ≡ 3 → ⊥) → (op ≡ 4 → ⊥) → (op ≡ 5 → ⊥) → (op ≡ 6 → ⊥) → (op ≡ 7 → ⊥) → (op ≡ 8 → ⊥) → (op ≡ 9 → ⊥) → (op ≡ 10 → ⊥) → otherOk op o c ≡ false
-unfolding otherOk
-no-other op o c a₁ a₃ a₄ a₅ a₆ a₇ a₈ a₉ a₁₀ = rw (ne-eqb op 4 a₄, no-data op a₅ a₆ a₇ a₈ a₉, ne-eqb op 1 a₁, ne-eqb op 3 a₃, ne-eqb op 10 a₁₀) refl
+no-row : (r : List ℕ) (op : ℕ) (xs ys : List Other) → NoRow op xs → otherIn (xs ++ ys) op r ≡ otherIn ys op r
+no-row r op [] ys h = refl
+no-row r op (x ∷ xs) ys h = rw (ne-eqb op (x .opcode) (h .0)) (no-row r op xs ys (h .1))
+
+pub no-other : (r : List ℕ) → NoRow (opcode r) others → otherOk r ≡ false
+unfolding otherOk otherAt
+no-other r h = ap (λ (s : Option Statement). usageOk s (operator r) (operands r)) (no-row r (opcode r) others [] h)
+
+-- what is not one of the first eight rows reads as EXIT
+pub else-exits : (r : List ℕ) → NoRow (opcode r) (take 8 others) → otherOf r ≡ Exit
+unfolding otherAt
+else-exits r h = ap otherOr (no-row r (opcode r) (take 8 others) (drop 8 others) h) ∙ last (eqb (opcode r) exitCode)
+  where
+    last : (b : Bool) → otherOr (cond b (some Exit) none) ≡ Exit
+    last true = refl
+    last false = refl
 
 module _ (image r : List ℕ) where
   abbrev found : Option Operation
@@ -52,10 +63,16 @@ module _ (image r : List ℕ) where
   unfolding formOk statementOf
   form-assign k e = rw e refl
 
-  pub form-none : found ≡ none → formOk image r ≡ (otherOk (opcode r) (operator r) (operands r) && labelsOk image r (otherOf r))
+  pub form-none : found ≡ none → formOk image r ≡ (otherOk r && labelsOk image r (otherOf r))
   unfolding formOk statementOf
   form-none e = rw e refl
 
-  pub form-other : (op : ℕ) (s : Statement) → opcode r ≡ op → otherOf r ≡ s
-      → (otherOk (opcode r) (operator r) (operands r) && labelsOk image r (otherOf r)) ≡ (otherOk op (operator r) (operands r) && labelsOk image r s)
-  form-other op s e f = rw (e, f) refl
+  pub form-other : (s : Statement) → otherAt r ≡ some s
+      → (otherOk r && labelsOk image r (otherOf r)) ≡ (usageOk (some s) (operator r) (operands r) && labelsOk image r s)
+  unfolding otherOk
+  form-other s e = rw e refl
+
+  -- an opcode with data: no operator, and any count of operands up to 25
+  pub form-carried : (s : Statement) → otherAt r ≡ some s → usage s .operators ≡ 0 → usage s .sources ≡ carried → operands r ≤ operandCount
+      → (otherOk r && labelsOk image r (otherOf r)) ≡ (eqb (operator r) 0 && labelsOk image r s)
+  form-carried s e f g h = form-other s e ∙ rw (f, g, le-leb (operands r) operandCount h, and-true) refl

@@ -20,7 +20,7 @@ ghost use Prim.Native.Nat.{_≤_};
 ghost use lib.Dec.{eqb, ltb};
 ghost use lib.ListN.{length};
 ghost use Rattle.rules.specs.Sizes.{recordSize, operandCount};
-ghost use Rattle.rules.specs.Image.{labels, recordAt, opcode, blockField, entry, operator, operands, labelA, labelB, kind, value};
+ghost use Rattle.rules.specs.Image.{labels, recordAt, blockField, entry, operands, labelA, labelB, kind, value};
 ghost use Rattle.rules.specs.Statements.{otherOf};
 ghost use Rattle.rules.specs.Check.{assignOk, otherOk, labelOk};
 ghost use Rattle.record_check.specs.Forms.{labelsOk, formOk, outlineOk};
@@ -90,7 +90,7 @@ pub fn assign_ok(r: &[u8], s: Shape, c: usize) -> bool
 // What any other opcode asks of the operator, the operand count and the labels.
 pub fn other_ok(image: &[u8], n: usize, r: &[u8], c: usize) -> bool
     requires { ⌜ (n ≡ labels (now image)) × (length (now r) ≡ recordSize) × (c ≡ operands (now r)) × (c ≤ operandCount) ⌝ }
-    ensures { λ z. ⌜ z ≡ (otherOk (opcode (now (r .entry))) (operator (now (r .entry))) (operands (now (r .entry))) && labelsOk (now (image .entry)) (now (r .entry)) (otherOf (now (r .entry)))) ⌝ }
+    ensures { λ z. ⌜ z ≡ (otherOk (now (r .entry)) && labelsOk (now (image .entry)) (now (r .entry)) (otherOf (now (r .entry)))) ⌝ }
 {
     let o = r[3];
     match r[0] {

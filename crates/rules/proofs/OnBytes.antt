@@ -9,7 +9,7 @@ use Rattle.rules.specs.Sizes.{tableSize, wordsSize, stateSize}
 use Rattle.rules.specs.Bytes.{num16, num32, part, isZeros, allFrom, firstBad, blocks, pad, chunks, every}
 use Rattle.rules.specs.Image.{labels, recordAt, rowAt}
 use Rattle.rules.specs.Statements.{operandOf, operandAt, operandsFrom, operationAt, optional, assignmentBy}
-use Rattle.rules.specs.Statements.{relationOf, conditionOf, otherOf, statementOf}
+use Rattle.rules.specs.Statements.{relationOf, conditionOf, otherAt, statementOf}
 use Rattle.rules.specs.Check.{assignOk, otherOk, headOk, slotOk, labelOk, ruleOk, recordOk, rowOk, imageLengthFault, tableLengthFault, tableFault, recordFault, firstOf}
 use Rattle.rules.specs.Machine.{fresh, queue, first, put, cells, stores, window, keep}
 use Rattle.rules.specs.Encoding.{presence, threadRaw, threadBytes, registersFrom, jobFrom, threadFrom, signalBytes, signalFrom, treeBytes, treeFrom, encode, wordsFrom, machineFrom}
@@ -185,7 +185,7 @@ pub record OnBytes : Type 0 where
 
 pub onBytes : OnBytes
 unfolding num16 num32 part isZeros allFrom firstBad blocks pad chunks every labels recordAt rowAt operandOf operandAt operandsFrom
-    operationAt optional assignmentBy relationOf conditionOf otherOf statementOf assignOk otherOk headOk slotOk labelOk ruleOk
+    operationAt optional assignmentBy relationOf conditionOf otherAt statementOf assignOk otherOk headOk slotOk labelOk ruleOk
     recordOk rowOk imageLengthFault tableLengthFault tableFault recordFault firstOf ℕ-discrete fresh queue first put cells stores
     window keep presence threadRaw threadBytes registersFrom jobFrom threadFrom signalBytes signalFrom treeBytes treeFrom encode
     wordsFrom machineFrom code detail answerBytes eventFrom arrivalOk turnOk eventOk eventAtOk eventsFrom readAll perform outcome

@@ -1,19 +1,20 @@
 -- The rules of a record and of the block table, and the refusals 1 to 4. A refusal is 65,536 × number + place, and 0 where its cause
 -- does not apply.
 use mathlib.Core.Path.{_≡_}
-use mathlib.Core.Bool.{Bool, true, cond, not, _&&_, _||_}
+use mathlib.Core.Bool.{Bool, true, false, cond, not, _&&_, _||_}
 use mathlib.Core.Option.{Option, none, some}
 use mathlib.Core.List.{List, [], _∷_}
 use Prim.Native.Nat.{ℕ, _+_, _*_}
 use lib.ListN.{length}
 use lib.Dec.{eqb, leb, ltb}
 use Rattle.rules.specs.Sizes.{blockCount, registerCount, wordCount, operandCount, tableSize}
-use Rattle.rules.specs.Codes.{skipCode, gotoCode, ifCode, sendDirectCode, transferCode, exitCode, equalCode, lessCode, directCode, bufferedCode, numberOperandCode, registerOperandCode, wordOperandCode}
+use Rattle.rules.specs.Codes.{directCode, bufferedCode, numberOperandCode, registerOperandCode, wordOperandCode}
 use Rattle.rules.specs.Bytes.{allFrom, firstBad, every}
 use Rattle.rules.specs.Image.{labels, recordAt, opcode, blockField, entry, operator, labelA, labelB, operands, kind, value, Field, rowFields, fieldAt}
-use Rattle.rules.specs.Statements.{shape, destinations, operationAt, statementOf, roleA, roleB}
+use Rattle.rules.specs.Statements.{shape, destinations, operationAt, otherAt, statementOf, Sources, nothing, carried, pair, usage, roleA, roleB}
 use Rattle.rules.specs.declared.statement.Operation.{Operation}
 use Rattle.rules.specs.declared.statement.Shape.{Shape}
+use Rattle.rules.specs.declared.statement.Statement.{Statement}
 use Rattle.rules.specs.declared.statement.Role.{Role}
 use Rattle.rules.specs.declared.statement.Role.the-variants.{Unused, Inner, Direct, Local, Buffered}
 
@@ -24,15 +25,24 @@ unfoldable pub assignOk : Shape → ℕ → ℕ → ℕ → ℕ → ℕ → Bool
 assignOk s c k v k′ v′ =
     eqb c (destinations s + cond (s .right) 2 1) && leb 2 k && cond (s .second) (leb 2 k′ && not (eqb k k′ && eqb v v′)) true
 
--- any other: IF has operator 1 or 2 and p, q; opcodes 5 to 9 have 0 to 25 data operands; 1, 3 and 10 have none
-unfoldable pub otherOk : ℕ → ℕ → ℕ → Bool
-otherOk op o c =
-    cond (eqb op ifCode) ((leb equalCode o && leb o lessCode) && eqb c 2)
-    (cond (leb sendDirectCode op && leb op transferCode) (eqb o 0 && leb c operandCount)
-    ((eqb op skipCode || eqb op gotoCode || eqb op exitCode) && eqb o 0 && eqb c 0))
+-- any other: an operator that it has, zero if it has none, and as many operands as it reads
+abbrev pub operatorOk : ℕ → ℕ → Bool
+operatorOk n o = cond (eqb n 0) (eqb o 0) (leb 1 o && leb o n)
+
+abbrev pub countOk : Sources → ℕ → Bool
+countOk nothing c = eqb c 0
+countOk carried c = leb c operandCount
+countOk (pair p q) c = eqb c 2
+
+abbrev pub usageOk : Option Statement → ℕ → ℕ → Bool
+usageOk none o c = false
+usageOk (some s) o c = operatorOk (usage s .operators) o && countOk (usage s .sources) c
+
+unfoldable pub otherOk : List ℕ → Bool
+otherOk r = usageOk (otherAt r) (operator r) (operands r)
 
 abbrev pub shapeOk : Option Operation → List ℕ → Bool
-shapeOk none r = otherOk (opcode r) (operator r) (operands r)
+shapeOk none r = otherOk r
 shapeOk (some k) r = assignOk (shape k) (operands r) (kind r 0) (value r 0) (kind r 1) (value r 1)
 
 -- block 0 to 15, entry 0 to 3, and what the opcode asks of operator and operands

@@ -9,7 +9,7 @@ use lib.Dec.{eqb, leb, ltb}
 use Rattle.rules.specs.Sizes.{returnCount, pendingCount}
 use Rattle.rules.specs.Codes.{absentRegisterCode, returnsFullCode, pendingFullCode}
 use Rattle.rules.specs.Machine.{fill}
-use Rattle.rules.specs.Statements.{reads}
+use Rattle.rules.specs.Statements.{Way, following, branching, transferring, entering, posting, calling, returning, ending, way, reads}
 use Rattle.rules.specs.declared.statement.Operand.{Operand}
 use Rattle.rules.specs.declared.statement.Operand.the-variants.{Number, Register, Word}
 use Rattle.rules.specs.declared.statement.Operation.{Operation}
@@ -31,10 +31,10 @@ module _ {A B : Type 0} where
   then (got x) f = f x
 
 module _ {A : Type 0} where
-  -- a trap with this reason if a test holds
-  abbrev pub unless : Bool → ℕ → Got A → Got A
-  unless true r x = trap r
-  unless false r x = x
+  -- a trap, if there is a reason for one
+  abbrev pub unless : Option ℕ → Got A → Got A
+  unless none x = x
+  unless (some r) x = trap r
 
 -- ---- reading and computing
 
@@ -107,9 +107,6 @@ pub record View : Type 0 where
   pub depth : ℕ
   pub pending : ℕ
 
-abbrev pub go : Next → Cells → Got Outcome
-go n c = got (goes (record { next = n; cells = c; sent = none }))
-
 -- the k data values in registers 0 to k - 1; the rest absent
 abbrev pub filled : List ℕ → Cells → Cells
 filled vs c = record { registers = fill vs; words = c .words }
@@ -118,17 +115,87 @@ filled vs c = record { registers = fill vs; words = c .words }
 abbrev pub overlaid : List ℕ → Cells → Cells
 overlaid vs c = record { registers = map some vs ++ drop (length vs) (c .registers); words = c .words }
 
--- what a statement does with the values that it read. CALL with 8 return labels: reason 3; buffered SEND with 8 pending: reason 4
+-- ---- what a way leaves, and where it leads
+
+-- by whether a condition holds; nowhere, where the job ends
+abbrev pub nextOf : Way → Bool → Option Next
+nextOf following holds = some onA
+nextOf branching holds = some (cond holds onA onB)
+nextOf transferring holds = some onA
+nextOf entering holds = some intoA
+nextOf posting holds = some onB
+nextOf calling holds = some callA
+nextOf returning holds = some back
+nextOf ending holds = none
+
+-- direct SEND, CALL and RETURN fill the registers, TRANSFER writes over them
+abbrev pub handed : Way → List ℕ → Cells → Cells
+handed following vs c = c
+handed branching vs c = c
+handed transferring vs c = overlaid vs c
+handed entering vs c = filled vs c
+handed posting vs c = c
+handed calling vs c = filled vs c
+handed returning vs c = filled vs c
+handed ending vs c = c
+
+abbrev pub posted : Way → List ℕ → Option (List ℕ)
+posted following vs = none
+posted branching vs = none
+posted transferring vs = none
+posted entering vs = none
+posted posting vs = some vs
+posted calling vs = none
+posted returning vs = none
+posted ending vs = none
+
+abbrev pub leaveTo : Option Next → Cells → Option (List ℕ) → Outcome
+leaveTo none c sent = ends
+leaveTo (some n) c sent = goes (record { next = n; cells = c; sent = sent })
+
+abbrev pub leave : Way → Bool → List ℕ → Cells → Outcome
+leave w holds vs c = leaveTo (nextOf w holds) (handed w vs c) (posted w vs)
+
+-- ---- what a statement does with the values that it read
+
+-- no room for what it adds: CALL with 8 return labels: reason 3; buffered SEND with 8 pending: reason 4
+abbrev pub overflow : View → Statement → Option ℕ
+overflow v Skip = none
+overflow v (Assign a) = none
+overflow v (If c) = none
+overflow v SendDirect = none
+overflow v SendBuffered = cond (leb pendingCount (v .pending)) (some pendingFullCode) none
+overflow v Call = cond (leb returnCount (v .depth)) (some returnsFullCode) none
+overflow v Return = none
+overflow v Transfer = none
+overflow v Exit = none
+
+-- ASSIGN computes and stores
+abbrev pub worked : Statement → List ℕ → Cells → Got Cells
+worked Skip vs c = got c
+worked (Assign a) vs c = then (compute (a .operation) (getD vs 0 0) (getD vs 1 0)) (λ x. got (assigned a x c))
+worked (If i) vs c = got c
+worked SendDirect vs c = got c
+worked SendBuffered vs c = got c
+worked Call vs c = got c
+worked Return vs c = got c
+worked Transfer vs c = got c
+worked Exit vs c = got c
+
+-- IF goes by its condition
+abbrev pub chosen : Statement → List ℕ → Bool
+chosen Skip vs = true
+chosen (Assign a) vs = true
+chosen (If c) vs = holds (c .relation) (getD vs 0 0) (getD vs 1 0)
+chosen SendDirect vs = true
+chosen SendBuffered vs = true
+chosen Call vs = true
+chosen Return vs = true
+chosen Transfer vs = true
+chosen Exit vs = true
+
 unfoldable pub perform : View → Statement → List ℕ → Got Outcome
-perform v Skip vs = go onA (v .cells)
-perform v (Assign a) vs = then (compute (a .operation) (getD vs 0 0) (getD vs 1 0)) (λ x. go onA (assigned a x (v .cells)))
-perform v (If c) vs = go (cond (holds (c .relation) (getD vs 0 0) (getD vs 1 0)) onA onB) (v .cells)
-perform v SendDirect vs = go intoA (filled vs (v .cells))
-perform v SendBuffered vs = unless (leb pendingCount (v .pending)) pendingFullCode (got (goes (record { next = onB; cells = v .cells; sent = some vs })))
-perform v Call vs = unless (leb returnCount (v .depth)) returnsFullCode (go callA (filled vs (v .cells)))
-perform v Return vs = go back (filled vs (v .cells))
-perform v Transfer vs = go onA (overlaid vs (v .cells))
-perform v Exit vs = got ends
+perform v s vs = unless (overflow v s) (then (worked s vs (v .cells)) (λ c. got (leave (way s) (chosen s vs) vs c)))
 
 -- all data are read before any register changes
 unfoldable pub outcome : View → Statement → List Operand → Got Outcome

@@ -1,10 +1,10 @@
 -- "Opcodes": the statement of a record, its operands, and what it uses its two labels for.
-use mathlib.Core.Bool.{Bool, true, false, cond, _&&_, _||_}
+use mathlib.Core.Bool.{Bool, true, false, cond, _&&_}
 use mathlib.Core.Option.{Option, none, some}
 use mathlib.Core.List.{List, [], _∷_}
 use Prim.Native.Nat.{ℕ, zero, suc, _+_}
 use lib.Dec.{eqb}
-use Rattle.rules.specs.Codes.{skipCode, assignCode, gotoCode, ifCode, sendDirectCode, sendBufferedCode, callCode, returnCode, transferCode, copyCode, addCode, subtractCode, multiplyCode, equalCode, numberOperandCode, registerOperandCode}
+use Rattle.rules.specs.Codes.{skipCode, assignCode, gotoCode, ifCode, sendDirectCode, sendBufferedCode, callCode, returnCode, transferCode, copyCode, addCode, subtractCode, multiplyCode, equalCode, lessCode, exitCode, numberOperandCode, registerOperandCode}
 use Rattle.rules.specs.Image.{opcode, operator, operands, kind, value}
 use Rattle.rules.specs.declared.statement.Operand.{Operand}
 use Rattle.rules.specs.declared.statement.Operand.the-variants.{Number, Register, Word}
@@ -89,17 +89,34 @@ relationOf o = cond (eqb o equalCode) Equal Less
 unfoldable pub conditionOf : List ℕ → Condition
 conditionOf r = record { relation = relationOf (operator r); left = operandAt r 0; right = operandAt r 1 }
 
--- 1 SKIP and 3 GOTO, 4 IF, 5 SEND direct, 6 SEND buffered, 7 CALL, 8 RETURN, 9 TRANSFER, 10 EXIT
-unfoldable pub otherOf : List ℕ → Statement
-otherOf r =
-    cond (eqb (opcode r) skipCode || eqb (opcode r) gotoCode) Skip
-    (cond (eqb (opcode r) ifCode) (If (conditionOf r))
-    (cond (eqb (opcode r) sendDirectCode) SendDirect
-    (cond (eqb (opcode r) sendBufferedCode) SendBuffered
-    (cond (eqb (opcode r) callCode) Call
-    (cond (eqb (opcode r) returnCode) Return
-    (cond (eqb (opcode r) transferCode) Transfer
-    Exit))))))
+-- opcode and statement of each: 1 SKIP and 3 GOTO, 4 IF, 5 SEND direct, 6 SEND buffered, 7 CALL, 8 RETURN, 9 TRANSFER, 10 EXIT
+pub record Other : Type 0 where
+  pub opcode : ℕ
+  pub statement : List ℕ → Statement
+
+abbrev other : ℕ → (List ℕ → Statement) → Other
+other op f = record { opcode = op; statement = f }
+
+abbrev pub others : List Other
+others =
+    other skipCode (λ r. Skip) ∷ other gotoCode (λ r. Skip) ∷ other ifCode (λ r. If (conditionOf r)) ∷ other sendDirectCode (λ r. SendDirect)
+    ∷ other sendBufferedCode (λ r. SendBuffered) ∷ other callCode (λ r. Call) ∷ other returnCode (λ r. Return)
+    ∷ other transferCode (λ r. Transfer) ∷ other exitCode (λ r. Exit) ∷ []
+
+abbrev pub otherIn : List Other → ℕ → List ℕ → Option Statement
+otherIn [] op r = none
+otherIn (x ∷ xs) op r = cond (eqb op (x .opcode)) (some (x .statement r)) (otherIn xs op r)
+
+unfoldable pub otherAt : List ℕ → Option Statement
+otherAt r = otherIn others (opcode r) r
+
+-- an opcode that there is not, which no checked image has, reads as EXIT
+abbrev pub otherOr : Option Statement → Statement
+otherOr none = Exit
+otherOr (some s) = s
+
+abbrev pub otherOf : List ℕ → Statement
+otherOf r = otherOr (otherAt r)
 
 abbrev pub statementBy : Option Operation → List ℕ → Statement
 statementBy none r = otherOf r
@@ -108,41 +125,77 @@ statementBy (some k) r = Assign (assignmentOf k r)
 unfoldable pub statementOf : List ℕ → Statement
 statementOf r = statementBy (operationAt (opcode r) (operator r)) r
 
--- the operands that a statement reads, left to right, given the data operands of its record: ASSIGN reads p and q, not its
--- destinations; IF reads p and q; opcodes 5 to 9 read their data
-abbrev pub reads : Statement → List Operand → List Operand
-reads Skip given = []
-reads (Assign a) given = a .left ∷ a .right ∷ []
-reads (If c) given = c .left ∷ c .right ∷ []
-reads SendDirect given = given
-reads SendBuffered given = given
-reads Call given = given
-reads Return given = given
-reads Transfer given = given
-reads Exit given = []
+-- ---- what a statement uses: operators, operands and labels
 
--- what a statement uses label A for, and label B
+-- where it leads: on to A; on to A or to B; by a local signal to A; by a direct signal to A; on to B, with a signal to A; by a signal
+-- to A, with B as return label; back to the newest return label; or to the end of its job
+pub data Way : Type 0 where
+  following branching transferring entering posting calling returning ending : Way
+
+-- which operands it reads: none, two of its own, or the data operands of its record
+pub data Sources : Type 0 where
+  nothing carried : Sources
+  pair : Operand → Operand → Sources
+
+-- how many operators it has: 0 where the operator is unused, otherwise they are 1 to that number
+pub record Usage : Type 0 where
+  pub operators : ℕ
+  pub sources : Sources
+  pub way : Way
+
+abbrev uses : ℕ → Sources → Way → Usage
+uses n s w = record { operators = n; sources = s; way = w }
+
+-- ASSIGN reads p and q, not its destinations (its operators are those of `forms`); IF reads p and q; opcodes 5 to 9 read their data
+abbrev pub usage : Statement → Usage
+usage Skip = uses 0 nothing following
+usage (Assign a) = uses 0 (pair (a .left) (a .right)) following
+usage (If c) = uses lessCode (pair (c .left) (c .right)) branching
+usage SendDirect = uses 0 carried entering
+usage SendBuffered = uses 0 carried posting
+usage Call = uses 0 carried calling
+usage Return = uses 0 carried returning
+usage Transfer = uses 0 carried transferring
+usage Exit = uses 0 nothing ending
+
+abbrev pub way : Statement → Way
+way s = usage s .way
+
+-- what a way uses label A for, and label B
+abbrev pub wayA : Way → Role
+wayA following = Inner
+wayA branching = Inner
+wayA transferring = Local
+wayA entering = Direct
+wayA posting = Buffered
+wayA calling = Direct
+wayA returning = Unused
+wayA ending = Unused
+
+abbrev pub wayB : Way → Role
+wayB following = Unused
+wayB branching = Inner
+wayB transferring = Unused
+wayB entering = Unused
+wayB posting = Inner
+wayB calling = Inner
+wayB returning = Unused
+wayB ending = Unused
+
 abbrev pub roleA : Statement → Role
-roleA Skip = Inner
-roleA (Assign a) = Inner
-roleA (If c) = Inner
-roleA SendDirect = Direct
-roleA SendBuffered = Buffered
-roleA Call = Direct
-roleA Return = Unused
-roleA Transfer = Local
-roleA Exit = Unused
+roleA s = wayA (way s)
 
 abbrev pub roleB : Statement → Role
-roleB Skip = Unused
-roleB (Assign a) = Unused
-roleB (If c) = Inner
-roleB SendDirect = Unused
-roleB SendBuffered = Inner
-roleB Call = Inner
-roleB Return = Unused
-roleB Transfer = Unused
-roleB Exit = Unused
+roleB s = wayB (way s)
+
+-- the operands that are read, left to right, given the data operands of the record
+abbrev pub readFrom : Sources → List Operand → List Operand
+readFrom nothing given = []
+readFrom carried given = given
+readFrom (pair p q) given = p ∷ q ∷ []
+
+abbrev pub reads : Statement → List Operand → List Operand
+reads s given = readFrom (usage s .sources) given
 
 -- the data operands of a record
 abbrev pub dataOf : List ℕ → List Operand

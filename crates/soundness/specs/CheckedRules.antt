@@ -7,7 +7,7 @@ use Prim.Native.Nat.{ℕ}
 use lib.Dec.{eqb, ltb}
 use borrow.Author.Tests.{ltb-true, eqb-true}
 use Rattle.rules.specs.Image.{labels, recordAt, blockField, entry, labelA, labelB, rowAt}
-use Rattle.rules.specs.Statements.{operationAt, otherOf, statementOf, roleA, roleB, dataOf}
+use Rattle.rules.specs.Statements.{operationAt, otherAt, statementOf, roleA, roleB, dataOf}
 use Rattle.rules.specs.Check.{labelOk, ruleOk, recordOk, Checked}
 use Rattle.rules.specs.Steps.{actBy, rulesBy, view}
 use Rattle.rules.specs.declared.statement.Role.{Role}
@@ -37,7 +37,7 @@ module _ (image table : List ℕ) where
       record { a = home-label (roleA (statementOf r)) (blockField r) (labelA r) (k .a); b = home-label (roleB (statementOf r)) (blockField r) (labelB r) (k .b) }
 
   no-homes : Homes []
-  unfolding operationAt otherOf statementOf
+  unfolding operationAt otherAt statementOf
   no-homes = record { a = tt; b = tt }
 
   record-homes : Passed image table → (l : ℕ) → Homes (recordAt image l)

@@ -9,15 +9,18 @@ use lib.Dec.{eqb, leb, ltb}
 use lib.ListN.{length, getD, drop, length-append, length-map, length-replicate, length-set, length-drop}
 use borrow.Author.Tests.{leb-true, leb-false, eqb-true}
 use Rattle.rules.specs.Sizes.{registerCount, returnCount, pendingCount, operandCount, recordSize, recordCount}
+use Rattle.rules.specs.Codes.{returnsFullCode, pendingFullCode}
 use Rattle.rules.specs.Image.{labels, recordAt, opcode, operator, labelA, labelB, operands, Row, rowAt}
-use Rattle.rules.specs.Statements.{operandsFrom, reads, statementOf, dataOf}
+use Rattle.rules.specs.Statements.{operandsFrom, Way, following, branching, transferring, entering, posting, calling, returning, ending, Sources, nothing, carried, pair, usage, way, readFrom, reads, statementOf, dataOf}
 use Rattle.rules.specs.Machine.{Signal, Job, fill}
-use Rattle.rules.specs.Effects.{Got, trap, got, then, unless, Cells, readAll, read, compute, holds, store, Next, onA, onB, intoA, callA, back, Going, Outcome, ends, goes, View, perform, outcome}
+use Rattle.rules.specs.Effects.{Got, trap, got, then, unless, Cells, readAll, read, Results, compute, store, assigned, Next, onA, onB, intoA, callA, back, Going, Outcome, ends, goes, View, leave, overflow, worked, chosen, perform, outcome}
 use Rattle.rules.specs.Steps.{Effect, traps, exits, moves, trapIf, older, signalTo, alien, steer, resolve, blockAt, actBy, view}
 use Rattle.rules.specs.declared.statement.Operand.{Operand}
 use Rattle.rules.specs.declared.statement.Operand.the-variants.{Number, Register, Word}
+use Rattle.rules.specs.declared.statement.Assignment.{Assignment}
 use Rattle.rules.specs.declared.statement.Statement.{Statement}
 use Rattle.rules.specs.declared.statement.Statement.the-variants.{Skip, Assign, If, SendDirect, SendBuffered, Call, Return, Transfer, Exit}
+use Rattle.laws.specs.Logic.{never}
 use Rattle.laws.specs.Heads.{few-operands}
 use Rattle.laws.specs.Passed.{Passed}
 use Rattle.soundness.specs.Destinations.{head}
@@ -32,21 +35,19 @@ unfolding operandsFrom
 length-operands r k zero = refl
 length-operands r k (suc n) = ap suc (length-operands r (k + 1) n)
 
-reads-limit : (s : Statement) (given : List Operand) → length given ≤ operandCount → length (reads s given) ≤ registerCount
-reads-limit Skip given h = omega arith
-reads-limit (Assign a) given h = omega arith
-reads-limit (If c) given h = omega arith
-reads-limit SendDirect given h = h
-reads-limit SendBuffered given h = h
-reads-limit Call given h = h
-reads-limit Return given h = h
-reads-limit Transfer given h = h
-reads-limit Exit given h = omega arith
+reads-limit : (s : Sources) (given : List Operand) → length given ≤ operandCount → length (readFrom s given) ≤ registerCount
+reads-limit nothing given h = omega arith
+reads-limit carried given h = h
+reads-limit (pair p q) given h = omega arith
 
--- a result that is a list of n values, or a trap
+-- of a result, if it is no trap
+abbrev Each : {A : Type 0} → (A → Type 0) → Got A → Type 0
+Each P (trap r) = Unit {0}
+Each P (got a) = P a
+
+-- a list of n values
 abbrev Long : ℕ → Got (List ℕ) → Type 0
-Long n (trap r) = Unit {0}
-Long n (got vs) = length vs ≡ n
+Long n x = Each (λ (vs : List ℕ). length vs ≡ n) x
 
 long-cons : (n : ℕ) (x : Got ℕ) (y : Got (List ℕ)) → Long n y → Long (suc n) (then x (λ v. then y (λ vs. got (v ∷ vs))))
 long-cons n (trap r) y h = tt
@@ -89,45 +90,90 @@ OutcomeSized depth pending (got ends) = Unit {0}
 OutcomeSized depth pending (got (goes g)) = (length (g .cells .registers) ≡ registerCount) × DepthSized depth (g .next) × SentSized pending (g .sent)
 
 module _ (depth pending : ℕ) where
-  unless-sized : (n m r : ℕ) (o : Got Outcome) → (m < n → OutcomeSized depth pending o) → OutcomeSized depth pending (unless (leb n m) r o)
-  unless-sized n m r o h = case (leb n m) refl
-    where
-      case : (b : Bool) → leb n m ≡ b → OutcomeSized depth pending (unless b r o)
-      case true e = tt
-      case false e = h (leb-false n m e)
+  then-sized : {A : Type 0} (P : A → Type 0) (o : Got A) (f : A → Got Outcome) → Each P o → ((a : A) → P a → OutcomeSized depth pending (f a))
+      → OutcomeSized depth pending (then o f)
+  then-sized P (trap r) f h k = tt
+  then-sized P (got a) f h k = k a h
 
-  then-sized : {A : Type 0} (o : Got A) (f : A → Got Outcome) → ((a : A) → OutcomeSized depth pending (f a)) → OutcomeSized depth pending (then o f)
-  then-sized (trap r) f h = tt
-  then-sized (got a) f h = h a
+-- the cells that a statement works out have as many registers
+abbrev SameRegisters : Cells → Cells → Type 0
+SameRegisters c d = length (d .registers) ≡ length (c .registers)
 
-  branch-sized : (c : Bool) → DepthSized depth (cond c onA onB)
-  branch-sized true = tt
-  branch-sized false = tt
+compute-sized : (a : Assignment) (c : Cells) (g : Got Results) → Each (SameRegisters c) (then g (λ x. got (assigned a x c)))
+compute-sized a c (trap r) = tt
+compute-sized a c (got x) = length-store (a .second) (x .second) _ ∙ length-store (a .first) (x .first) c
 
-  read-sized : (n : ℕ) (x : Got (List ℕ)) (f : List ℕ → Got Outcome) → Long n x → n ≤ registerCount → ((vs : List ℕ) → length vs ≤ registerCount → OutcomeSized depth pending (f vs))
-      → OutcomeSized depth pending (then x f)
-  read-sized n (trap r) f l h k = tt
-  read-sized n (got vs) f l h k = k vs (rw l h)
+worked-sized : (s : Statement) (vs : List ℕ) (c : Cells) → Each (SameRegisters c) (worked s vs c)
+worked-sized Skip vs c = refl
+worked-sized (Assign a) vs c = compute-sized a c (compute (a .operation) (getD vs 0 0) (getD vs 1 0))
+worked-sized (If i) vs c = refl
+worked-sized SendDirect vs c = refl
+worked-sized SendBuffered vs c = refl
+worked-sized Call vs c = refl
+worked-sized Return vs c = refl
+worked-sized Transfer vs c = refl
+worked-sized Exit vs c = refl
 
-perform-sized : (v : View) (s : Statement) (vs : List ℕ) → length (v .cells .registers) ≡ registerCount → length vs ≤ registerCount → OutcomeSized (v .depth) (v .pending) (perform v s vs)
+-- where nothing overflows there is room for what a way adds
+abbrev RoomFor : View → Way → Type 0
+RoomFor v following = Unit {0}
+RoomFor v branching = Unit {0}
+RoomFor v transferring = Unit {0}
+RoomFor v entering = Unit {0}
+RoomFor v posting = v .pending < pendingCount
+RoomFor v calling = v .depth < returnCount
+RoomFor v returning = Unit {0}
+RoomFor v ending = Unit {0}
+
+not-full : (n m r : ℕ) → cond (leb n m) (some r) none ≡ none → m < n
+not-full n m r h = case (leb n m) refl h
+  where
+    case : (b : Bool) → leb n m ≡ b → cond b (some r) none ≡ none → m < n
+    case true e k = never (cc)
+    case false e k = leb-false n m e
+
+room-for : (v : View) (s : Statement) → overflow v s ≡ none → RoomFor v (way s)
+room-for v Skip h = tt
+room-for v (Assign a) h = tt
+room-for v (If c) h = tt
+room-for v SendDirect h = tt
+room-for v SendBuffered h = not-full pendingCount (v .pending) pendingFullCode h
+room-for v Call h = not-full returnCount (v .depth) returnsFullCode h
+room-for v Return h = tt
+room-for v Transfer h = tt
+room-for v Exit h = tt
+
+leave-sized : (v : View) (w : Way) (c : Bool) (vs : List ℕ) (d : Cells) → length (d .registers) ≡ registerCount → length vs ≤ registerCount → RoomFor v w
+    → OutcomeSized (v .depth) (v .pending) (got (leave w c vs d))
+leave-sized v following c vs d h k r = (h, tt, tt)
+leave-sized v branching true vs d h k r = (h, tt, tt)
+leave-sized v branching false vs d h k r = (h, tt, tt)
+leave-sized v transferring c vs d h k r = (length-overlaid vs (d .registers) k h, tt, tt)
+leave-sized v entering c vs d h k r = (length-fill vs k, tt, tt)
+leave-sized v posting c vs d h k r = (h, tt, (k, r))
+leave-sized v calling c vs d h k r = (length-fill vs k, r, tt)
+leave-sized v returning c vs d h k r = (length-fill vs k, tt, tt)
+leave-sized v ending c vs d h k r = tt
+
+perform-sized : (v : View) (s : Statement) (vs : List ℕ) → length (v .cells .registers) ≡ registerCount → length vs ≤ registerCount
+    → OutcomeSized (v .depth) (v .pending) (perform v s vs)
 unfolding perform
-perform-sized v Skip vs h k = (h, tt, tt)
-perform-sized v (Assign a) vs h k =
-    then-sized _ _ (compute (a .operation) (getD vs 0 0) (getD vs 1 0)) _ (λ x. (length-store (a .second) (x .second) _ ∙ length-store (a .first) (x .first) (v .cells) ∙ h, tt, tt))
-perform-sized v (If c) vs h k = (h, branch-sized _ 0 (holds (c .relation) (getD vs 0 0) (getD vs 1 0)), tt)
-perform-sized v SendDirect vs h k = (length-fill vs k, tt, tt)
-perform-sized v SendBuffered vs h k = unless-sized _ _ pendingCount (v .pending) 4 _ (λ n. (h, tt, (k, n)))
-perform-sized v Call vs h k = unless-sized _ _ returnCount (v .depth) 3 _ (λ n. (length-fill vs k, n, tt))
-perform-sized v Return vs h k = (length-fill vs k, tt, tt)
-perform-sized v Transfer vs h k = (length-overlaid vs (v .cells .registers) k h, tt, tt)
-perform-sized v Exit vs h k = tt
+perform-sized v s vs h k = case (overflow v s) refl
+  where
+    case : (o : Option ℕ) → overflow v s ≡ o
+        → OutcomeSized (v .depth) (v .pending) (unless o (then (worked s vs (v .cells)) (λ c. got (leave (way s) (chosen s vs) vs c))))
+    case none e =
+        then-sized (v .depth) (v .pending) (SameRegisters (v .cells)) (worked s vs (v .cells)) _ (worked-sized s vs (v .cells))
+        (λ c q. leave-sized v (way s) (chosen s vs) vs c (q ∙ h) k (room-for v s e))
+    case (some r) e = tt
 
 outcome-sized : (v : View) (s : Statement) (given : List Operand) → length (v .cells .registers) ≡ registerCount → length given ≤ operandCount
     → OutcomeSized (v .depth) (v .pending) (outcome v s given)
 unfolding outcome
 outcome-sized v s given h k =
-    read-sized (v .depth) (v .pending) (length (reads s given)) (readAll (v .cells) (reads s given)) (λ vs. perform v s vs) (read-long (v .cells) (reads s given)) (reads-limit s given k)
-    (λ vs l. perform-sized v s vs h l)
+    let few : length (reads s given) ≤ registerCount = reads-limit (usage s .sources) given k in
+    then-sized (v .depth) (v .pending) (λ (vs : List ℕ). length vs ≡ length (reads s given)) (readAll (v .cells) (reads s given)) (λ vs. perform v s vs)
+    (read-long (v .cells) (reads s given)) (λ vs l. perform-sized v s vs h (rw l few))
 
 -- ---- and the job that it leaves
 
