@@ -4,7 +4,7 @@ use mathlib.Core.Path.{_≡_, refl, sym, ap, _∙_}
 use mathlib.Core.List.{List, [], _∷_, map, append-nil}
 use Prim.Native.Nat.{ℕ}
 use Rattle.rules.specs.Machine.{Machine}
-use Rattle.rules.specs.Events.{Event, arrive, step, cut, eventBytes, eventFrom}
+use Rattle.rules.specs.Events.{stepping, cutting, Event, arrive, turn, eventBytes, eventFrom}
 use Rattle.rules.specs.Answers.{answerBytes}
 use Rattle.rules.specs.Steps.{Rules, answers}
 use Rattle.rules.specs.Order.{Entry, rowOf, order, events, log, byteOrder}
@@ -22,8 +22,8 @@ reread n = record { event = eventFrom (eventBytes (n .event)); answer = n .answe
 row-reread : (e : Event) → rowOf (eventFrom (eventBytes e)) ≡ rowOf e
 unfolding eventFrom eventBytes
 row-reread (arrive g) = refl
-row-reread (step t) = refl
-row-reread (cut t) = refl
+row-reread (turn stepping t) = refl
+row-reread (turn cutting t) = refl
 
 order-reread : (l : List Entry) → map reread (order l) ≡ order (map reread l)
 unfolding order

@@ -9,7 +9,7 @@ use Rattle.rules.specs.Bytes.{num16}
 use Rattle.rules.specs.Check.{Checked, firstOf}
 use Rattle.rules.specs.Machine.{Machine, fresh}
 use Rattle.rules.specs.Encoding.{encode, wordsFrom, machineFrom}
-use Rattle.rules.specs.Events.{Event, arrive, step, cut}
+use Rattle.rules.specs.Events.{Event, arrive, turn}
 use Rattle.rules.specs.Answers.{answerBytes}
 use Rattle.rules.specs.Steps.{Rules, rulesBy, answers, final}
 use Rattle.rules.specs.Order.{Entry, order, orderBy, notesBy, events, byteOrder}
@@ -39,8 +39,7 @@ all-valid image (e ∷ l) h = (accepted-valid image e (h .0), all-valid image l 
 
 accepted-sized : (image : List ℕ) (e : Event) → Accepted image e → SizedEvent e
 accepted-sized image (arrive g) h = h .1
-accepted-sized image (step t) h = tt
-accepted-sized image (cut t) h = tt
+accepted-sized image (turn k t) h = tt
 
 -- each accepted call leaves a state that is accepted again
 module _ (image table : List ℕ) where

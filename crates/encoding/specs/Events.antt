@@ -1,6 +1,6 @@
 -- Events: what is written is read back, and what breaks no rule is written again as it was; so of whole lists.
 use mathlib.Core.Path.{_≡_, refl, sym, ap, _∙_}
-use mathlib.Core.Bool.{Bool, true, false, cond, _&&_, _||_}
+use mathlib.Core.Bool.{Bool, true, false, cond, _&&_}
 use mathlib.Core.List.{List, [], _∷_, _++_, append-nil}
 use Prim.Native.Nat.{ℕ, _+_, _*_, _-_, _/_, _≤_, _<_}
 use native.Mathlib.Omega.{arith}
@@ -8,12 +8,13 @@ use lib.Dec.{eqb, leb, ltb}
 use lib.ListN.{length, getD, take, drop, replicate, length-drop}
 use lib.Seq.{getD-drop, take-all}
 use borrow.Author.Tests.{eqb-true, ltb-true}
-use Rattle.rules.specs.Sizes.{threadCount, signalSize, eventSize}
+use Rattle.rules.specs.Sizes.{threadCount, signalSize, eventKindPlace, eventThreadPlace, eventSignalPlace, eventSize}
+use Rattle.rules.specs.Codes.{arrivalCode}
 use Rattle.rules.specs.Bytes.{num16, part, isZeros, blocks}
 use Rattle.rules.specs.Image.{entry, recordAt}
 use Rattle.rules.specs.Encoding.{noSignal, signalBytes, signalFrom}
 use Rattle.rules.specs.WellFormed.{signalTidy}
-use Rattle.rules.specs.Events.{Event, arrive, step, cut, Valid, eventBytes, eventFrom, arrivalOk, turnOk, eventOk, eventsIn, eventAtOk, eventsFrom}
+use Rattle.rules.specs.Events.{stepping, cutting, Event, arrive, turn, kindCode, kindOf, Valid, eventBytes, eventFrom, arrivalOk, turnOk, eventOk, eventsIn, eventAtOk, eventsFrom}
 use Rattle.fields.specs.Each.{Each}
 use Rattle.fields.specs.Put.{part-drop}
 use Rattle.fields.specs.Blocks.{length-blocks, chunks-blocks}
@@ -27,21 +28,20 @@ use Rattle.encoding.specs.Trees.{no-signal, signal-back, signal-forth, s
 -- an arrival's signal has at most 25 values
 abbrev pub SizedEvent : Event → Type 0
 SizedEvent (arrive g) = SizedSignal g
-SizedEvent (step t) = Unit {0}
-SizedEvent (cut t) = Unit {0}
+SizedEvent (turn k t) = Unit {0}
 
 pub event-back : (e : Event) → SizedEvent e → (q : List ℕ) → eventFrom (eventBytes e ++ q) ≡ e
 unfolding eventFrom eventBytes
 event-back (arrive g) z q = ap arrive (signal-back g z q)
-event-back (step t) z q = refl
-event-back (cut t) z q = refl
+event-back (turn stepping t) z q = refl
+event-back (turn cutting t) z q = refl
 
 -- ---- what the rules of an event say of its bytes
 
 pub data EventRead (b : List ℕ) : Type 0 where
-  arrival : getD b 0 0 ≡ 1 → getD b 1 0 ≡ 0 → signalTidy (drop 2 b) ≡ true → EventRead b
-  stepping : getD b 0 0 ≡ 2 → getD b 1 0 < threadCount → part b 2 signalSize ≡ replicate signalSize 0 → EventRead b
-  cutting : getD b 0 0 ≡ 3 → getD b 1 0 < threadCount → part b 2 signalSize ≡ replicate signalSize 0 → EventRead b
+  arrival : getD b eventKindPlace 0 ≡ arrivalCode → getD b eventThreadPlace 0 ≡ 0 → signalTidy (drop eventSignalPlace b) ≡ true → EventRead b
+  turned : eqb (getD b eventKindPlace 0) arrivalCode ≡ false → getD b eventKindPlace 0 ≡ kindCode (kindOf (getD b eventKindPlace 0))
+      → getD b eventThreadPlace 0 < threadCount → part b eventSignalPlace signalSize ≡ replicate signalSize 0 → EventRead b
 
 arrival-read : (image b : List ℕ) → arrivalOk image b ≡ true → (getD b 1 0 ≡ 0) × (signalTidy (drop 2 b) ≡ true)
 unfolding arrivalOk signalTidy
@@ -63,23 +63,19 @@ turn-read b l e =
 
 pub event-read : (image b : List ℕ) → eventSize ≤ length b → eventOk image b ≡ true → EventRead b
 unfolding eventOk
-event-read image b l e = go (eqb (getD b 0 0) 1) refl e
+event-read image b l e = go (eqb kind arrivalCode) refl e
   where
-    turn : (c : Bool) → eqb (getD b 0 0) 2 ≡ c → (c || eqb (getD b 0 0) 3) ≡ true → turnOk b ≡ true → EventRead b
-    turn true p q t =
-        let r = turn-read b l t in
-        stepping (eqb-true (getD b 0 0) 2 p) (r .0) (r .1)
-    turn false p q t =
-        let r = turn-read b l t in
-        cutting (eqb-true (getD b 0 0) 3 q) (r .0) (r .1)
+    kind : ℕ
+    kind = getD b eventKindPlace 0
 
-    go : (c : Bool) → eqb (getD b 0 0) 1 ≡ c → cond c (arrivalOk image b) ((eqb (getD b 0 0) 2 || eqb (getD b 0 0) 3) && turnOk b) ≡ true → EventRead b
+    go : (c : Bool) → eqb kind arrivalCode ≡ c → cond c (arrivalOk image b) (eqb kind (kindCode (kindOf kind)) && turnOk b) ≡ true → EventRead b
     go true p q =
         let r = arrival-read image b q in
-        arrival (eqb-true (getD b 0 0) 1 p) (r .0) (r .1)
+        arrival (eqb-true kind arrivalCode p) (r .0) (r .1)
     go false p q =
-        let t = both (eqb (getD b 0 0) 2 || eqb (getD b 0 0) 3) (turnOk b) q in
-        turn (eqb (getD b 0 0) 2) refl (t .0) (t .1)
+        let t = both (eqb kind (kindCode (kindOf kind))) (turnOk b) q in
+        let r = turn-read b l (t .1) in
+        turned p (eqb-true kind (kindCode (kindOf kind)) (t .0)) (r .0) (r .1)
 
 -- ---- an event that breaks no rule
 
@@ -90,20 +86,17 @@ event-glue b k t x l ek et ex = glue b 0 1 54 (k ∷ []) (t ∷ x) (rw ek (byte-
 read-forth : (b : List ℕ) → AreBytes b → eventSize ≤ length b → EventRead b → eventBytes (eventFrom b) ≡ take eventSize b
 unfolding eventFrom eventBytes part
 read-forth b h l (arrival k t e) = rw k (event-glue b 1 0 (signalBytes (signalFrom (drop 2 b))) l (sym k) (sym t) (signal-forth (drop 2 b) (bytes-drop b 2 h) (simp length-drop (omega arith)) e))
-read-forth b h l (stepping k t z) = rw k (event-glue b 2 (getD b 1 0) (signalBytes noSignal) l (sym k) refl (no-signal ∙ sym z))
-read-forth b h l (cutting k t z) = rw k (event-glue b 3 (getD b 1 0) (signalBytes noSignal) l (sym k) refl (no-signal ∙ sym z))
+read-forth b h l (turned n k t z) = rw n (event-glue b _ (getD b eventThreadPlace 0) (signalBytes noSignal) l (sym k) refl (no-signal ∙ sym z))
 
 read-sized : (b : List ℕ) → eventSize ≤ length b → EventRead b → SizedEvent (eventFrom b)
 unfolding eventFrom
 read-sized b l (arrival k t e) = rw k (signal-sized (drop 2 b) (simp length-drop (omega arith)) e)
-read-sized b l (stepping k t z) = rw k tt
-read-sized b l (cutting k t z) = rw k tt
+read-sized b l (turned n k t z) = rw n tt
 
 read-valid : (b : List ℕ) → EventRead b → Valid (eventFrom b)
 unfolding eventFrom
 read-valid b (arrival k t e) = rw k (λ u q. absurd (let n : _≡_ {A = ℕ} 0 1 = cc in omega arith))
-read-valid b (stepping k t z) = rw k (λ u q. let e : getD b 1 0 ≡ u = cc in omega arith)
-read-valid b (cutting k t z) = rw k (λ u q. let e : getD b 1 0 ≡ u = cc in omega arith)
+read-valid b (turned n k t z) = rw n (λ u q. let e : getD b eventThreadPlace 0 ≡ u = cc in omega arith)
 
 module _ (image b : List ℕ) (l : eventSize ≤ length b) (e : eventOk image b ≡ true) where
   pub event-forth : AreBytes b → eventBytes (eventFrom b) ≡ take eventSize b

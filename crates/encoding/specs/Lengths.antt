@@ -7,7 +7,7 @@ use Rattle.rules.specs.Sizes.{threadCount, wordTotal, threadSize, signalSize, t
 use Rattle.rules.specs.Bytes.{le16, blocks, pad}
 use Rattle.rules.specs.Machine.{Signal, Tree, ThreadState, idle, running, Machine}
 use Rattle.rules.specs.Encoding.{threadRaw, threadBytes, signalBytes, treeBytes, encode}
-use Rattle.rules.specs.Events.{Event, arrive, step, cut, eventBytes}
+use Rattle.rules.specs.Events.{Event, arrive, turn, eventBytes}
 use Rattle.rules.specs.Answers.{answerBytes}
 use Rattle.rules.specs.declared.answer.Answer.{Answer}
 use Rattle.fields.specs.Blocks.{length-blocks, length-pad}
@@ -43,8 +43,7 @@ length-encode s =
 pub length-event : (e : Event) → length (eventBytes e) ≡ eventSize
 unfolding eventBytes
 length-event (arrive g) = rw length-signal
-length-event (step t) = rw length-signal
-length-event (cut t) = rw length-signal
+length-event (turn k t) = rw length-signal
 
 pub length-answer : (a : Answer) → length (answerBytes a) ≡ answerSize
 unfolding answerBytes

@@ -8,7 +8,7 @@ use lib.Seq.{getD-drop}
 use borrow.Author.Tests.{ne-eqb}
 use Rattle.rules.specs.Sizes.{threadCount, eventSize}
 use Rattle.rules.specs.Events.{step, cut, eventFrom, eventAtOk}
-use Rattle.encoding.specs.Events.{EventRead, arrival, stepping, cutting, event-read}
+use Rattle.encoding.specs.Events.{EventRead, arrival, turned, event-read}
 use Rattle.sending.specs.Arrivals.{EventAt}
 
 module _ {image events : List ℕ} {i : ℕ} (h : EventAt image events i) where
@@ -28,8 +28,7 @@ module _ {image events : List ℕ} {i : ℕ} (h : EventAt image events i) where
     where
       case : EventRead bytes → getD events (eventSize * i + 1) 0 < threadCount
       case (arrival k t e) = absurd (n (sym kind ∙ k))
-      case (stepping k t e) = rw thread at t
-      case (cutting k t e) = rw thread at t
+      case (turned m k t e) = rw thread at t
 
   pub step-is : getD events (eventSize * i) 0 ≡ 2 → eventFrom bytes ≡ step (getD events (eventSize * i + 1) 0)
   unfolding eventFrom

@@ -31,7 +31,7 @@ use Rattle.fields.specs.Put.{put}
 use Rattle.encoding.specs.Encoded.{Encodes, Canonical}
 use Rattle.encoding.specs.Slots.{returnsIn, registersIn}
 use Rattle.laws.specs.Passed.{passed}
-use Rattle.soundness.specs.Destinations.{block-below}
+use Rattle.soundness.specs.Destinations.{lock-below}
 use Rattle.step_laws.specs.Events.{withThread, reply}
 use Rattle.step_laws.specs.Statements.{unread, send-alien, send-waits, send-enters, call-deep, call-alien, call-waits, call-enters}
 use Rattle.threads.specs.Returns.{TidyReturns, pushed, pushed-tidy}
@@ -136,8 +136,7 @@ module _ (image table b : List ℕ) (t : ℕ) (w : Whole) (p : List Signal) (run
 module _ {image table b : List ℕ} {t : ℕ} {w : ThreadState} {r : List ℕ} (h : At image table b t w r) {x n : ℕ} {vs : List ℕ} (g : Reads (readAll (cellsFrom b (blockField r) (w .present) (registersIn b t)) (dataOf r)) x n vs) where
   -- the lock of a block is one of the 16
   lock-inside : (q : List ℕ) → labelA q < labels image → rowAt table (blockAt image (labelA q)) .lock < blockCount
-  unfolding rowAt
-  lock-inside q l = block-below image table (passed image table [] (h .ready .checked) .0) (labelA q) l
+  lock-inside q l = lock-below image table (passed image table [] (h .ready .checked) .0) (labelA q) l
 
   pub send-passes : statementOf r ≡ SendDirect → (to : ℕ) → to ≡ labelA r → (q : Passage) → q ≡ passageTo (rowAt table (blockAt image to)) t x
       → Passes image table (machineFrom b) t (w .locks) (job to (returnsOf (whole b t w)) (fill (take n vs))) q

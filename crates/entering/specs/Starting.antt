@@ -29,7 +29,7 @@ use Rattle.laws.specs.Passed.{passed}
 use Rattle.laws.specs.Logic.{never}
 use Rattle.soundness.specs.Sound.{QueueIn}
 use Rattle.soundness.specs.Queues.{headPending, first-queue}
-use Rattle.soundness.specs.Destinations.{block-below}
+use Rattle.soundness.specs.Destinations.{lock-below}
 use Rattle.step_laws.specs.Events.{reply, no-tree, start-waits, start-runs}
 use Rattle.threads.specs.Returns.{TidyReturns}
 use Rattle.threads.specs.Whole.{Whole}
@@ -83,12 +83,10 @@ module _ {image table b : List ℕ} (h : Ready image table b) (t : ℕ) (rests :
           rw e at (homed-some image table x (k .0))
 
   -- the first tree, by its place and the label of its oldest signal
-  pub first-is : (i : ℕ) (l : Lock) → i ≡ firstTree t (s .trees) → i < length (s .trees) → l ≡ Sorts.lock (blockAt image (getD (pendingAt s i) 0 noSignal .label)) → FirstIs image table s t i l
-  unfolding rowAt
+  pub first-is : (i : ℕ) (l : Lock) → i ≡ firstTree t (s .trees) → i < length (s .trees) → l ≡ Sorts.lock (rowAt table (blockAt image (getD (pendingAt s i) 0 noSignal .label)) .lock) → FirstIs image table s t i l
   first-is i l e k f =
       let some = idle-pending i e k in
-      let below : blockAt image (getD (pendingAt s i) 0 noSignal .label) < blockCount = block-below image table (passed image table [] (h .checked) .0) _ (oldest-below h i k some) in
-      record { place = e; inside = k; some = some; lock = f; small = rw f below }
+      record { place = e; inside = k; some = some; lock = f; small = rw f (lock-below image table (passed image table [] (h .checked) .0) _ (oldest-below h i k some)) }
 
   -- ---- what its step comes to
 

@@ -1,6 +1,7 @@
 // What a direct SEND or a CALL comes to before its lock is looked at.
 use image::records::block_at;
 use image::table::kind_at;
+use image::table::lock_at;
 use image::table::thread_at;
 use operands::read_data;
 use rules::sorts::Block;
@@ -8,7 +9,6 @@ use rules::sorts::Label;
 use rules::sorts::Lock;
 use rules::sorts::Thread;
 use rules::sorts::block_of;
-use rules::sorts::lock_of;
 use rules::sorts::thread_number;
 use threads::thread::ThreadState;
 ghost use mathlib.Core.Path.{_≡_};
@@ -79,5 +79,5 @@ pub fn passage_to(image: &[u8], table: &[u8], t: Thread, to: Label, earlier: u8)
     if is_alien(table, t, block) {
         return Passage::Trap(ALIEN);
     }
-    Passage::Ask(lock_of(block))
+    Passage::Ask(lock_at(table, block))
 }

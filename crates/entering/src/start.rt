@@ -1,10 +1,10 @@
 // A step of an idle thread: the oldest signal of its first tree starts a job, if its block's lock can be taken.
 use fields::read::wide;
 use image::records::block_at;
+use image::table::lock_at;
 use rules::answer::Answer;
 use rules::sorts::Lock;
 use rules::sorts::Thread;
-use rules::sorts::lock_of;
 use state::locks::held_by_other;
 use state::thread_records::write_entered;
 use threads::thread::ThreadState;
@@ -33,7 +33,8 @@ pub fn first_signal(image: &[u8], table: &[u8], state: &[u8], t: Thread) -> Firs
 {
     let i = first_tree(state, t);
     if i < tree_count(state) {
-        First::Pending(i, lock_of(block_at(image, oldest_label(state, i))))
+        let block = block_at(image, oldest_label(state, i));
+        First::Pending(i, lock_at(table, block))
     } else {
         First::Nothing
     }

@@ -1,6 +1,6 @@
 -- An event where it stands in the lent bytes.
-use mathlib.Core.Path.{_≡_, _∙_}
-use mathlib.Core.Bool.{false, cond, _&&_, _||_, and-assoc, and-false}
+use mathlib.Core.Path.{_≡_, refl, _∙_}
+use mathlib.Core.Bool.{Bool, true, false, cond, _&&_, _||_, and-assoc, and-false}
 use mathlib.Core.List.{List}
 use Prim.Native.Nat.{ℕ, _+_, _*_, _-_, _≤_}
 use native.Mathlib.Nat.{add-zero}
@@ -9,10 +9,10 @@ use lib.Dec.{eqb, leb, ltb}
 use lib.ListN.{getD, drop}
 use lib.Seq.{drop-drop, getD-drop}
 use Rattle.rules.specs.Sizes.{threadCount, registerCount, signalSize, eventThreadPlace, eventSignalPlace, eventSize}
-use Rattle.rules.specs.Codes.{externalCode}
+use Rattle.rules.specs.Codes.{externalCode, arrivalCode, stepCode, cutCode}
 use Rattle.rules.specs.Bytes.{num16, part, isZeros}
 use Rattle.rules.specs.Image.{labels, recordAt, entry}
-use Rattle.rules.specs.Events.{arrivalOk, turnOk, eventOk, eventAtOk}
+use Rattle.rules.specs.Events.{stepping, cutting, kindCode, kindOf, arrivalOk, turnOk, eventOk, eventAtOk}
 use Rattle.rules.specs.WellFormed.{signalTidy}
 use Rattle.fields.specs.Put.{part-drop}
 use Rattle.image.specs.Records.{no-record}
@@ -36,7 +36,15 @@ pub turn-at : (s : List ℕ) (at : ℕ) → turnOk (drop at s) ≡ (ltb (getD s 
 unfolding turnOk
 turn-at s at = rw (getD-drop at s 1 0, part-drop)
 
+-- the codes of the kinds of turn
+turn-kinds : (c : ℕ) → eqb c (kindCode (kindOf c)) ≡ (eqb c stepCode || eqb c cutCode)
+turn-kinds c = case (eqb c stepCode) refl
+  where
+    case : (d : Bool) → eqb c stepCode ≡ d → eqb c (kindCode (cond d stepping cutting)) ≡ (d || eqb c cutCode)
+    case true e = e
+    case false e = refl
+
 module _ (image s : List ℕ) (i : ℕ) where
-  pub event-at : eventAtOk image s i ≡ cond (eqb (getD s (eventSize * i) 0) 1) (arrivalOk image (drop (eventSize * i) s)) ((eqb (getD s (eventSize * i) 0) 2 || eqb (getD s (eventSize * i) 0) 3) && turnOk (drop (eventSize * i) s))
+  pub event-at : eventAtOk image s i ≡ cond (eqb (getD s (eventSize * i) 0) arrivalCode) (arrivalOk image (drop (eventSize * i) s)) ((eqb (getD s (eventSize * i) 0) stepCode || eqb (getD s (eventSize * i) 0) cutCode) && turnOk (drop (eventSize * i) s))
   unfolding eventAtOk eventOk
-  event-at = rw (getD-drop (eventSize * i) s 0 0, add-zero)
+  event-at = rw (getD-drop (eventSize * i) s 0 0, add-zero, turn-kinds (getD s (eventSize * i) 0))

@@ -33,7 +33,7 @@ module _ (R : Rules) (s : Machine) (t : ℕ) where
   ended e r (founds g room) h k = never (cc)
   ended e r (starts u g p w f b) h k = never (cc)
   ended e r (goes u l j j′ words g want w a b) h k = never (cc)
-  ended e r (ends f u l j a n w c) h k = let q : u ≡ t = cc in rw q (cleared (getD-set-idle (s .threads) t))
+  ended e r (ends u l j a w c) h k = let q : u ≡ t = cc in rw q (cleared (getD-set-idle (s .threads) t))
 
   -- an answer that ends a job
   pub every-end-is-clean : (e : Event) → threadOf e ≡ some t → sort (react R s e .answer) ≡ close → Cleared (threadAt (react R s e .state) t)

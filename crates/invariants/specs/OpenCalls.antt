@@ -6,6 +6,7 @@ use mathlib.Core.Option.{some}
 use mathlib.Core.List.{List, [], _∷_, _++_}
 use Prim.Native.Nat.{ℕ, zero, suc}
 use native.Mathlib.Decide.{ℕ-discrete}
+use lib.Dec.{eqb}
 use lib.ListN.{getD, set}
 use lib.Seq.{getD-set-other}
 use borrow.Author.Tests.{eq-eqb, ne-eqb}
@@ -13,7 +14,7 @@ use Rattle.rules.specs.Sizes.{threadCount}
 use Rattle.rules.specs.Image.{recordAt, labelB}
 use Rattle.rules.specs.Statements.{statementOf}
 use Rattle.rules.specs.Machine.{Job, ThreadState, idle, running, Machine, threadAt, fresh}
-use Rattle.rules.specs.Events.{Event, arrive, step, cut, threadOf}
+use Rattle.rules.specs.Events.{Event}
 use Rattle.rules.specs.Answers.{out, sort}
 use Rattle.rules.specs.Steps.{Rules, rulesBy, Reply, react, final}
 use Rattle.rules.specs.declared.answer.Answer.{Answer}
@@ -64,17 +65,12 @@ module _ (image table : List ℕ) (t : ℕ) where
     same-path true p w e k = rw e k
     same-path false p w e k = k
 
-    step-on : (u : ℕ) (a : Answer) (w : ThreadState) → (u ≡ t → Tracks (noted a (threadAt s t) path) w) → Tracks (pathNext R t s (step u) a path) (getD (set (s .threads) u w) t idle)
-    step-on u a w k = case (ℕ-discrete u t)
+    turn-on : (u : ℕ) (a : Answer) (w : ThreadState) → (u ≡ t → Tracks (noted a (threadAt s t) path) w) → Tracks (cond (eqb u t) (noted a (threadAt s t) path) path) (getD (set (s .threads) u w) t idle)
+    turn-on u a w k = case (ℕ-discrete u t)
       where
-        case : Dec (u ≡ t) → Tracks (pathNext R t s (step u) a path) (getD (set (s .threads) u w) t idle)
+        case : Dec (u ≡ t) → Tracks (cond (eqb u t) (noted a (threadAt s t) path) path) (getD (set (s .threads) u w) t idle)
         case (yes e) = rw (eq-eqb u t e, e) (set-here (Tracks (noted a (threadAt s t) path)) (s .threads) t w (k e) tt)
         case (no e) = rw (ne-eqb u t e, getD-set-other (s .threads) u t w idle (λ z. e (sym z))) h
-
-    ended : (e : Event) (u : ℕ) (a : Answer) → threadOf e ≡ some u → Tracks (pathNext R t s e a path) (getD (set (s .threads) u idle) t idle)
-    ended (arrive g) u a n = never (cc)
-    ended (step v) u a n = let z : v ≡ u = cc in rw z (step-on u a idle (λ e. tt))
-    ended (cut v) u a n = let z : v ≡ u = cc in rw z (step-on u a idle (λ e. tt))
 
     turned-by : (locks : ℕ) (j k : Job) → threadAt s t ≡ running locks j
         → Turned (statementOf (recordAt image (j .label))) (labelB (recordAt image (j .label))) (j .returns) k → k .returns ≡ openCalls image (path ++ labelOf (threadAt s t))
@@ -87,10 +83,10 @@ module _ (image table : List ℕ) (t : ℕ) where
     tracks e r (remains f a (inl q)) = same-path (isOf t f) (noted a (threadAt s t) path) (threadAt s t) (quiet a (threadAt s t) path (inl q)) h
     tracks e r (remains f a (inr q)) = same-path (isOf t f) (noted a (threadAt s t) path) (threadAt s t) (quiet a (threadAt s t) path (inr (q .1))) h
     tracks e r (founds g room) = h
-    tracks e r (starts u g p w f b) = step-on u Started _ (λ z. unfold openAfter in refl)
+    tracks e r (starts u g p w f b) = turn-on u Started _ (λ z. unfold openAfter in refl)
     tracks e r (goes u l j k words g want w a b) =
-        step-on u Moved _ (λ z. turned-by l j k (rw z at w) (subst (EffectTurned _ _ (j .returns)) a (act-turned image table u j _ _)))
-    tracks e r (ends f u l j a n w c) = ended f u a n
+        turn-on u Moved _ (λ z. turned-by l j k (rw z at w) (subst (EffectTurned _ _ (j .returns)) a (act-turned image table u j _ _)))
+    tracks e r (ends u l j a w c) = turn-on u a idle (λ z. tt)
 
   tracks-all : (path : List ℕ) (s : Machine) (l : List Event) → Tracks path (threadAt s t) → Tracks (pathFrom R t path s l) (threadAt (final R s l) t)
   unfolding pathFrom final

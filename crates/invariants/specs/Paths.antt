@@ -7,7 +7,7 @@ use lib.Dec.{eqb}
 use Rattle.rules.specs.Image.{recordAt, labelB}
 use Rattle.rules.specs.Statements.{statementOf}
 use Rattle.rules.specs.Machine.{ThreadState, idle, running, Machine, threadAt, fresh}
-use Rattle.rules.specs.Events.{Event, arrive, step, cut}
+use Rattle.rules.specs.Events.{Event, arrive, turn}
 use Rattle.rules.specs.Steps.{Rules, older, react}
 use Rattle.rules.specs.declared.answer.Answer.{Answer}
 use Rattle.rules.specs.declared.answer.Answer.the-variants.{Taken, ListFull, NoWork, Waiting, Started, Moved, Exited, Trapped, WasCut, NothingToCut}
@@ -63,8 +63,7 @@ noted NothingToCut w path = path
 
 abbrev pub isOf : ℕ → Event → Bool
 isOf t (arrive g) = false
-isOf t (step u) = eqb u t
-isOf t (cut u) = eqb u t
+isOf t (turn k u) = eqb u t
 
 module _ (R : Rules) (t : ℕ) where
   abbrev pub pathNext : Machine → Event → Answer → List ℕ → List ℕ

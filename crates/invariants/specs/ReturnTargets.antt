@@ -99,7 +99,7 @@ module _ (image table : List ℕ) (t : ℕ) where
     where
       same : {l : ℕ} {k : Job} → threadAt s t ≡ running l k → k ≡ j
       same v = cc
-  returned s locks j w i e r (ends f u l k a n′ v c) n m = never (let z = sym c ∙ ap sort m in cc)
+  returned s locks j w i e r (ends u l k a v c) n m = never (let z = sym c ∙ ap sort m in cc)
 
   -- the label that RETURN leads to is label B of a CALL that the same job carried out
   pub return-leads-to-a-call : (words : List ℕ) (l : List Event) (locks locks′ : ℕ) (j j′ : Job) → threadAt (final R (fresh words) l) t ≡ running locks j

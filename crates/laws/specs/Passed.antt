@@ -7,11 +7,11 @@ use native.Mathlib.Omega.{arith}
 use lib.Dec.{ltb}
 use lib.ListN.{length}
 use borrow.Author.Tests.{ltb-true, eqb-true}
-use Rattle.rules.specs.Sizes.{blockCount, operandCount, tableSize}
-use Rattle.rules.specs.Bytes.{allFrom}
-use Rattle.rules.specs.Image.{labels, recordAt, opcode, blockField, entry, operator, labelA, labelB, operands, kind}
+use Rattle.rules.specs.Sizes.{threadCount, blockKindCount, lockCount, blockCount, operandCount, tableSize}
+use Rattle.rules.specs.Bytes.{allFrom, every}
+use Rattle.rules.specs.Image.{labels, recordAt, blockField, labelA, labelB, Row, rowAt, fieldAt, threadField, kindField}
 use Rattle.rules.specs.Statements.{statementOf, roleA, roleB}
-use Rattle.rules.specs.Check.{headOk, slotOk, labelOk, ruleOk, recordOk, rowOk, firstOf, imageFaults, imageLengthFault, tableLengthFault, tableFault, recordFault}
+use Rattle.rules.specs.Check.{headOk, slotOk, labelOk, ruleOk, recordOk, fieldOk, rowOk, firstOf, imageFaults, imageLengthFault, tableLengthFault, tableFault, recordFault}
 use Rattle.laws.specs.Logic.{and-both}
 use Rattle.laws.specs.Faults.{first-of-zero, refusal-zero, fault-free}
 
@@ -38,6 +38,24 @@ passed image table more h =
       },
       four .1,
     )
+
+-- the fields of a row, each in range
+pub record RowIn (r : Row) : Type 0 where
+  pub thread : r .thread < threadCount
+  pub kind : r .kind < blockKindCount
+  pub lock : r .lock < lockCount
+
+pub row-in : (image table : List ℕ) (b : ℕ) → Passed image table → b < blockCount → RowIn (rowAt table b)
+unfolding rowOk rowAt every
+row-in image table b p h =
+    let thread : Bool = fieldOk table b threadField in
+    let kind : Bool = fieldOk table b kindField in
+    let k = and-both thread _ (p .rows b h) in
+    record {
+      thread = ltb-true (fieldAt table b threadField) threadCount (k .0);
+      kind = ltb-true (fieldAt table b kindField) blockKindCount (and-both kind _ (k .1) .0);
+      lock = h;
+    }
 
 -- past the last label there is no record
 pub no-record : (image : List ℕ) (l : ℕ) → ltb l (labels image) ≡ false → recordAt image l ≡ []

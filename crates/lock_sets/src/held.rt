@@ -1,6 +1,5 @@
 // The number of locks in a set, and the lowest of them.
 use rules::sorts::Lock;
-use rules::sorts::block_of;
 use rules::sorts::lock_of;
 ghost use mathlib.Core.Path.{_≡_};
 ghost use Rattle.rules.specs.Machine.{locksHeld, lowestHeld};
@@ -22,7 +21,7 @@ pub fn lowest_held(set: u16) -> LowestLock
 {
     let zeros = u16::trailing_zeros(set);
     if zeros < Lock::COUNT as u32 {
-        LowestLock::Held(lock_of(block_of(zeros as u8)))
+        LowestLock::Held(lock_of(zeros as u8))
     } else {
         LowestLock::None
     }

@@ -3,7 +3,7 @@ use mathlib.Core.Path.{_≡_, refl, sym, ap, ap₂, _∙_}
 use mathlib.Core.List.{List, [], _∷_, _++_, map, flatten, map-append}
 use Prim.Native.Nat.{ℕ, zero, suc}
 use lib.ListN.{getD, set}
-use Rattle.rules.specs.Events.{Event, arrive, step, cut, eventBytes}
+use Rattle.rules.specs.Events.{Event, arrive, turn, eventBytes}
 use Rattle.rules.specs.Answers.{code, answerBytes, Sort, out, now, join, close, sort, sortOfCode}
 use Rattle.rules.specs.Order.{Sheet, noteAs, notesBy, blank, spread, orderBy, Entry, rowOf, order, ByteEntry, byteOrder}
 use Rattle.rules.specs.declared.answer.Answer.{Answer}
@@ -75,8 +75,7 @@ byte-sort NothingToCut = refl
 byte-row : (e : Event) → getD (eventBytes e) 1 0 ≡ rowOf e
 unfolding eventBytes
 byte-row (arrive g) = refl
-byte-row (step t) = refl
-byte-row (cut t) = refl
+byte-row (turn k t) = refl
 
 -- THE SECOND ORDER OF THE BYTES is that of the values
 pub byte-order : (l : List Entry) → map bytesOf (order l) ≡ byteOrder (map bytesOf l)

@@ -10,4 +10,4 @@ use Rattle.one_by_one.specs.Reading.{OneByOne, AllValid, one-by-one}
 module _ (image table : List ℕ) where
   -- DEMAND 3 over the rules that a checked image and its block table make
   pub checked-one-by-one : Checked image table → (words : List ℕ) (l : List Event) → AllValid l → OneByOne (rulesBy image table) words l
-  checked-one-by-one checked = one-by-one (rulesBy image table) (checked-laws checked)
+  checked-one-by-one checked = one-by-one (rulesBy image table) (checked-laws image table checked)

@@ -8,8 +8,8 @@ use Prim.Native.Nat.{ℕ}
 use lib.Seq.{getD-set-other, set-comm}
 use Rattle.rules.specs.Bytes.{has}
 use Rattle.rules.specs.Machine.{Signal, Tree, Job, ThreadState, idle, running, Machine, threadAt, locksOf, jobOf, first, put, treeThreads, window}
-use Rattle.rules.specs.Events.{Event, arrive, step, cut, threadOf}
-use Rattle.rules.specs.Steps.{Rules, Move, plan, planStep, planArrive, written, applied, grown, finished, requeued}
+use Rattle.rules.specs.Events.{Kind, stepping, cutting, Event, arrive, turn, threadOf}
+use Rattle.rules.specs.Steps.{Rules, Move, plan, planStep, planTurn, planArrive, written, applied, grown, finished, requeued}
 use Rattle.laws.specs.Trees.{first-put-other, put-comm, first-append, put-append}
 use Rattle.laws.specs.Words.{window-keep-other, keep-comm}
 use Rattle.soundness.specs.Invariant.{Invariant, Sound}
@@ -21,17 +21,17 @@ module _ (R : Rules) where
     pub tree : first t (s′ .trees) ≡ first t (s .trees)
     pub cells : (j : Job) → jobOf (threadAt s t) ≡ some j → window (R .block (j .label)) (s′ .words) ≡ window (R .block (j .label)) (s .words)
 
-  pub same-step : (t : ℕ) (w : ThreadState) (f : Option (List Signal)) (v v′ : List ℕ)
-      → ((j : Job) → jobOf w ≡ some j → window (R .block (j .label)) v′ ≡ window (R .block (j .label)) v) → planStep R t w f v′ ≡ planStep R t w f v
+  same-turn : (d : Kind) (t : ℕ) (w : ThreadState) (f : Option (List Signal)) (v v′ : List ℕ)
+      → ((j : Job) → jobOf w ≡ some j → window (R .block (j .label)) v′ ≡ window (R .block (j .label)) v) → planTurn R d t w f v′ ≡ planTurn R d t w f v
   unfolding planStep
-  same-step t idle f v v′ h = refl
-  same-step t (running l j) f v v′ h = rw (h j refl) refl
+  same-turn stepping t idle f v v′ h = refl
+  same-turn stepping t (running l j) f v v′ h = rw (h j refl) refl
+  same-turn cutting t w f v v′ h = refl
 
   pub same-plan : (t : ℕ) (e : Event) (s s′ : Machine) → threadOf e ≡ some t → Same t s s′ → plan R s′ e ≡ plan R s e
   unfolding plan
   same-plan t (arrive g) s s′ k h = cc
-  same-plan t (step u) s s′ k h = let e : u ≡ t = cc in rw (e, h .thread, h .tree) (same-step t (threadAt s t) (first t (s .trees)) (s .words) (s′ .words) (h .cells))
-  same-plan t (cut u) s s′ k h = let e : u ≡ t = cc in rw (e, h .thread) refl
+  same-plan t (turn d u) s s′ k h = let e : u ≡ t = cc in rw (e, h .thread, h .tree) (same-turn d t (threadAt s t) (first t (s .trees)) (s .words) (s′ .words) (h .cells))
 
   pub same-arrive : (g : Signal) (s s′ : Machine) → treeThreads (s′ .trees) ≡ treeThreads (s .trees) → plan R s′ (arrive g) ≡ plan R s (arrive g)
   unfolding plan planArrive

@@ -11,10 +11,10 @@ use lib.ListN.{length, getD, set, length-set}
 use lib.Seq.{getD-set-same, getD-set-other}
 use Rattle.rules.specs.Sizes.{threadCount}
 use Rattle.rules.specs.Machine.{Signal, ThreadState, idle, running, Machine, threadAt, fresh, first, treeThreads}
-use Rattle.rules.specs.Events.{Event, arrive, step, cut, threadOf, Valid}
+use Rattle.rules.specs.Events.{Kind, stepping, cutting, Event, arrive, turn, threadOf, Valid}
 use Rattle.rules.specs.Answers.{Sort, out, now, join, close, sort}
 use Rattle.rules.specs.Steps.{Rules, Effect, traps, exits, moves, Move, Plan, stay, grow, move, finish, home, founded}
-use Rattle.rules.specs.Steps.{planArrive, planIdle, planRunning, planStep, planCut, plan, attempt, carry, react, final}
+use Rattle.rules.specs.Steps.{planArrive, planIdle, planRunning, planStep, planCut, planTurn, plan, attempt, carry, react, final}
 use Rattle.rules.specs.Order.{Sheet, noteAs, notesBy, blank, Entry, rowOf, log}
 use Rattle.rules.specs.declared.answer.Answer.{Answer}
 use Rattle.rules.specs.declared.answer.Answer.the-variants.{ListFull, Started, Moved}
@@ -98,23 +98,21 @@ module _ (R : Rules) where
   before-running s t b p exits h = h
   before-running s t b p (moves j words g want) h = inr (refl, h)
 
+  before-turn : (k : Kind) (s : Machine) (t : ℕ) (w : ThreadState) → threadAt s t ≡ w → Before s (planTurn R k t w (first t (s .trees)) (s .words))
+  unfolding planStep planCut
+  before-turn stepping s t idle w = before-idle s t (first t (s .trees)) w
+  before-turn stepping s t (running locks j) w = before-running s t _ _ _ (rw w tt)
+  before-turn cutting s t idle w = tt
+  before-turn cutting s t (running locks j) w = rw w tt
+
   before : (s : Machine) (e : Event) → Before s (plan R s e)
-  unfolding plan planArrive planStep planCut
+  unfolding plan planArrive
   before s (arrive g) = case (R .room (treeThreads (s .trees)) (home R g))
     where
       case : (d : Bool) → Before s (cond d (grow (founded R g)) (stay ListFull))
       case true = tt
       case false = tt
-  before s (step t) = case (threadAt s t) refl
-    where
-      case : (w : ThreadState) → threadAt s t ≡ w → Before s (planStep R t w (first t (s .trees)) (s .words))
-      case idle k = before-idle s t (first t (s .trees)) k
-      case (running locks j) k = before-running s t _ _ _ (rw k tt)
-  before s (cut t) = case (threadAt s t) refl
-    where
-      case : (w : ThreadState) → threadAt s t ≡ w → Before s (planCut t w)
-      case idle k = tt
-      case (running locks j) k = rw k tt
+  before s (turn k t) = before-turn k s t (threadAt s t) refl
 
 -- ---- what an answer says of the threads before and after
 
@@ -130,13 +128,13 @@ Turn s e t s′ a join = Continues a (threadAt s t) × Running (threadAt s′ t)
 Turn s e t s′ a close = Running (threadAt s t) × (threadAt s′ t ≡ idle) × Others s t s′ × (threadOf e ≡ some t)
 
 module _ (R : Rules) (L : Laws R) where
-  turn-attempt : (s : Machine) (e : Event) (t : ℕ) (m : Move) (o : Option ℕ) → Invariant R s → Valid e → Good R s e (move t m) → Before R s (move t m)
+  turn-attempt : (s : Machine) (e : Event) (t : ℕ) (m : Move) (o : Option ℕ) → Invariant R s → Valid e → Good R s (threadOf e) (move t m) → Before R s (move t m)
       → Turn s e t (attempt R t m s o .state) (attempt R t m s o .answer) (sort (attempt R t m s o .answer))
   unfolding attempt
   turn-attempt s e t m (some b) i v g h = λ k. refl
   turn-attempt s e t m none i v g h = rw (g .2) (h, rw (at-mover R L s t m i (v t (g .1))) tt, at-other R L s t m, g .1)
 
-  turn-carry : (s : Machine) (e : Event) (q : Plan) → Invariant R s → Valid e → Good R s e q → Before R s q
+  turn-carry : (s : Machine) (e : Event) (q : Plan) → Invariant R s → Valid e → Good R s (threadOf e) q → Before R s q
       → Turn s e (rowOf e) (carry R s q .state) (carry R s q .answer) (sort (carry R s q .answer))
   unfolding carry
   turn-carry s e (stay a) i v (inl g) h = rw g (λ k. refl)
@@ -146,9 +144,9 @@ module _ (R : Rules) (L : Laws R) where
   turn-carry s e (finish t a) i v g h =
       rw (row-is e t (g .0), g .1) (h, getD-set-idle (s .threads) t, (λ k n. getD-set-other (s .threads) t k idle idle n), g .0)
 
-  turn : (s : Machine) (e : Event) → Invariant R s → Valid e → Turn s e (rowOf e) (react R s e .state) (react R s e .answer) (sort (react R s e .answer))
+  turn-of : (s : Machine) (e : Event) → Invariant R s → Valid e → Turn s e (rowOf e) (react R s e .state) (react R s e .answer) (sort (react R s e .answer))
   unfolding react
-  turn s e i v = turn-carry s e (plan R s e) i v (good R L s e i) (before R s e)
+  turn-of s e i v = turn-carry s e (plan R s e) i v (good R L s e i) (before R s e)
 
   -- ---- the sheet, event by event
 
@@ -202,7 +200,7 @@ module _ (R : Rules) (L : Laws R) where
   unfolding notesBy log final
   notes-rows h s [] i v k = k
   notes-rows h s (e ∷ l) i v k =
-      notes-rows _ (react R s e .state) l (invariant-react R L s e i (v .0)) (v .1) (note-rows h s e (v .0) k _ refl (turn s e i (v .0)))
+      notes-rows _ (react R s e .state) l (invariant-react R L s e i (v .0)) (v .1) (note-rows h s e (v .0) k _ refl (turn-of s e i (v .0)))
 
   -- A ROW IS ONE JOB: all that is written out is arrivals and whole jobs, and a row that is left is a job that runs
   pub one-job-a-row : (words : List ℕ) (l : List Event) → AllValid l

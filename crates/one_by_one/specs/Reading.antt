@@ -10,7 +10,7 @@ use lib.ListN.{length, getD, set, length-set}
 use lib.Seq.{getD-set-same, getD-set-other}
 use Rattle.rules.specs.Sizes.{threadCount}
 use Rattle.rules.specs.Machine.{Machine, fresh}
-use Rattle.rules.specs.Events.{Event, arrive, step, cut, threadOf, Valid}
+use Rattle.rules.specs.Events.{Event, arrive, turn, threadOf, Valid}
 use Rattle.rules.specs.Answers.{Sort, out, now, join, close, sort}
 use Rattle.rules.specs.Steps.{Rules, Plan, stay, grow, move, finish, Move, plan, attempt, carry, react, final}
 use Rattle.rules.specs.Order.{Sheet, noteAs, notesBy, blank, spread, orderBy, Entry, rowOf, order, events, log}
@@ -43,8 +43,7 @@ byRow n = rowOf (n .event)
 
 pub row-is : (e : Event) (t : ℕ) → threadOf e ≡ some t → rowOf e ≡ t
 row-is (arrive g) t h = never (cc)
-row-is (step u) t h = cc
-row-is (cut u) t h = cc
+row-is (turn k u) t h = cc
 
 pub row-of : (e : Event) (t : ℕ) → threadOf e ≡ some t → threadOf e ≡ some (rowOf e)
 row-of e t h = h ∙ ap some (sym (row-is e t h))
@@ -57,13 +56,13 @@ module _ (R : Rules) (L : Laws R) where
   About s e s′ join = threadOf e ≡ some (rowOf e)
   About s e s′ close = threadOf e ≡ some (rowOf e)
 
-  about-attempt : (s : Machine) (e : Event) (t : ℕ) (m : Move) (o : Option ℕ) → Good R s e (move t m)
+  about-attempt : (s : Machine) (e : Event) (t : ℕ) (m : Move) (o : Option ℕ) → Good R s (threadOf e) (move t m)
       → About s e (attempt R t m s o .state) (sort (attempt R t m s o .answer))
   unfolding attempt
   about-attempt s e t m none g = rw (g .2) (row-of e t (g .1))
   about-attempt s e t m (some b) g = refl
 
-  about-carry : (s : Machine) (e : Event) (q : Plan) → Good R s e q → About s e (carry R s q .state) (sort (carry R s q .answer))
+  about-carry : (s : Machine) (e : Event) (q : Plan) → Good R s (threadOf e) q → About s e (carry R s q .state) (sort (carry R s q .answer))
   unfolding carry
   about-carry s e (stay a) (inl g) = rw g refl
   about-carry s e (stay a) (inr g) = rw (g .0) (g .1)

@@ -10,7 +10,7 @@ use lib.Seq.{getD-set-other}
 use Rattle.rules.specs.Sizes.{threadCount}
 use Rattle.rules.specs.Bytes.{has}
 use Rattle.rules.specs.Machine.{idle, Machine, threadAt, locksOf}
-use Rattle.rules.specs.Events.{Event, arrive, step, cut, threadOf, Valid}
+use Rattle.rules.specs.Events.{Event, arrive, turn, threadOf, Valid}
 use Rattle.rules.specs.Answers.{out, join, sort}
 use Rattle.rules.specs.Steps.{Rules, Move, Plan, stay, grow, move, finish, Reply, plan, blocked, grant, applied, grown, finished, attempt, carry, react}
 use Rattle.laws.specs.Logic.{never, not-true}
@@ -46,13 +46,13 @@ module _ (R : Rules) (L : Laws R) where
     pub names : threadOf x ≡ some thread
     pub clear : blocked R thread (s .threads) (act .want) ≡ none
 
-  joined-move : (s : Machine) (x : Event) (t : ℕ) (m : Move) (o : Option ℕ) → plan R s x ≡ move t m → Good R s x (move t m)
+  joined-move : (s : Machine) (x : Event) (t : ℕ) (m : Move) (o : Option ℕ) → plan R s x ≡ move t m → Good R s (threadOf x) (move t m)
       → blocked R t (s .threads) (m .want) ≡ o → sort (attempt R t m s o .answer) ≡ join → Joined s x
   unfolding attempt
   joined-move s x t m none k g h e = record { thread = t; act = m; plans = k; sound = g .0; names = g .1; clear = h }
   joined-move s x t m (some b) k g h e = never (cc)
 
-  joined-plan : (s : Machine) (x : Event) (q : Plan) → plan R s x ≡ q → Good R s x q → sort (carry R s q .answer) ≡ join → Joined s x
+  joined-plan : (s : Machine) (x : Event) (q : Plan) → plan R s x ≡ q → Good R s (threadOf x) q → sort (carry R s q .answer) ≡ join → Joined s x
   unfolding carry
   joined-plan s x (stay a) k (inl g) e = never (cc)
   joined-plan s x (stay a) k (inr g) e = never (cc (g .0))
@@ -110,8 +110,7 @@ module _ (R : Rules) (L : Laws R) where
 
     plan-other : (e : Event) → y ≡ e → plan R after e ≡ plan R s e
     plan-other (arrive g) k = same-arrive R g s after (threads-put (j .thread) (j .act .pending) (s .trees))
-    plan-other (step t) k = same-plan R t (step t) s after refl (same-applied R s t (j .thread) (j .act) i (j .sound) (λ e. other t (ap threadOf k) (sym e)))
-    plan-other (cut t) k = same-plan R t (cut t) s after refl (same-applied R s t (j .thread) (j .act) i (j .sound) (λ e. other t (ap threadOf k) (sym e)))
+    plan-other (turn d t) k = same-plan R t (turn d t) s after refl (same-applied R s t (j .thread) (j .act) i (j .sound) (λ e. other t (ap threadOf k) (sym e)))
 
     -- x is done after y, which left the machine s′, as before it
     again : (s′ : Machine) → Same R (j .thread) s s′ → Clear R (s′ .threads) (j .thread) (j .act .want)
@@ -124,7 +123,7 @@ module _ (R : Rules) (L : Laws R) where
     free : Clear R (s .threads) (j .thread) (j .act .want)
     free = blocked-clear R (s .threads) (j .thread) (j .act .want) (j .clear)
 
-    rest-move : (t : ℕ) (m : Move) (o : Option ℕ) → Good R s y (move t m) → blocked R t (after .threads) (m .want) ≡ o
+    rest-move : (t : ℕ) (m : Move) (o : Option ℕ) → Good R s (threadOf y) (move t m) → blocked R t (after .threads) (m .want) ≡ o
         → ¬ (sort (attempt R t m after o .answer) ≡ out) → Rest (move t m)
     unfolding carry attempt
     rest-move t m (some b) g h k = absurd (k refl)
@@ -138,7 +137,7 @@ module _ (R : Rules) (L : Laws R) where
               ∙ leaves (comm-applied R s (j .thread) t (j .act) m d (λ p q e e′. unlike R s (j .thread) t (p .0) (q .0) i d (j .sound .writes p e) (g .0 .writes q e′))));
         }
 
-    rest : (q : Plan) → Good R s y q → ¬ (sort (carry R after q .answer) ≡ out) → Rest q
+    rest : (q : Plan) → Good R s (threadOf y) q → ¬ (sort (carry R after q .answer) ≡ out) → Rest q
     unfolding carry
     rest (stay a) g k = record { same = refl; then = react-move s x (j .thread) (j .act) (j .plans) (j .clear) }
     rest (grow z) g k =

@@ -12,8 +12,8 @@ use borrow.Author.Tests.{eqb-true, eq-eqb}
 use Rattle.rules.specs.Bytes.{has}
 use Rattle.rules.specs.Machine.{Signal, Job, ThreadState, idle, running, Machine, threadAt, locksOf, treeThreads}
 use Rattle.rules.specs.Answers.{close, sort}
-use Rattle.rules.specs.Events.{Event, arrive, step, cut, threadOf}
-use Rattle.rules.specs.Steps.{Effect, traps, exits, moves, Rules, Move, Plan, stay, grow, move, finish, planArrive, planIdle, planRunning, planStep, planCut, plan, blocked, grant, attempt, carry, react, home, founded}
+use Rattle.rules.specs.Events.{Kind, stepping, cutting, Event, arrive, turn, step, cut, threadOf}
+use Rattle.rules.specs.Steps.{Effect, traps, exits, moves, Rules, Move, Plan, stay, grow, move, finish, planArrive, planIdle, planRunning, planStep, planCut, planTurn, plan, blocked, grant, attempt, carry, react, home, founded}
 use Rattle.rules.specs.declared.answer.Answer.the-variants.{ListFull, Started, WasCut}
 use Rattle.rules.proofs.Running.{never}
 
@@ -39,45 +39,48 @@ set-locks (v ∷ ws) (suc t) (suc u) l w f h = set-locks ws t u l w f h
 
 -- ---- what an event is to do
 
--- a plan to finish has the answer of an end, and ends the event's own thread; no other plan has such an answer
-abbrev Ends : Event → Plan → Type 0
-Ends e (stay a) = sort a ≡ close → ⊥
-Ends e (grow x) = Unit {0}
-Ends e (move t m) = sort (m .answer) ≡ close → ⊥
-Ends e (finish t a) = (sort a ≡ close) × (threadOf e ≡ some t)
+-- of an event that names this thread: a plan to finish has the answer of an end, and ends the thread; no other plan has such an answer
+abbrev Ends : Option ℕ → Plan → Type 0
+Ends o (stay a) = sort a ≡ close → ⊥
+Ends o (grow x) = Unit {0}
+Ends o (move t m) = sort (m .answer) ≡ close → ⊥
+Ends o (finish t a) = (sort a ≡ close) × (o ≡ some t)
 
 module _ (R : Rules) where
-  arrive-ends : (g : Signal) (room : Bool) → Ends (arrive g) (cond room (grow (founded R g)) (stay ListFull))
+  arrive-ends : (g : Signal) (room : Bool) → Ends none (cond room (grow (founded R g)) (stay ListFull))
   arrive-ends g true = tt
   arrive-ends g false = λ e. never (cc)
 
-  idle-ends : (t : ℕ) (f : Option (List Signal)) → Ends (step t) (planIdle R t f)
+  idle-ends : (t : ℕ) (f : Option (List Signal)) → Ends (some t) (planIdle R t f)
   unfolding planIdle
   idle-ends t none = λ e. never (cc)
   idle-ends t (some []) = λ e. never (cc)
   idle-ends t (some (g ∷ p)) = λ e. never (cc)
 
-  running-ends : (t b : ℕ) (p : List Signal) (x : Effect) → Ends (step t) (planRunning t b p x)
+  running-ends : (t b : ℕ) (p : List Signal) (x : Effect) → Ends (some t) (planRunning t b p x)
   unfolding planRunning
   running-ends t b p (traps r) = (refl, refl)
   running-ends t b p exits = (refl, refl)
   running-ends t b p (moves j words g want) = λ e. never (cc)
 
-  step-ends : (t : ℕ) (w : ThreadState) (f : Option (List Signal)) (words : List ℕ) → Ends (step t) (planStep R t w f words)
+  step-ends : (t : ℕ) (w : ThreadState) (f : Option (List Signal)) (words : List ℕ) → Ends (some t) (planStep R t w f words)
   unfolding planStep
   step-ends t idle f words = idle-ends t f
   step-ends t (running locks j) f words = running-ends t _ _ _
 
-  cut-ends : (t : ℕ) (w : ThreadState) → Ends (cut t) (planCut t w)
+  cut-ends : (t : ℕ) (w : ThreadState) → Ends (some t) (planCut t w)
   unfolding planCut
   cut-ends t idle = λ e. never (cc)
   cut-ends t (running locks j) = (refl, refl)
 
-  plan-ends : (s : Machine) (e : Event) → Ends e (plan R s e)
+  turn-ends : (k : Kind) (t : ℕ) (w : ThreadState) (f : Option (List Signal)) (words : List ℕ) → Ends (some t) (planTurn R k t w f words)
+  turn-ends stepping t w f words = step-ends t w f words
+  turn-ends cutting t w f words = cut-ends t w
+
+  plan-ends : (s : Machine) (e : Event) → Ends (threadOf e) (plan R s e)
   unfolding plan planArrive
   plan-ends s (arrive g) = arrive-ends g (R .room (treeThreads (s .trees)) (home R g))
-  plan-ends s (step t) = step-ends t _ _ _
-  plan-ends s (cut t) = cut-ends t _
+  plan-ends s (turn k t) = turn-ends k t _ _ _
 
   -- ---- and its doing
 
@@ -86,7 +89,7 @@ module _ (R : Rules) where
   waiting-ends s t m none n c = n c
   waiting-ends s t m (some l) n c = never (cc)
 
-  carry-ends : (s : Machine) (e : Event) (t : ℕ) → threadOf e ≡ some t → (p : Plan) → Ends e p → sort (carry R s p .answer) ≡ close → threadAt (carry R s p .state) t ≡ idle
+  carry-ends : (s : Machine) (e : Event) (t : ℕ) → threadOf e ≡ some t → (p : Plan) → Ends (threadOf e) p → sort (carry R s p .answer) ≡ close → threadAt (carry R s p .state) t ≡ idle
   unfolding carry
   carry-ends s e t h (stay a) n c = absurd (n c)
   carry-ends s e t h (grow x) n c = never (cc)
@@ -107,7 +110,7 @@ module _ (R : Rules) where
   attempt-locks s t u l m none h = set-locks (s .threads) t u l _ (granted l (m .want) (locksOf (threadAt s t))) h
   attempt-locks s t u l m (some k) h = h
 
-  carry-locks : (s : Machine) (e : Event) (u l : ℕ) (p : Plan) → Ends e p → (sort (carry R s p .answer) ≡ close → ⊥)
+  carry-locks : (s : Machine) (e : Event) (u l : ℕ) (p : Plan) → Ends (threadOf e) p → (sort (carry R s p .answer) ≡ close → ⊥)
       → has l (locksOf (threadAt s u)) ≡ true → has l (locksOf (threadAt (carry R s p .state) u)) ≡ true
   unfolding carry
   carry-locks s e u l (stay a) n c h = h

@@ -10,7 +10,7 @@ use lib.ListN.{length, getD, drop, replicate, length-map}
 use lib.Seq.{getD-append-add, getD-drop}
 use borrow.Author.Tests.{le-leb, lt-leb}
 use Rattle.rules.specs.Image.{recordAt, labelA, labelB, rowAt}
-use Rattle.rules.specs.Machine.{Signal, Job, ThreadState, idle, running, Machine, threadAt, fill, first, put}
+use Rattle.rules.specs.Machine.{Signal, Job, job, ThreadState, idle, running, Machine, threadAt, fill, first, put}
 use Rattle.rules.specs.Events.{step}
 use Rattle.rules.specs.Effects.{perform}
 use Rattle.rules.specs.Steps.{Reply, newest, older, alien, blockAt, rulesBy, blocked, react}
@@ -40,7 +40,7 @@ module _ (image table : List ℕ) {s : Machine} {t locks : ℕ} {j : Job} {value
   return-trap r e = trapped image table r 2 (rw e)
 
   pub return : Runs image s t locks j Return values → (a : ℕ) (l : List ℕ) → j .returns ≡ a ∷ l
-      → MovesOn (stepOf image table s t) t locks (record { label = newest a l; returns = older a l; registers = fill values })
+      → MovesOn (stepOf image table s t) t locks (job (newest a l) (older a l) (fill values))
   unfolding perform blocked
   return r a l e = moves-on image table r _ (wordsOf image s j) none none (rw e) refl
 
@@ -49,9 +49,9 @@ module _ (image table : List ℕ) {s : Machine} {t locks : ℕ} {j : Job} {value
   call-trap r h = trapped image table r 3 (rw (le-leb 8 (length (j .returns)) h))
 
   pub call : Runs image s t locks j Call values → length (j .returns) < 8 → Open image table s t (A image j)
-      → MovesOn (stepOf image table s t) t (bitOr locks (2 ^ blockAt image (A image j)))
-      (record { label = A image j; returns = j .returns ++ B image j ∷ []; registers = fill values })
-  unfolding perform rowAt
+      → MovesOn (stepOf image table s t) t (bitOr locks (2 ^ rowAt table (blockAt image (A image j)) .lock))
+      (job (A image j) (j .returns ++ B image j ∷ []) (fill values))
+  unfolding perform
   call r h o = moves-on image table r _ (wordsOf image s j) none (some (blockAt image (A image j))) (rw (lt-leb 8 (length (j .returns)) h, o .own)) (o .free)
 
   pub send-trap : Runs image s t locks j SendBuffered values → (p : List Signal) → first t (s .trees) ≡ some p → 8 ≤ length p → stepOf image table s t .answer ≡ Trapped 4
@@ -59,7 +59,7 @@ module _ (image table : List ℕ) {s : Machine} {t locks : ℕ} {j : Job} {value
   send-trap r p e h = trapped image table r 4 (rw (e, le-leb 8 (length p) h))
 
   pub send : Runs image s t locks j SendBuffered values → (p : List Signal) → first t (s .trees) ≡ some p → length p < 8
-      → MovesOn (stepOf image table s t) t locks (record { label = B image j; returns = j .returns; registers = j .registers })
+      → MovesOn (stepOf image table s t) t locks (job (B image j) (j .returns) (j .registers))
   unfolding perform blocked
   send r p e h = moves-on image table r _ (wordsOf image s j) (some (record { label = A image j; values = values })) none (rw (e, lt-leb 8 (length p) h)) refl
 
@@ -67,19 +67,19 @@ module _ (image table : List ℕ) {s : Machine} {t locks : ℕ} {j : Job} {value
       → stepOf image table s t .state .trees ≡ put t (some (p ++ record { label = A image j; values = values } ∷ [])) (s .trees)
   unfolding perform blocked
   send-kept r p e h =
-      own-tree image table r (record { label = B image j; returns = j .returns; registers = j .registers }) (wordsOf image s j) (some (record { label = A image j; values = values })) none
+      own-tree image table r (job (B image j) (j .returns) (j .registers)) (wordsOf image s j) (some (record { label = A image j; values = values })) none
       (rw (e, lt-leb 8 (length p) h)) refl
       ∙ rw e
 
   pub direct : Runs image s t locks j SendDirect values → Open image table s t (A image j)
-      → MovesOn (stepOf image table s t) t (bitOr locks (2 ^ blockAt image (A image j)))
-      (record { label = A image j; returns = j .returns; registers = fill values })
-  unfolding perform rowAt
+      → MovesOn (stepOf image table s t) t (bitOr locks (2 ^ rowAt table (blockAt image (A image j)) .lock))
+      (job (A image j) (j .returns) (fill values))
+  unfolding perform
   direct r o = moves-on image table r _ (wordsOf image s j) none (some (blockAt image (A image j))) (rw (o .own)) (o .free)
 
   pub transfer : Runs image s t locks j Transfer values
       → MovesOn (stepOf image table s t) t locks
-      (record { label = A image j; returns = j .returns; registers = map some values ++ drop (length values) (j .registers) })
+      (job (A image j) (j .returns) (map some values ++ drop (length values) (j .registers)))
   unfolding perform blocked
   transfer r = moves-on image table r _ (wordsOf image s j) none none refl refl
 

@@ -13,7 +13,7 @@ use borrow.Author.Tests.{lt-ltb, le-ltb}
 use Rattle.rules.specs.Bytes.{num16, num32, firstBad, blocks, pad, chunks, has}
 use Rattle.rules.specs.Image.{rowAt}
 use Rattle.rules.specs.Check.{firstOf, imageFaults}
-use Rattle.rules.specs.Machine.{Signal, Job, ThreadState, idle, running, Machine, threadAt, locksOf, jobOf, fill, first, put}
+use Rattle.rules.specs.Machine.{Signal, Job, job, ThreadState, idle, running, Machine, threadAt, locksOf, jobOf, fill, first, put}
 use Rattle.rules.specs.Encoding.{threadRaw, threadBytes, encode, machineFrom}
 use Rattle.rules.specs.Answers.{code, detail, close, sort}
 use Rattle.rules.specs.Events.{Event, arrive, step, cut, threadOf, eventsFrom}
@@ -83,8 +83,8 @@ pub record Trials (image table : List ℕ) (s : Machine) (t locks : ℕ) (j : Jo
   pub return-without-call : Runs image s t locks j Return values → j .returns ≡ [] → Answered (stepOf image table s t) 8 2
   -- "The eighth CALL moves on; the ninth: 8, 3"
   pub eighth-call : Runs image s t locks j Call values → length (j .returns) < 8 → Open image table s t (A image j)
-      → MovesOn (stepOf image table s t) t (bitOr locks (2 ^ blockAt image (A image j)))
-      (record { label = A image j; returns = j .returns ++ B image j ∷ []; registers = fill values })
+      → MovesOn (stepOf image table s t) t (bitOr locks (2 ^ rowAt table (blockAt image (A image j)) .lock))
+      (job (A image j) (j .returns ++ B image j ∷ []) (fill values))
   pub ninth-call : Runs image s t locks j Call values → 8 ≤ length (j .returns) → Answered (stepOf image table s t) 8 3
   -- "The eighth pending signal is kept; the ninth: 8, 4"
   pub eighth-signal : Runs image s t locks j SendBuffered values → (p : List Signal) → first t (s .trees) ≡ some p → length p < 8
@@ -117,7 +117,7 @@ pub record Trials (image table : List ℕ) (s : Machine) (t locks : ℕ) (j : Jo
       ≡ s .trees ++ record { thread = rowAt table (blockAt image (g .label)) .thread; pending = g ∷ [] } ∷ []
   -- also: RETURN releases no lock, and no answer but that of an end releases one
   pub return-keeps-locks : Runs image s t locks j Return values → (a : ℕ) (l : List ℕ) → j .returns ≡ a ∷ l
-      → MovesOn (stepOf image table s t) t locks (record { label = newest a l; returns = older a l; registers = fill values })
+      → MovesOn (stepOf image table s t) t locks (job (newest a l) (older a l) (fill values))
   pub locks-kept : (R : Rules) (e : Event) → (sort (react R s e .answer) ≡ close → ⊥)
       → (u l : ℕ) → has l (locksOf (threadAt s u)) ≡ true → has l (locksOf (threadAt (react R s e .state) u)) ≡ true
   -- also: a cut leaves no return labels
@@ -125,7 +125,7 @@ pub record Trials (image table : List ℕ) (s : Machine) (t locks : ℕ) (j : Jo
   pub cut-job : (R : Rules) → threadAt s t ≡ running locks j → jobOf (threadAt (react R s (cut t) .state) t) ≡ none
   -- also: a buffered SEND keeps all registers
   pub buffered-keeps : Runs image s t locks j SendBuffered values → (p : List Signal) → first t (s .trees) ≡ some p → length p < 8
-      → MovesOn (stepOf image table s t) t locks (record { label = B image j; returns = j .returns; registers = j .registers })
+      → MovesOn (stepOf image table s t) t locks (job (B image j) (j .returns) (j .registers))
   -- also: while a job runs, its tree's next signal is not started
   pub starts-nothing : (R : Rules) → threadAt s t ≡ running locks j → react R s (step t) .answer ≡ Started → ⊥
 

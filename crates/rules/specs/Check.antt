@@ -7,10 +7,10 @@ use mathlib.Core.List.{List, [], _∷_}
 use Prim.Native.Nat.{ℕ, _+_, _*_}
 use lib.ListN.{length}
 use lib.Dec.{eqb, leb, ltb}
-use Rattle.rules.specs.Sizes.{blockCount, threadCount, registerCount, wordCount, operandCount, tableSize}
+use Rattle.rules.specs.Sizes.{blockCount, registerCount, wordCount, operandCount, tableSize}
 use Rattle.rules.specs.Codes.{skipCode, gotoCode, ifCode, sendDirectCode, transferCode, exitCode, equalCode, lessCode, directCode, bufferedCode, numberOperandCode, registerOperandCode, wordOperandCode}
-use Rattle.rules.specs.Bytes.{allFrom, firstBad}
-use Rattle.rules.specs.Image.{labels, recordAt, opcode, blockField, entry, operator, labelA, labelB, operands, kind, value, rowAt}
+use Rattle.rules.specs.Bytes.{allFrom, firstBad, every}
+use Rattle.rules.specs.Image.{labels, recordAt, opcode, blockField, entry, operator, labelA, labelB, operands, kind, value, Field, rowFields, fieldAt}
 use Rattle.rules.specs.Statements.{shape, destinations, operationAt, statementOf, roleA, roleB}
 use Rattle.rules.specs.declared.statement.Operation.{Operation}
 use Rattle.rules.specs.declared.statement.Shape.{Shape}
@@ -70,10 +70,13 @@ ruleOk image r =
 unfoldable pub recordOk : List ℕ → ℕ → Bool
 recordOk image l = ruleOk image (recordAt image l)
 
--- ---- the rules of the block table: thread 0 to 7, kind 0 or 1
+-- ---- the rules of the block table: each field of a row is in range (thread 0 to 7, kind 0 or 1)
+
+abbrev pub fieldOk : List ℕ → ℕ → Field → Bool
+fieldOk table b f = ltb (fieldAt table b f) (f .limit)
 
 unfoldable pub rowOk : List ℕ → ℕ → Bool
-rowOk table b = ltb (rowAt table b .thread) threadCount && ltb (rowAt table b .kind) 2
+rowOk table b = every (fieldOk table b) rowFields
 
 -- ---- the refusals
 

@@ -7,7 +7,7 @@ use lib.ListN.{length, getD, drop}
 use lib.Dec.{eqb}
 use Rattle.rules.specs.Sizes.{threadCount, wordTotal, registerCount, returnCount, treeCount, pendingCount, idleLabel, locksPlace, returnCountPlace, returnsPlace, presencePlace, registersPlace, threadSize, valueCountPlace, valuesPlace, signalSize, pendingCountPlace, signalsPlace, treeSize, threadsPlace, treeCountPlace, treesPlace}
 use Rattle.rules.specs.Bytes.{num16, num32, le16, le32, has, blocks, pad, chunks}
-use Rattle.rules.specs.Machine.{Signal, Tree, Job, ThreadState, idle, running, Machine}
+use Rattle.rules.specs.Machine.{Signal, Tree, Job, job, ThreadState, idle, running, Machine}
 
 -- ---- a thread record: label (65,535 idle), lock set, return count, return labels, presence set, register values
 
@@ -41,11 +41,10 @@ registersFrom present values r (suc n) = registerOf present values r ∷ registe
 
 -- the thread whose record b begins with
 unfoldable pub jobFrom : List ℕ → Job
-jobFrom b = record {
-  label = num16 b;
-  returns = chunks num16 2 (getD (drop returnCountPlace b) 0 0) (drop returnsPlace b);
-  registers = registersFrom (num32 (drop presencePlace b)) (chunks num16 2 registerCount (drop registersPlace b)) 0 registerCount;
-}
+jobFrom b =
+    job (num16 b)
+    (chunks num16 2 (getD (drop returnCountPlace b) 0 0) (drop returnsPlace b))
+    (registersFrom (num32 (drop presencePlace b)) (chunks num16 2 registerCount (drop registersPlace b)) 0 registerCount)
 
 unfoldable pub threadFrom : List ℕ → ThreadState
 threadFrom b = cond (eqb (num16 b) idleLabel) idle (running (num16 (drop locksPlace b)) (jobFrom b))

@@ -1,10 +1,10 @@
 -- "Image and block table": the fields of the image's records and of the block table.
 use mathlib.Core.Bool.{cond, _&&_}
-use mathlib.Core.List.{List, []}
+use mathlib.Core.List.{List, [], _∷_}
 use Prim.Native.Nat.{ℕ, _+_, _*_, _/_}
 use lib.ListN.{length, getD, take, drop}
 use lib.Dec.{eqb, leb, ltb}
-use Rattle.rules.specs.Sizes.{threadCount, blockCount, recordCount, opcodePlace, blockPlace, entryPlace, operatorPlace, labelAPlace, labelBPlace, operandCountPlace, operandsPlace, operandSize, recordSize, rowKindPlace, rowSize}
+use Rattle.rules.specs.Sizes.{threadCount, blockKindCount, blockCount, recordCount, opcodePlace, blockPlace, entryPlace, operatorPlace, labelAPlace, labelBPlace, operandCountPlace, operandsPlace, operandSize, recordSize, rowThreadPlace, rowKindPlace, rowSize}
 use Rattle.rules.specs.Bytes.{num16}
 
 -- the number of records: n where the length is 84 × n, n 1 to 512; otherwise 0
@@ -45,12 +45,29 @@ kind r k = getD r (operandsPlace + operandSize * k) 0
 abbrev pub value : List ℕ → ℕ → ℕ
 value r k = num16 (drop (operandsPlace + 1 + operandSize * k) r)
 
--- what the block table says of a block: its thread, its kind (0 FD, 1 CMX), and its lock. Lock b guards block b. A block past the
--- table has a thread and a lock that nobody has
+-- a field of a row of the block table: its place in the row, and how many values it can have
+pub record Field : Type 0 where
+  pub place : ℕ
+  pub limit : ℕ
+
+abbrev pub threadField : Field
+threadField = record { place = rowThreadPlace; limit = threadCount }
+
+abbrev pub kindField : Field
+kindField = record { place = rowKindPlace; limit = blockKindCount }
+
+abbrev pub rowFields : List Field
+rowFields = threadField ∷ kindField ∷ []
+
+-- past the table a field has a value that none can have
+abbrev pub fieldAt : List ℕ → ℕ → Field → ℕ
+fieldAt table b f = getD table (rowSize * b + f .place) (f .limit)
+
+-- what the block table says of a block: its thread, its kind (0 FD, 1 CMX), and its lock. Lock b guards block b
 pub record Row : Type 0 where
   pub thread : ℕ
   pub kind : ℕ
   pub lock : ℕ
 
 unfoldable pub rowAt : List ℕ → ℕ → Row
-rowAt table b = record { thread = getD table (rowSize * b) threadCount; kind = getD table (rowSize * b + rowKindPlace) 0; lock = b }
+rowAt table b = record { thread = fieldAt table b threadField; kind = fieldAt table b kindField; lock = b }

@@ -24,6 +24,9 @@ pub record Job : Type 0 where
   pub returns : List ℕ
   pub registers : List (Option ℕ)
 
+abbrev pub job : ℕ → List ℕ → List (Option ℕ) → Job
+job label returns registers = record { label = label; returns = returns; registers = registers }
+
 -- a thread is idle, or runs a job and holds a set of locks
 pub data ThreadState : Type 0 where
   idle : ThreadState

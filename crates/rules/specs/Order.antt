@@ -2,9 +2,9 @@
 use mathlib.Core.List.{List, [], _∷_, _++_, flatten}
 use Prim.Native.Nat.{ℕ, zero, suc}
 use lib.ListN.{getD, set, replicate, take, drop}
-use Rattle.rules.specs.Sizes.{threadCount, eventSize, answerSize}
+use Rattle.rules.specs.Sizes.{threadCount, eventThreadPlace, eventSize, answerSize}
 use Rattle.rules.specs.Machine.{Machine}
-use Rattle.rules.specs.Events.{Event, arrive, step, cut}
+use Rattle.rules.specs.Events.{Event, arrive, turn}
 use Rattle.rules.specs.Answers.{Sort, out, now, join, close, sort, sortOfCode}
 use Rattle.rules.specs.Steps.{Rules, react}
 use Rattle.rules.specs.declared.answer.Answer.{Answer}
@@ -49,8 +49,7 @@ pub record Entry : Type 0 where
 -- the thread whose row an event joins (an arrival joins none)
 abbrev pub rowOf : Event → ℕ
 rowOf (arrive g) = 0
-rowOf (step t) = t
-rowOf (cut t) = t
+rowOf (turn k t) = t
 
 unfoldable pub order : List Entry → List Entry
 order l = orderBy (λ (n : Entry). sort (n .answer)) (λ (n : Entry). rowOf (n .event)) l
@@ -79,4 +78,4 @@ byteEntries (suc m) events answers =
     record { event = take eventSize events; answer = take answerSize answers } ∷ byteEntries m (drop eventSize events) (drop answerSize answers)
 
 unfoldable pub byteOrder : List ByteEntry → List ByteEntry
-byteOrder l = orderBy (λ (n : ByteEntry). sortOfCode (getD (n .answer) 0 0)) (λ (n : ByteEntry). getD (n .event) 1 0) l
+byteOrder l = orderBy (λ (n : ByteEntry). sortOfCode (getD (n .answer) 0 0)) (λ (n : ByteEntry). getD (n .event) eventThreadPlace 0) l

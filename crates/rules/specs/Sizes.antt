@@ -13,6 +13,10 @@ blockCount = 16
 abbrev pub lockCount : ℕ
 lockCount = 16
 
+-- kinds of a block: FD and CMX
+abbrev pub blockKindCount : ℕ
+blockKindCount = 2
+
 -- shared words a block, and of all blocks
 abbrev pub wordCount : ℕ
 wordCount = 16
@@ -81,6 +85,9 @@ abbrev pub recordSize : ℕ
 recordSize = operandsPlace + operandSize * operandCount
 
 -- ---- the block table: a row is thread, kind
+
+abbrev pub rowThreadPlace : ℕ
+rowThreadPlace = 0
 
 abbrev pub rowKindPlace : ℕ
 rowKindPlace = 1
@@ -151,6 +158,9 @@ abbrev pub stateSize : ℕ
 stateSize = treesPlace + treeSize * treeCount
 
 -- ---- an event: kind, thread, signal; an answer: code, detail
+
+abbrev pub eventKindPlace : ℕ
+eventKindPlace = 0
 
 abbrev pub eventThreadPlace : ℕ
 eventThreadPlace = 1

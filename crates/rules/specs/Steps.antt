@@ -13,8 +13,8 @@ use Rattle.rules.specs.Codes.{fdCode, noReturnLabelCode, foreignFdBlockC
 use Rattle.rules.specs.Bytes.{has}
 use Rattle.rules.specs.Image.{recordAt, blockField, labelA, labelB, Row, rowAt}
 use Rattle.rules.specs.Statements.{statementOf, dataOf}
-use Rattle.rules.specs.Machine.{Signal, Tree, Job, ThreadState, idle, running, Machine, threadAt, locksOf, fill, first, put, treeThreads, window, keep}
-use Rattle.rules.specs.Events.{Event, arrive, step, cut}
+use Rattle.rules.specs.Machine.{Signal, Tree, Job, job, ThreadState, idle, running, Machine, threadAt, locksOf, fill, first, put, treeThreads, window, keep}
+use Rattle.rules.specs.Events.{Kind, stepping, cutting, Event, arrive, turn}
 use Rattle.rules.specs.Effects.{Got, trap, got, Next, onA, onB, intoA, callA, back, Going, Outcome, ends, goes, View, outcome}
 use Rattle.rules.specs.declared.answer.Answer.{Answer}
 use Rattle.rules.specs.declared.answer.Answer.the-variants.{Taken, ListFull, NoWork, Waiting, Started, Moved, Exited, Trapped, WasCut, NothingToCut}
@@ -54,7 +54,7 @@ alien r t = eqb (r .kind) fdCode && not (eqb (r .thread) t)
 -- to an FD block of another thread: reason 5
 module _ (block : ℕ → ℕ) (row : ℕ → Row) where
   abbrev pub onward : ℕ → List ℕ → ℕ → Going → Option ℕ → Effect
-  onward l returns a g want = moves (record { label = l; returns = returns; registers = g .cells .registers }) (g .cells .words) (signalTo a (g .sent)) want
+  onward l returns a g want = moves (job l returns (g .cells .registers)) (g .cells .words) (signalTo a (g .sent)) want
 
   abbrev pub steer : ℕ → ℕ → ℕ → Going → Next → List ℕ → Effect
   steer t a b g onA rs = onward a rs a g none
@@ -127,7 +127,7 @@ pub record Reply : Type 0 where
 
 -- the job that a signal starts: its values fill registers 0 upward
 abbrev pub begin : Signal → Job
-begin g = record { label = g .label; returns = []; registers = fill (g .values) }
+begin g = job (g .label) [] (fill (g .values))
 
 abbrev pub added : Option Signal → List Signal
 added none = []
@@ -187,10 +187,14 @@ module _ (R : Rules) where
   planStep t (running locks j) f words =
       planRunning t (R .block (j .label)) (pendingOf f) (R .act t j (window (R .block (j .label)) words) (length (pendingOf f)))
 
+  -- a turn of thread t, from the thread's state, the pending signals of its first tree and the words
+  abbrev pub planTurn : Kind → ℕ → ThreadState → Option (List Signal) → List ℕ → Plan
+  planTurn stepping t w f words = planStep t w f words
+  planTurn cutting t w f words = planCut t w
+
   unfoldable pub plan : Machine → Event → Plan
   plan s (arrive g) = planArrive g (s .trees)
-  plan s (step t) = planStep t (threadAt s t) (first t (s .trees)) (s .words)
-  plan s (cut t) = planCut t (threadAt s t)
+  plan s (turn k t) = planTurn k t (threadAt s t) (first t (s .trees)) (s .words)
 
   -- ---- and its doing, in the machine
 

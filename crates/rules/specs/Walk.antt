@@ -54,8 +54,8 @@ walk next n t = walkOn next n [] t
 -- ---- over the machine
 
 -- what a thread would do next
-abbrev pub turn : Machine → ℕ → Event
-turn s t = step t
+abbrev pub nextTurn : Machine → ℕ → Event
+nextTurn s t = step t
 
 -- the lock that an answer says is waited for
 abbrev pub asked : Answer → Option ℕ
@@ -78,7 +78,7 @@ holder l (w ∷ ws) = cond (has l (locksOf w)) 0 (suc (holder l ws))
 module _ (R : Rules) where
   -- a thread waits for the holder if its next step would get code 4
   unfoldable pub awaits : Machine → ℕ → Option ℕ
-  awaits s t = Option·map (λ l. holder l (s .threads)) (asked (react R s (turn s t) .answer))
+  awaits s t = Option·map (λ l. holder l (s .threads)) (asked (react R s (nextTurn s t) .answer))
 
   unfoldable pub walkFrom : Machine → ℕ → Walk
   walkFrom s t = walk (awaits s) threadCount t

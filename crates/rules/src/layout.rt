@@ -27,6 +27,8 @@ pub const OPERAND_SIZE: usize = 3;
 pub const RECORD_SIZE: usize = OPERANDS_PLACE + OPERAND_SIZE * Image::OPERANDS;
 
 // A row of the block table: thread, kind.
+pub const ROW_THREAD_PLACE: usize = 0;
+
 pub const ROW_KIND_PLACE: usize = 1;
 
 pub const ROW_SIZE: usize = 2;
@@ -72,6 +74,8 @@ pub const TREES_PLACE: usize = TREE_COUNT_PLACE + 1;
 pub const STATE_SIZE: usize = TREES_PLACE + TREE_SIZE * Tree::COUNT;
 
 // An event: kind, thread, signal. An answer: code, detail.
+pub const EVENT_KIND_PLACE: usize = 0;
+
 pub const EVENT_THREAD_PLACE: usize = 1;
 
 pub const EVENT_SIGNAL_PLACE: usize = 2;

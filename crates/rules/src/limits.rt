@@ -29,6 +29,9 @@ impl Block {
     pub const COUNT: usize = 16;
 
     pub const WORDS: usize = 16;
+
+    // FD and CMX.
+    pub const KINDS: usize = 2;
 }
 
 impl Lock {

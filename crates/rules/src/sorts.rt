@@ -13,7 +13,7 @@ pub struct Block(u8);
 // A worker thread.
 pub struct Thread(u8);
 
-// A lock. Lock b guards block b.
+// A lock. The block table says which lock guards a block.
 pub struct Lock(u8);
 
 pub fn label_of(number: u16) -> Label
@@ -64,10 +64,10 @@ pub fn same_thread(a: Thread, b: Thread) -> bool
     a.0 == b.0
 }
 
-pub fn lock_of(b: Block) -> Lock
-    ensures { λ r. ⌜ r ≡ lock (b .0) ⌝ }
+pub fn lock_of(number: u8) -> Lock
+    ensures { λ r. ⌜ r ≡ lock number ⌝ }
 {
-    Lock(b.0)
+    Lock(number)
 }
 
 pub fn lock_number(l: Lock) -> u8

@@ -1,13 +1,14 @@
 -- What an arrival leaves on the bytes.
 use mathlib.Core.Path.{_≡_, refl, sym, ap, _∙_, subst}
-use mathlib.Core.Bool.{true}
+use mathlib.Core.Bool.{true, true≢false}
 use mathlib.Core.List.{List, []}
 use Prim.Native.Nat.{ℕ, _+_, _*_, _≤_, _<_}
 use native.Mathlib.Omega.{arith}
 use lib.ListN.{length, getD, drop, length-drop, length-map}
 use lib.Seq.{drop-drop, getD-drop}
-use borrow.Author.Tests.{lt-ltb, le-ltb}
+use borrow.Author.Tests.{eq-eqb, lt-ltb, le-ltb}
 use Rattle.rules.specs.Sizes.{blockCount, treeCount, eventSize}
+use Rattle.rules.specs.Codes.{arrivalCode}
 use Rattle.rules.specs.Bytes.{num16}
 use Rattle.rules.specs.Image.{labels, recordAt, blockField, rowAt}
 use Rattle.rules.specs.Machine.{Signal, treeThreads}
@@ -17,7 +18,7 @@ use Rattle.rules.specs.Events.{arrive, eventFrom, eventAtOk}
 use Rattle.rules.specs.Steps.{rulesBy, blockAt, founded, grown}
 use Rattle.rules.specs.declared.answer.Answer.the-variants.{Taken, ListFull}
 use Rattle.encoding.specs.Encoded.{Encodes, Canonical}
-use Rattle.encoding.specs.Events.{EventRead, arrival, stepping, cutting, event-read}
+use Rattle.encoding.specs.Events.{EventRead, arrival, turned, event-read}
 use Rattle.soundness.specs.Trees.{pending-below}
 use Rattle.soundness.specs.StaysWellFormed.{Accepted}
 use Rattle.trees.specs.Changes.{arrived}
@@ -55,8 +56,7 @@ module _ {image events : List ℕ} {i : ℕ} (h : EventAt image events i) (kind 
     where
       case : EventRead bytes → signalTidy (drop (eventSize * i + 2) events) ≡ true
       case (arrival k t e) = rw after-two at e
-      case (stepping k t e) = absurd (omega (arith, first-byte))
-      case (cutting k t e) = absurd (omega (arith, first-byte))
+      case (turned m k t e) = absurd (true≢false (sym (eq-eqb _ arrivalCode first-byte) ∙ m))
 
   pub arrival-below : num16 (drop (eventSize * i + 2) events) < labels image
   unfolding pendingOk signalFrom

@@ -9,10 +9,11 @@ use Prim.Native.Nat.{ℕ, _<_}
 use native.Mathlib.Omega.{arith}
 use lib.Dec.{eqb, ltb, leb}
 use borrow.Author.Tests.{ltb-true, eqb-true, eqb-false, eq-eqb}
-use Rattle.rules.specs.Sizes.{blockCount}
+use Rattle.rules.specs.Sizes.{lockCount, blockKindCount, blockCount}
+use Rattle.rules.specs.Codes.{fdCode, cmxCode}
 use Rattle.rules.specs.Image.{labels, recordAt, opcode, blockField, entry, operator, labelA, labelB, operands, kind, Row, rowAt}
 use Rattle.rules.specs.Statements.{statementOf, roleA, roleB, dataOf}
-use Rattle.rules.specs.Check.{labelOk, recordOk, rowOk}
+use Rattle.rules.specs.Check.{labelOk, recordOk}
 use Rattle.rules.specs.Machine.{Signal, Job}
 use Rattle.rules.specs.Effects.{Got, trap, got, Next, onA, onB, intoA, callA, back, Going, Outcome, ends, goes, outcome}
 use Rattle.rules.specs.Steps.{Effect, traps, exits, moves, trapIf, newest, older, signalTo, alien, steer, resolve, blockAt, actBy, view}
@@ -22,7 +23,7 @@ use Rattle.rules.specs.declared.statement.Role.the-variants.{Unused, Inner, Dir
 use Rattle.fields.specs.Each.{Each, each-append}
 use Rattle.laws.specs.Roles.{Leads, Sends, Refers, refers}
 use Rattle.laws.specs.Heads.{Head, head-fields}
-use Rattle.laws.specs.Passed.{Passed, Parts, rule-parts}
+use Rattle.laws.specs.Passed.{Passed, row-in, Parts, rule-parts}
 use Rattle.encoding.specs.Tests.{both}
 use Rattle.soundness.specs.Sound.{PlaceIn, PendingIn}
 
@@ -58,20 +59,24 @@ module _ (image table : List ℕ) where
     block-below l h = head l h .block
 
     -- a block of the table that is no FD block of another thread is CMX or the thread's own
-    open-of : (r : Row) (t : ℕ) → ltb (r .kind) 2 ≡ true → alien r t ≡ false → openTo r t ≡ true
+    open-of : (r : Row) (t : ℕ) → r .kind < blockKindCount → alien r t ≡ false → openTo r t ≡ true
     unfolding alien
-    open-of r t h e = case (eqb (r .kind) 0) refl (eqb (r .thread) t) refl e
+    open-of r t h e = case (eqb (r .kind) fdCode) refl (eqb (r .thread) t) refl e
       where
-        case : (a : Bool) → eqb (r .kind) 0 ≡ a → (b : Bool) → eqb (r .thread) t ≡ b → (a && not b) ≡ false → (eqb (r .kind) 1 || eqb (r .thread) t) ≡ true
-        case true p true q f = rw (q, eqb-true (r .kind) 0 p) refl
+        case : (a : Bool) → eqb (r .kind) fdCode ≡ a → (b : Bool) → eqb (r .thread) t ≡ b → (a && not b) ≡ false
+            → (eqb (r .kind) cmxCode || eqb (r .thread) t) ≡ true
+        case true p true q f = rw (q, eqb-true (r .kind) fdCode p) refl
         case true p false q f = absurd (true≢false f)
-        case false p b q f = rw (eq-eqb (r .kind) 1 (omega (arith, ltb-true (r .kind) 2 h, eqb-false (r .kind) 0 p))) refl
+        case false p b q f = rw (eq-eqb (r .kind) cmxCode (omega (arith, eqb-false (r .kind) fdCode p))) refl
 
     entered : (t a : ℕ) → a < labels image → alien (rowAt table (blockAt image a)) t ≡ false → PlaceIn image table t a
-    unfolding rowOk
     entered t a h e =
-        let k = passed .rows (blockAt image a) (block-below a h) in
-        record { below = h; allowed = open-of (rowAt table (blockAt image a)) t (both (ltb (rowAt table (blockAt image a) .thread) 8) _ k .1) e }
+        let k = row-in image table (blockAt image a) passed (block-below a h) in
+        record { below = h; allowed = open-of (rowAt table (blockAt image a)) t (k .kind) e }
+
+    -- so the lock of its block is one of the 16
+    pub lock-below : (l : ℕ) → l < labels image → rowAt table (blockAt image l) .lock < lockCount
+    lock-below l h = row-in image table (blockAt image l) passed (block-below l h) .lock
 
     -- a label in the block of a label where the thread may be
     inside : (t l a : ℕ) → PlaceIn image table t l → a < labels image → blockAt image a ≡ blockAt image l → PlaceIn image table t a

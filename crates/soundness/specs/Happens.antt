@@ -9,7 +9,7 @@ use Prim.Native.Nat.{ℕ}
 use lib.ListN.{length}
 use Rattle.rules.specs.Machine.{Signal, Job, ThreadState, idle, running, Machine, threadAt, first, treeThreads, window}
 use Rattle.rules.specs.Answers.{out, close, sort}
-use Rattle.rules.specs.Events.{Event, arrive, step, cut, threadOf}
+use Rattle.rules.specs.Events.{Kind, stepping, cutting, Event, arrive, turn, threadOf}
 use Rattle.rules.specs.Steps.{Rules, Effect, traps, exits, moves, Move, stay, grow, Reply, begin, added, pendingOf, home, founded}
 use Rattle.rules.specs.Steps.{planArrive, planIdle, planRunning, planStep, planCut, plan, blocked, applied, grown, finished, attempt, carry, react}
 use Rattle.rules.specs.declared.answer.Answer.{Answer}
@@ -31,15 +31,15 @@ module _ (R : Rules) (s : Machine) where
   pub data Happens : Event → Reply → Type 0 where
     remains : (e : Event) (a : Answer) → Quiet e a → Happens e (record { state = s; answer = a })
     founds : (g : Signal) → R .room (treeThreads (s .trees)) (home R g) ≡ true → Happens (arrive g) (record { state = grown (founded R g) s; answer = Taken })
-    starts : (t : ℕ) (g : Signal) (p : List Signal) → threadAt s t ≡ idle → first t (s .trees) ≡ some (g ∷ p)
+    starts : {k : Kind} (t : ℕ) (g : Signal) (p : List Signal) → threadAt s t ≡ idle → first t (s .trees) ≡ some (g ∷ p)
         → blocked R t (s .threads) (some (R .block (g .label))) ≡ none
-        → Happens (step t) (record { state = applied R t (startOf R g p) s; answer = Started })
-    goes : (t locks : ℕ) (j k : Job) (words : List ℕ) (g : Option Signal) (want : Option ℕ) → threadAt s t ≡ running locks j
-        → R .act t j (window (R .block (j .label)) (s .words)) (length (pendingOf (first t (s .trees)))) ≡ moves k words g want
+        → Happens (turn k t) (record { state = applied R t (startOf R g p) s; answer = Started })
+    goes : {k : Kind} (t locks : ℕ) (j j′ : Job) (words : List ℕ) (g : Option Signal) (want : Option ℕ) → threadAt s t ≡ running locks j
+        → R .act t j (window (R .block (j .label)) (s .words)) (length (pendingOf (first t (s .trees)))) ≡ moves j′ words g want
         → blocked R t (s .threads) want ≡ none
-        → Happens (step t) (record { state = applied R t (goOf (R .block (j .label)) (pendingOf (first t (s .trees))) k words g want) s; answer = Moved })
-    ends : (e : Event) (t locks : ℕ) (j : Job) (a : Answer) → threadOf e ≡ some t → threadAt s t ≡ running locks j → sort a ≡ close
-        → Happens e (record { state = finished R t s; answer = a })
+        → Happens (turn k t) (record { state = applied R t (goOf (R .block (j .label)) (pendingOf (first t (s .trees))) j′ words g want) s; answer = Moved })
+    ends : {k : Kind} (t locks : ℕ) (j : Job) (a : Answer) → threadAt s t ≡ running locks j → sort a ≡ close
+        → Happens (turn k t) (record { state = finished R t s; answer = a })
 
   on-arrival : (g : Signal) → Happens (arrive g) (carry R s (planArrive R g (s .trees)))
   unfolding carry planArrive
@@ -49,46 +49,46 @@ module _ (R : Rules) (s : Machine) where
       case true h = founds g h
       case false h = remains (arrive g) ListFull (inr (refl, refl))
 
-  on-start : (t : ℕ) (g : Signal) (p : List Signal) (o : Option ℕ) → threadAt s t ≡ idle → first t (s .trees) ≡ some (g ∷ p)
-      → blocked R t (s .threads) (some (R .block (g .label))) ≡ o → Happens (step t) (attempt R t (startOf R g p) s o)
+  on-start : {k : Kind} (t : ℕ) (g : Signal) (p : List Signal) (o : Option ℕ) → threadAt s t ≡ idle → first t (s .trees) ≡ some (g ∷ p)
+      → blocked R t (s .threads) (some (R .block (g .label))) ≡ o → Happens (turn k t) (attempt R t (startOf R g p) s o)
   unfolding attempt
   on-start t g p none w f b = starts t g p w f b
-  on-start t g p (some l) w f b = remains (step t) _ (inl refl)
+  on-start t g p (some l) w f b = remains (turn _ t) _ (inl refl)
 
-  on-idle : (t : ℕ) (f : Option (List Signal)) → threadAt s t ≡ idle → first t (s .trees) ≡ f → Happens (step t) (carry R s (planIdle R t f))
+  on-idle : {k : Kind} (t : ℕ) (f : Option (List Signal)) → threadAt s t ≡ idle → first t (s .trees) ≡ f → Happens (turn k t) (carry R s (planIdle R t f))
   unfolding carry planIdle
-  on-idle t none w f = remains (step t) _ (inl refl)
-  on-idle t (some []) w f = remains (step t) _ (inl refl)
+  on-idle t none w f = remains (turn _ t) _ (inl refl)
+  on-idle t (some []) w f = remains (turn _ t) _ (inl refl)
   on-idle t (some (g ∷ p)) w f = on-start t g p _ w f refl
 
   module _ (t locks : ℕ) (j : Job) (w : threadAt s t ≡ running locks j) where
     abbrev own : Effect → Type 0
     own e = R .act t j (window (R .block (j .label)) (s .words)) (length (pendingOf (first t (s .trees)))) ≡ e
 
-    on-move : (k : Job) (words : List ℕ) (g : Option Signal) (want o : Option ℕ) → own (moves k words g want) → blocked R t (s .threads) want ≡ o
-        → Happens (step t) (attempt R t (goOf (R .block (j .label)) (pendingOf (first t (s .trees))) k words g want) s o)
+    on-move : {k : Kind} (j′ : Job) (words : List ℕ) (g : Option Signal) (want o : Option ℕ) → own (moves j′ words g want) → blocked R t (s .threads) want ≡ o
+        → Happens (turn k t) (attempt R t (goOf (R .block (j .label)) (pendingOf (first t (s .trees))) j′ words g want) s o)
     unfolding attempt
-    on-move k words g want none a b = goes t locks j k words g want w a b
-    on-move k words g want (some l) a b = remains (step t) _ (inl refl)
+    on-move j′ words g want none a b = goes t locks j j′ words g want w a b
+    on-move j′ words g want (some l) a b = remains (turn _ t) _ (inl refl)
 
-    on-running : (e : Effect) → own e → Happens (step t) (carry R s (planRunning t (R .block (j .label)) (pendingOf (first t (s .trees))) e))
+    on-running : {k : Kind} (e : Effect) → own e → Happens (turn k t) (carry R s (planRunning t (R .block (j .label)) (pendingOf (first t (s .trees))) e))
     unfolding carry planRunning
-    on-running (traps r) a = ends (step t) t locks j _ refl w refl
-    on-running exits a = ends (step t) t locks j _ refl w refl
-    on-running (moves k words g want) a = on-move k words g want _ a refl
+    on-running (traps r) a = ends t locks j _ w refl
+    on-running exits a = ends t locks j _ w refl
+    on-running (moves j′ words g want) a = on-move j′ words g want _ a refl
 
-  on-step : (t : ℕ) (w : ThreadState) → threadAt s t ≡ w → Happens (step t) (carry R s (planStep R t w (first t (s .trees)) (s .words)))
+  on-step : {k : Kind} (t : ℕ) (w : ThreadState) → threadAt s t ≡ w → Happens (turn k t) (carry R s (planStep R t w (first t (s .trees)) (s .words)))
   unfolding planStep
   on-step t idle w = on-idle t _ w refl
   on-step t (running locks j) w = on-running t locks j w _ refl
 
-  on-cut : (t : ℕ) (w : ThreadState) → threadAt s t ≡ w → Happens (cut t) (carry R s (planCut t w))
+  on-cut : {k : Kind} (t : ℕ) (w : ThreadState) → threadAt s t ≡ w → Happens (turn k t) (carry R s (planCut t w))
   unfolding carry planCut
-  on-cut t idle w = remains (cut t) _ (inl refl)
-  on-cut t (running locks j) w = ends (cut t) t locks j _ refl w refl
+  on-cut t idle w = remains (turn _ t) _ (inl refl)
+  on-cut t (running locks j) w = ends t locks j _ w refl
 
   pub happens : (e : Event) → Happens e (react R s e)
   unfolding react plan
   happens (arrive g) = on-arrival g
-  happens (step t) = on-step t (threadAt s t) refl
-  happens (cut t) = on-cut t (threadAt s t) refl
+  happens (turn stepping t) = on-step t (threadAt s t) refl
+  happens (turn cutting t) = on-cut t (threadAt s t) refl

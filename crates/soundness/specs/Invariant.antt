@@ -12,10 +12,10 @@ use lib.Seq.{getD-set-same, getD-set-other}
 use Rattle.rules.specs.Sizes.{threadCount}
 use Rattle.rules.specs.Bytes.{has}
 use Rattle.rules.specs.Machine.{Signal, Tree, Job, ThreadState, idle, running, Machine, threadAt, locksOf, jobOf, fresh, first, put, treeThreads, window}
-use Rattle.rules.specs.Events.{Event, arrive, step, cut, threadOf, Valid}
+use Rattle.rules.specs.Events.{Kind, stepping, cutting, Event, arrive, turn, threadOf, Valid}
 use Rattle.rules.specs.Answers.{out, now, join, close, sort}
 use Rattle.rules.specs.Steps.{Rules, Effect, traps, exits, moves, Move, Plan, stay, grow, move, finish, begin, pendingOf, home, founded}
-use Rattle.rules.specs.Steps.{planArrive, planIdle, planRunning, planStep, planCut, plan, blocked, grant, applied, grown, finished, attempt, carry, react}
+use Rattle.rules.specs.Steps.{planArrive, planIdle, planRunning, planStep, planCut, planTurn, plan, blocked, grant, applied, grown, finished, attempt, carry, react}
 use Rattle.rules.specs.declared.answer.Answer.the-variants.{ListFull}
 use Rattle.laws.specs.Logic.{never, not-true, getD-same}
 use Rattle.laws.specs.Sets.{has-none}
@@ -38,15 +38,15 @@ module _ (R : Rules) where
     pub writes : (p : ℕ × List ℕ) → m .write ≡ some p → has (R .lock (p .0)) (locksOf (threadAt s t)) ≡ true
     pub root : (p : List Signal) × (first t (s .trees) ≡ some p)
 
-  -- what is known of the plan of an event, by what the reading does with its answer
-  abbrev pub Good : Machine → Event → Plan → Type 0
-  Good s e (stay a) = (sort a ≡ out) ⊎ ((sort a ≡ now) × (threadOf e ≡ none))
-  Good s e (grow x) = threadOf e ≡ none
-  Good s e (move t m) = Sound s t m × (threadOf e ≡ some t) × (sort (m .answer) ≡ join)
-  Good s e (finish t a) = (threadOf e ≡ some t) × (sort a ≡ close)
+  -- what is known of the plan of an event that names this thread, if it names one, by what the reading does with its answer
+  abbrev pub Good : Machine → Option ℕ → Plan → Type 0
+  Good s o (stay a) = (sort a ≡ out) ⊎ ((sort a ≡ now) × (o ≡ none))
+  Good s o (grow x) = o ≡ none
+  Good s o (move t m) = Sound s t m × (o ≡ some t) × (sort (m .answer) ≡ join)
+  Good s o (finish t a) = (o ≡ some t) × (sort a ≡ close)
 
 module _ (R : Rules) (L : Laws R) where
-  good-idle : (s : Machine) (t : ℕ) (f : Option (List Signal)) → first t (s .trees) ≡ f → Good R s (step t) (planIdle R t f)
+  good-idle : (s : Machine) (t : ℕ) (f : Option (List Signal)) → first t (s .trees) ≡ f → Good R s (some t) (planIdle R t f)
   unfolding planIdle
   good-idle s t none k = inl refl
   good-idle s t (some []) k = inl refl
@@ -66,7 +66,7 @@ module _ (R : Rules) (L : Laws R) where
 
   good-running : (s : Machine) (t l : ℕ) (j : Job) (e : Effect) → Invariant R s → threadAt s t ≡ running l j
       → R .act t j (window (R .block (j .label)) (s .words)) (length (pendingOf (first t (s .trees)))) ≡ e
-      → Good R s (step t) (planRunning t (R .block (j .label)) (pendingOf (first t (s .trees))) e)
+      → Good R s (some t) (planRunning t (R .block (j .label)) (pendingOf (first t (s .trees))) e)
   unfolding planRunning
   good-running s t l j (traps r) i w k = (refl, refl)
   good-running s t l j exits i w k = (refl, refl)
@@ -87,23 +87,22 @@ module _ (R : Rules) (L : Laws R) where
       from c (inl h) = inl (mine c h)
       from c (inr h) = inr h
 
-  pub good : (s : Machine) (e : Event) → Invariant R s → Good R s e (plan R s e)
-  unfolding plan planArrive planStep planCut
+  good-turn : (k : Kind) (s : Machine) (t : ℕ) (w : ThreadState) → threadAt s t ≡ w → Invariant R s
+      → Good R s (some t) (planTurn R k t w (first t (s .trees)) (s .words))
+  unfolding planStep planCut
+  good-turn stepping s t idle w i = good-idle s t (first t (s .trees)) refl
+  good-turn stepping s t (running l j) w i = good-running s t l j _ i w refl
+  good-turn cutting s t idle w i = inl refl
+  good-turn cutting s t (running l j) w i = (refl, refl)
+
+  pub good : (s : Machine) (e : Event) → Invariant R s → Good R s (threadOf e) (plan R s e)
+  unfolding plan planArrive
   good s (arrive g) i = case (R .room (treeThreads (s .trees)) (home R g))
     where
-      case : (d : Bool) → Good R s (arrive g) (cond d (grow (founded R g)) (stay ListFull))
+      case : (d : Bool) → Good R s none (cond d (grow (founded R g)) (stay ListFull))
       case true = refl
       case false = inr (refl, refl)
-  good s (step t) i = case (threadAt s t) refl
-    where
-      case : (w : ThreadState) → threadAt s t ≡ w → Good R s (step t) (planStep R t w (first t (s .trees)) (s .words))
-      case idle k = good-idle s t (first t (s .trees)) refl
-      case (running l j) k = good-running s t l j _ i k refl
-  good s (cut t) i = case (threadAt s t)
-    where
-      case : (w : ThreadState) → Good R s (cut t) (planCut t w)
-      case idle = inl refl
-      case (running l j) = (refl, refl)
+  good s (turn k t) i = good-turn k s t (threadAt s t) refl i
 
   -- ---- the invariant is kept
 
@@ -194,7 +193,7 @@ module _ (R : Rules) (L : Laws R) where
   invariant-attempt s t m none i v d k = invariant-applied s t m i v d (blocked-clear R (s .threads) t (m .want) k)
   invariant-attempt s t m (some b) i v d k = i
 
-  invariant-carry : (s : Machine) (e : Event) (q : Plan) → Invariant R s → Valid e → Good R s e q → Invariant R (carry R s q .state)
+  invariant-carry : (s : Machine) (e : Event) (q : Plan) → Invariant R s → Valid e → Good R s (threadOf e) q → Invariant R (carry R s q .state)
   unfolding carry
   invariant-carry s e (stay a) i v g = i
   invariant-carry s e (grow x) i v g = invariant-grown s x i

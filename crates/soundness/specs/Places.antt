@@ -137,9 +137,9 @@ module _ (R : Rules) where
     longer u e r (founds g room) n = record { more = queue u (founded R g ∷ []); whole = queue-append u (s .trees) _; one = queue-one u (founded R g) }
     longer u e r (starts t g p w f b) n = rw (queue-put-other u t (some p) (s .trees) (λ k. n (ap some (sym k)))) (unchanged _)
     longer u e r (goes t l j j′ words g want w a b) n = rw (queue-put-other u t (some _) (s .trees) (λ k. n (ap some (sym k)))) (unchanged _)
-    longer u e r (ends f t l j a h w c) n = record {
+    longer u e r (ends t l j a w c) n = record {
       more = queue u (requeued R (first t (s .trees)));
-      whole = queue-append u (put t none (s .trees)) _ ∙ ap (λ (z : List Tree). z ++ queue u (requeued R (first t (s .trees)))) (queue-put-other u t none (s .trees) (λ k. n (h ∙ ap some (sym k))));
+      whole = queue-append u (put t none (s .trees)) _ ∙ ap (λ (z : List Tree). z ++ queue u (requeued R (first t (s .trees)))) (queue-put-other u t none (s .trees) (λ k. n (ap some (sym k))));
       one = queue-requeued u (first t (s .trees));
     }
 

@@ -8,13 +8,14 @@ use native.Mathlib.Omega.{arith}
 use lib.Dec.{eqb, leb}
 use lib.ListN.{length, getD, drop, length-drop}
 use borrow.Author.Tests.{eqb-true}
-use Rattle.rules.specs.Sizes.{registerCount, stateSize, eventSize, eventCount}
+use Rattle.rules.specs.Sizes.{registerCount, stateSize, eventKindPlace, eventThreadPlace, eventSignalPlace, eventSize, eventCount}
+use Rattle.rules.specs.Codes.{arrivalCode}
 use Rattle.rules.specs.Bytes.{num16, part, isZeros}
 use Rattle.rules.specs.Image.{recordAt, entry}
 use Rattle.rules.specs.Check.{Checked}
 use Rattle.rules.specs.Machine.{Machine, fresh}
 use Rattle.rules.specs.Encoding.{signalFrom, encode, wordsFrom, machineFrom}
-use Rattle.rules.specs.Events.{Event, arrive, step, cut, Valid, eventFrom, arrivalOk, turnOk, eventOk, eventsIn, eventsLengthOk, eventAtOk, eventsFrom}
+use Rattle.rules.specs.Events.{Event, arrive, turn, kindCode, kindOf, Valid, eventFrom, arrivalOk, turnOk, eventOk, eventsIn, eventsLengthOk, eventAtOk, eventsFrom}
 use Rattle.rules.specs.Steps.{rulesBy, final}
 use Rattle.rules.specs.WellFormed.{stateTidy, machineOk, wellFormed}
 use Rattle.rules.specs.Calls.{stateLengthFault, stateFault, eventsLengthFault, eventFault, freshReturn, freshState, runReturn, runState}
@@ -35,28 +36,25 @@ use Rattle.soundness.specs.StaysSized.{sized-final, sized-fresh}
 -- an arrival's label has entry 3
 abbrev External : List ℕ → Event → Type 0
 External image (arrive g) = entry (recordAt image (g .label)) ≡ 3
-External image (step t) = Unit {0}
-External image (cut t) = Unit {0}
+External image (turn k t) = Unit {0}
 
 accepted : (image : List ℕ) (e : Event) → External image e → SizedEvent e → Valid e → Accepted image e
 accepted image (arrive g) x z v = (x, z)
-accepted image (step t) x z v = v t refl
-accepted image (cut t) x z v = v t refl
+accepted image (turn k t) x z v = v t refl
 
 external : (image b : List ℕ) → eventOk image b ≡ true → External image (eventFrom b)
 unfolding eventOk arrivalOk eventFrom signalFrom
-external image b h = case (eqb (getD b 0 0) 1) (eqb (getD b 0 0) 2) h
+external image b h = case (eqb (getD b eventKindPlace 0) arrivalCode) h
   where
-    case : (c d : Bool) → cond c (arrivalOk image b) ((d || eqb (getD b 0 0) 3) && turnOk b) ≡ true
-        → External image (cond c (arrive (signalFrom (drop 2 b))) (cond d (step (getD b 1 0)) (cut (getD b 1 0))))
-    case true d k =
+    case : (c : Bool) → cond c (arrivalOk image b) (eqb (getD b eventKindPlace 0) (kindCode (kindOf (getD b eventKindPlace 0))) && turnOk b) ≡ true
+        → External image (cond c (arrive (signalFrom (drop eventSignalPlace b))) (turn (kindOf (getD b eventKindPlace 0)) (getD b eventThreadPlace 0)))
+    case true k =
         let thread : Bool = eqb (getD b 1 0) 0 in
         let label : Bool = eqb (entry (recordAt image (num16 (drop 2 b)))) 3 in
         let count : Bool = leb (getD b 4 0) registerCount in
         let zeros : Bool = isZeros (part b (5 + 2 * getD b 4 0) (2 * (registerCount - getD b 4 0))) in
         eqb-true _ 3 (both thread label (both (thread && label) count (both (thread && label && count) zeros k .0) .0) .1)
-    case false true k = tt
-    case false false k = tt
+    case false k = tt
 
 pub events-accepted : (image events : List ℕ) → length events ≡ eventSize * eventsIn events → ((i : ℕ) → i < eventsIn events → eventAtOk image events i ≡ true)
     → Each (Accepted image) (eventsFrom events)

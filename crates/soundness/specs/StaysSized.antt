@@ -111,14 +111,14 @@ module _ (image table : List ℕ) (ok : Passed image table) (s : Machine) (k : S
   words-kept e r (founds g room) = z .words
   words-kept e r (starts t g p w f b) = z .words
   words-kept e r (goes t l j j′ words g want w a b) = length-keep (R .block (j .label)) words (s .words) ∙ z .words
-  words-kept e r (ends f t l j a h w c) = z .words
+  words-kept e r (ends t l j a w c) = z .words
 
   threads-count : (e : Event) (r : Reply) → Happens R s e r → length (r .state .threads) ≡ threadCount
   threads-count e r (remains f a q) = z .threads
   threads-count e r (founds g room) = z .threads
   threads-count e r (starts t g p w f b) = length-set (s .threads) t _ ∙ z .threads
   threads-count e r (goes t l j j′ words g want w a b) = length-set (s .threads) t _ ∙ z .threads
-  threads-count e r (ends f t l j a h w c) = length-set (s .threads) t _ ∙ z .threads
+  threads-count e r (ends t l j a w c) = length-set (s .threads) t _ ∙ z .threads
 
   -- 16 trees leave no room for another
   trees-count : (e : Event) (r : Reply) → Happens R s e r → length (r .state .trees) ≤ treeCount
@@ -127,7 +127,7 @@ module _ (image table : List ℕ) (ok : Passed image table) (s : Machine) (k : S
       rw (length-append (s .trees) (founded R g ∷ [])) (omega (arith, ltb-true (length (treeThreads (s .trees))) treeCount room, length-map (s .trees) (λ (x : Tree). x .thread)))
   trees-count e r (starts t g p w f b) = rw (length-put t p (s .trees)) (z .trees)
   trees-count e r (goes t l j j′ words g want w a b) = rw (length-put t (pendingOf (first t (s .trees)) ++ added g) (s .trees)) (z .trees)
-  trees-count e r (ends f t l j a h w c) = omega (arith, length-finished R t (s .trees), z .trees)
+  trees-count e r (ends t l j a w c) = omega (arith, length-finished R t (s .trees), z .trees)
 
   threads-sized : (e : Event) (r : Reply) → Happens R s e r → Accepted image e → Each SizedThread (r .state .threads)
   threads-sized e r (remains f a q) v = z .eachThread
@@ -146,7 +146,7 @@ module _ (image table : List ℕ) (ok : Passed image table) (s : Machine) (k : S
         returns = h .1;
         registers = h .0;
       })
-  threads-sized e r (ends f t l j a h w c) v = each-set SizedThread (s .threads) t idle (z .eachThread) tt
+  threads-sized e r (ends t l j a w c) v = each-set SizedThread (s .threads) t idle (z .eachThread) tt
 
   trees-sized : (e : Event) (r : Reply) → Happens R s e r → Accepted image e → Each SizedTree (r .state .trees)
   trees-sized e r (remains f a q) v = z .eachTree
@@ -157,7 +157,7 @@ module _ (image table : List ℕ) (ok : Passed image table) (s : Machine) (k : S
   trees-sized e r (goes t l j j′ words g want w a b) v =
       put-sized t (some (pendingOf (first t (s .trees)) ++ added g)) (s .trees)
       (added-sized (pendingOf (first t (s .trees))) g (pending-sized (first t (s .trees)) (firsts t)) (effect-sized t l j _ v w a .2)) (z .eachTree)
-  trees-sized e r (ends f t l j a h w c) v =
+  trees-sized e r (ends t l j a w c) v =
       each-append SizedTree (put t none (s .trees)) _ (put-sized t none (s .trees) tt (z .eachTree)) (requeued-sized R (first t (s .trees)) (firsts t))
 
 module _ (image table : List ℕ) (checked : Checked image table) where

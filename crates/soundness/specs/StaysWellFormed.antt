@@ -13,7 +13,7 @@ use Rattle.rules.specs.Bytes.{has}
 use Rattle.rules.specs.Image.{recordAt, entry, rowAt}
 use Rattle.rules.specs.Check.{Checked}
 use Rattle.rules.specs.Machine.{Signal, Job, ThreadState, idle, running, Machine, threadAt, locksOf, jobOf, fresh, queue, first, put, window}
-use Rattle.rules.specs.Events.{Event, arrive, step, cut, threadOf, Valid}
+use Rattle.rules.specs.Events.{Event, arrive, turn, threadOf, Valid}
 use Rattle.rules.specs.Steps.{Rules, Effect, Move, Reply, added, pendingOf, founded, requeued, rulesBy, grant, applied, finished, react, final}
 use Rattle.rules.specs.WellFormed.{pendingOk, machineOk}
 use Rattle.fields.specs.Each.{Each, each-append}
@@ -33,13 +33,11 @@ use Rattle.soundness.specs.Trees.{FirstIn, first-in, put-trees, on-home,
 -- an event that the image accepts: an arrival's label has entry 3 and it has at most 25 values; a step and a cut name a thread 0 to 7
 abbrev pub Accepted : List ℕ → Event → Type 0
 Accepted image (arrive g) = (entry (recordAt image (g .label)) ≡ 3) × (length (g .values) ≤ registerCount)
-Accepted image (step t) = t < threadCount
-Accepted image (cut t) = t < threadCount
+Accepted image (turn k t) = t < threadCount
 
 pub accepted-valid : (image : List ℕ) (e : Event) → Accepted image e → Valid e
 accepted-valid image (arrive g) h t k = never (cc)
-accepted-valid image (step u) h t k = let e : u ≡ t = cc in rw e at h
-accepted-valid image (cut u) h t k = let e : u ≡ t = cc in rw e at h
+accepted-valid image (turn k u) h t q = let e : u ≡ t = cc in rw e at h
 
 module _ (image table : List ℕ) (ok : Passed image table) (s : Machine) (k : Sound image table s) where
   abbrev R : Rules
@@ -79,7 +77,7 @@ module _ (image table : List ℕ) (ok : Passed image table) (s : Machine) (k : S
   threads-kept e r (founds g room) = k .threads
   threads-kept e r (starts t g p w f b) = getD-set idle (ThreadIn image table) (s .threads) t _ (k .threads) (start-in t g p w f, tt)
   threads-kept e r (goes t l j j′ words g want w a b) = getD-set idle (ThreadIn image table) (s .threads) t _ (k .threads) (effect-in t l j _ w a .0)
-  threads-kept e r (ends f t l j a h w c) = getD-set idle (ThreadIn image table) (s .threads) t idle (k .threads) tt
+  threads-kept e r (ends t l j a w c) = getD-set idle (ThreadIn image table) (s .threads) t idle (k .threads) tt
 
   -- ---- trees
 
@@ -91,9 +89,9 @@ module _ (image table : List ℕ) (ok : Passed image table) (s : Machine) (k : S
       let old = pending-in (first t (s .trees)) (firsts t) in
       let new = added-in g (effect-in t l j _ w a .1) in
       put-trees image table t (some (pendingOf (first t (s .trees)) ++ added g)) (s .trees) (each-append (PendingIn image table) (pendingOf (first t (s .trees))) (added g) old new) h (k .trees)
-  trees-kept e r (ends f t l j a h′ w c) h v =
+  trees-kept e r (ends t l j a w c) h v =
       each-append (TreeIn image table) (put t none (s .trees)) _
-      (put-trees image table t none (s .trees) tt (v t h′) (k .trees))
+      (put-trees image table t none (s .trees) tt h (k .trees))
       (requeued-trees image table ok (first t (s .trees)) (firsts t))
 
   -- ---- queues
@@ -125,7 +123,7 @@ module _ (image table : List ℕ) (ok : Passed image table) (s : Machine) (k : S
   queues-kept e r (starts t g p w f b) h = queue-applied t (startOf R g p) (g ∷ p) h f
   queues-kept e r (goes t l j j′ words g want w a b) h =
       let root = k .invariant .rooted t j (ap jobOf w) in queue-applied t (goOf (R .block (j .label)) (pendingOf (first t (s .trees))) j′ words g want) (root .0) h (root .1)
-  queues-kept e r (ends f t l j a h′ w c) h = queue-finished t
+  queues-kept e r (ends t l j a w c) h = queue-finished t
 
 module _ (image table : List ℕ) (checked : Checked image table) where
   ok : Passed image table

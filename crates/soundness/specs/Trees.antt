@@ -10,14 +10,13 @@ use lib.Dec.{eqb, ltb}
 use borrow.Author.Tests.{ltb-true, eqb-true, eq-eqb}
 use Rattle.rules.specs.Sizes.{threadCount}
 use Rattle.rules.specs.Image.{labels, recordAt, entry, rowAt}
-use Rattle.rules.specs.Check.{rowOk}
 use Rattle.rules.specs.Machine.{Signal, Tree, Job, ThreadState, idle, running, queue, first, put}
 use Rattle.rules.specs.Steps.{home, requeued, blockAt, rulesBy}
 use Rattle.rules.specs.WellFormed.{pendingOk, homed, homedAs}
 use Rattle.fields.specs.Each.{Each, each-append}
 use Rattle.laws.specs.Trees.{first-here, first-there}
 use Rattle.laws.specs.Logic.{never}
-use Rattle.laws.specs.Passed.{Passed, no-record}
+use Rattle.laws.specs.Passed.{Passed, row-in, no-record}
 use Rattle.encoding.specs.Tests.{both}
 use Rattle.soundness.specs.Queues.{queue-here, queue-there, headPending, refitted, FirstHas, first-has, put-each}
 use Rattle.soundness.specs.Sound.{PlaceIn, PendingIn, TreeIn, Homed, QueueIn}
@@ -58,8 +57,7 @@ module _ (image table : List ℕ) where
 
   module _ (checked : Passed image table) where
     home-below : (g : Signal) → PendingIn image table g → home (rulesBy image table) g < threadCount
-    unfolding rowOk
-    home-below g h = ltb-true _ threadCount (both _ (ltb (rowAt table (blockAt image (g .label)) .kind) 2) (checked .rows _ (block-below image table checked (g .label) (pending-below g h))) .0)
+    home-below g h = row-in image table _ checked (block-below image table checked (g .label) (pending-below g h)) .thread
 
     pub on-home : (g : Signal) (p : List Signal) → Each (PendingIn image table) (g ∷ p) → TreeIn image table (record { thread = home (rulesBy image table) g; pending = g ∷ p })
     on-home g p h = record { thread = home-below g (h .0); pending = h }

@@ -23,7 +23,7 @@ module _ (R : Rules) (s : Machine) where
   thread-kept u e r (founds g room) n = refl
   thread-kept u e r (starts t g p w f b) n = getD-set-other (s .threads) t u _ idle (λ k. n (ap some (sym k)))
   thread-kept u e r (goes t l j j′ words g want w a b) n = getD-set-other (s .threads) t u _ idle (λ k. n (ap some (sym k)))
-  thread-kept u e r (ends f t l j a h w c) n = getD-set-other (s .threads) t u idle idle (λ k. n (h ∙ ap some (sym k)))
+  thread-kept u e r (ends t l j a w c) n = getD-set-other (s .threads) t u idle idle (λ k. n (ap some (sym k)))
 
   pub other-threads-stay : (e : Event) (u : ℕ) → threadOf e ≢ some u → threadAt (react R s e .state) u ≡ threadAt s u
   other-threads-stay e u n = thread-kept u e (react R s e) (happens R s e) n
@@ -40,7 +40,7 @@ module _ (R : Rules) (s : Machine) where
   block-kept i b e r (goes t l j j′ words g want w a k) n =
       window-keep-other (R .block (j .label)) b words (s .words)
       (λ c. true≢false (sym (i .keeps t j (ap jobOf w) (R .block (j .label)) (List·Memᴰ·head refl)) ∙ rw c at (n t refl)))
-  block-kept i b e r (ends f t l j a h w c) n = refl
+  block-kept i b e r (ends t l j a w c) n = refl
 
   pub words-of-other-blocks-stay : Invariant R s → (e : Event) (b : ℕ) → ((t : ℕ) → threadOf e ≡ some t → has (R .lock b) (locksOf (threadAt s t)) ≡ false)
       → window b (react R s e .state .words) ≡ window b (s .words)
@@ -59,7 +59,7 @@ module _ (R : Rules) (s : Machine) where
   arrived g e r (founds k room) h = let q : k ≡ g = cc in record { words = refl; threads = refl; trees = inr (rw q refl) }
   arrived g e r (starts t k p w f b) h = never (cc)
   arrived g e r (goes t l j j′ words k want w a b) h = never (cc)
-  arrived g e r (ends f t l j a n w c) h = never (cc)
+  arrived g e r (ends t l j a w c) h = never (cc)
 
   pub an-arrival-changes-the-end : (g : Signal) → Arrived g (react R s (arrive g) .state)
   an-arrival-changes-the-end g = arrived g (arrive g) (react R s (arrive g)) (happens R s (arrive g)) refl
@@ -75,7 +75,7 @@ module _ (R : Rules) (s : Machine) where
   changed t e r (founds g room) h = never (cc)
   changed t e r (starts u g p w f b) h = let q : u ≡ t = cc in rw q (given p)
   changed t e r (goes u l j j′ words g want w a b) h = let q : u ≡ t = cc in rw q (given _)
-  changed t e r (ends f u l j a n w c) h = let q : u ≡ t = cc in rw q taken
+  changed t e r (ends u l j a w c) h = let q : u ≡ t = cc in rw q taken
 
   pub only-the-first-tree-changes : (e : Event) (t : ℕ) → threadOf e ≡ some t → Changed t (react R s e .state .trees)
   only-the-first-tree-changes e t h = changed t e (react R s e) (happens R s e) h

@@ -55,8 +55,9 @@ module _ (image table : List ℕ) where
     place-lockless e = rw (e, has-none (rowAt table (blockAt image l) .lock), and-false)
 
     pub place-is : l < labels image
-        → placeOk image table t locks l ≡ (has (blockAt image l) locks && (eqb (rowAt table (blockAt image l) .kind) cmxCode || eqb (rowAt table (blockAt image l) .thread) t))
-    unfolding placeOk rowAt
+        → placeOk image table t locks l
+        ≡ (has (rowAt table (blockAt image l) .lock) locks && (eqb (rowAt table (blockAt image l) .kind) cmxCode || eqb (rowAt table (blockAt image l) .thread) t))
+    unfolding placeOk
     place-is h = rw (lt-ltb l (labels image) h)
 
   -- a record where it stands

@@ -6,6 +6,7 @@ use fields::read::get16;
 use image::records::block_at;
 use image::records::index_of;
 use image::table::kind_at;
+use image::table::lock_at;
 use image::table::thread_at;
 use lock_sets::held::number_held;
 use rules::codes::CMX;
@@ -19,7 +20,6 @@ use rules::sorts::Lock;
 use rules::sorts::Thread;
 use rules::sorts::label_of;
 use rules::sorts::lock_number;
-use rules::sorts::lock_of;
 use rules::sorts::same_thread;
 use rules::sorts::thread_of;
 ghost use mathlib.Core.Path.{_≡_};
@@ -49,7 +49,7 @@ pub fn place_ok(image: &[u8], n: usize, table: &[u8], t: Thread, locks: u16, l: 
     }
     let b = block_at(image, l);
     let own = same_thread(thread_at(table, b), t);
-    holds(locks, lock_of(b)) & ((kind_at(table, b) == CMX) | own)
+    holds(locks, lock_at(table, b)) & ((kind_at(table, b) == CMX) | own)
 }
 
 // The label and the return labels of a thread record.

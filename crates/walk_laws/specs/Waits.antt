@@ -14,7 +14,7 @@ use Rattle.rules.specs.Sizes.{threadCount}
 use Rattle.rules.specs.Bytes.{has}
 use Rattle.rules.specs.Machine.{Signal, ThreadState, idle, running, Machine, threadAt, locksOf, first}
 use Rattle.rules.specs.Steps.{Rules, Effect, traps, exits, moves, Move, Plan, stay, grow, move, finish, planIdle, planRunning, planStep, plan, held, blocked, attempt, carry, react}
-use Rattle.rules.specs.Walk.{turn, asked, holder, awaits, walkFrom}
+use Rattle.rules.specs.Walk.{nextTurn, asked, holder, awaits, walkFrom}
 use Rattle.rules.specs.declared.answer.Answer.{Answer}
 use Rattle.rules.specs.declared.answer.Answer.the-variants.{Taken, ListFull, NoWork, Waiting, Started, Moved, Exited, Trapped, WasCut, NothingToCut}
 use Rattle.laws.specs.Sets.{has-none}
@@ -60,10 +60,10 @@ module _ (R : Rules) where
   turned-running s t b p exits = tt
   turned-running s t b p (moves j ws o w) = turned-move s t _ w tt
 
-  pub turned : (s : Machine) (t : ℕ) → Turned s t (react R s (turn s t) .answer)
+  pub turned : (s : Machine) (t : ℕ) → Turned s t (react R s (nextTurn s t) .answer)
   turned s t = case (threadAt s t) refl
     where
-      case : (w : ThreadState) → threadAt s t ≡ w → Turned s t (react R s (turn s t) .answer)
+      case : (w : ThreadState) → threadAt s t ≡ w → Turned s t (react R s (nextTurn s t) .answer)
       case idle e = unfold react plan planStep in rw e (turned-idle s t _ e refl)
       case (running l j) e = unfold react plan planStep in rw e (turned-running s t _ _ _)
 
@@ -101,10 +101,10 @@ module _ (R : Rules) where
   plain-running t b p exits = refl
   plain-running t b p (moves j ws o w) = (refl, refl)
 
-  plain : (s : Machine) (t : ℕ) → Plain t (plan R s (turn s t))
+  plain : (s : Machine) (t : ℕ) → Plain t (plan R s (nextTurn s t))
   plain s t = case (threadAt s t) refl
     where
-      case : (w : ThreadState) → threadAt s t ≡ w → Plain t (plan R s (turn s t))
+      case : (w : ThreadState) → threadAt s t ≡ w → Plain t (plan R s (nextTurn s t))
       case idle e = unfold plan planStep in rw e (plain-idle t _)
       case (running l j) e = unfold plan planStep in rw e (plain-running t _ _ _)
 
@@ -123,9 +123,9 @@ module _ (R : Rules) where
       case (some b) = free b (held (R .lock b) (set (s .threads) t idle))
   carried s t (finish u a) h = rw h refl
 
-  pub awaits-plan : (s : Machine) (t : ℕ) → awaits R s t ≡ heldBy (s .threads) t (wants R (plan R s (turn s t)))
+  pub awaits-plan : (s : Machine) (t : ℕ) → awaits R s t ≡ heldBy (s .threads) t (wants R (plan R s (nextTurn s t)))
   unfolding awaits react
-  awaits-plan s t = carried s t (plan R s (turn s t)) (plain s t)
+  awaits-plan s t = carried s t (plan R s (nextTurn s t)) (plain s t)
 
 -- ---- the holder
 
@@ -181,23 +181,23 @@ module _ (R : Rules) where
   -- a thread waits for another: its next step would be answered 4 with a lock that another thread has, and the one waited for is the first that holds it
   pub record Awaited (s : Machine) (t u : ℕ) : Type 0 where
     pub lock : ℕ
-    pub answer : react R s (turn s t) .answer ≡ Waiting (Sorts.lock lock)
+    pub answer : react R s (nextTurn s t) .answer ≡ Waiting (Sorts.lock lock)
     pub holds : has lock (locksOf (threadAt s u)) ≡ true
     pub inside : u < length (s .threads)
     pub other : held lock (set (s .threads) t idle) ≡ true
 
   pub awaited : (s : Machine) (t u : ℕ) → awaits R s t ≡ some u → Awaited s t u
   unfolding awaits
-  awaited s t u e = case (react R s (turn s t) .answer) refl (turned R s t) e
+  awaited s t u e = case (react R s (nextTurn s t) .answer) refl (turned R s t) e
     where
-      from : (l : ℕ) → react R s (turn s t) .answer ≡ Waiting (Sorts.lock l) → held l (set (s .threads) t idle) ≡ true → Option·map (λ k. holder k (s .threads)) (some l) ≡ some u → Awaited s t u
+      from : (l : ℕ) → react R s (nextTurn s t) .answer ≡ Waiting (Sorts.lock l) → held l (set (s .threads) t idle) ≡ true → Option·map (λ k. holder k (s .threads)) (some l) ≡ some u → Awaited s t u
       from l a h q =
           let k = held-other l (s .threads) t h in
           let g : u ≡ holder l (s .threads) = cc in
           let f = holder-holds l (s .threads) (k .0) (k .2) in
           record { lock = l; answer = a; holds = rw g (f .1); inside = rw g (f .0); other = h }
 
-      case : (a : Answer) → react R s (turn s t) .answer ≡ a → Turned R s t a → Option·map (λ k. holder k (s .threads)) (asked a) ≡ some u → Awaited s t u
+      case : (a : Answer) → react R s (nextTurn s t) .answer ≡ a → Turned R s t a → Option·map (λ k. holder k (s .threads)) (asked a) ≡ some u → Awaited s t u
       case Taken p h q = never (cc)
       case ListFull p h q = never (cc)
       case NoWork p h q = never (cc)

@@ -1,19 +1,17 @@
-use Rattle.rules.specs.Image.{rowAt}
+use Prim.Native.Nat.{_+_, _*_}
+use native.Mathlib.Omega.{arith}
 use borrow.Author.Needs.{needs}
+use Rattle.rules.specs.Sizes.{blockKindCount, rowKindPlace, rowSize}
+use Rattle.rules.specs.Image.{rowAt}
+use Rattle.image.specs.Records.{getD-any}
 use Rattle.image.proofs.table.kind_at.Statement.{statement}
 use Rattle.image.proofs.table.kind_at.Tie as tie
 
 returns : tie.Need-returns
 unfolding rowAt
-returns c = simp (c .before .wide .ensures .0, c .before .before .block-number .ensures)
+returns c =
+    let a = c .before .before .args in
+    simp (c .field-at .ensures, getD-any (a .table .now) (rowSize * a .b .0 + rowKindPlace) 0 blockKindCount (omega arith))
 
 pub kind-at-spec : {M : Type 1} → statement M
-kind-at-spec =
-    tie.close
-    (tie.spec
-    (λ c κs. search needs)
-    (λ c κs. search needs)
-    (λ c. search needs)
-    (λ c. search needs)
-    (λ c. search needs)
-    returns)
+kind-at-spec = tie.close (tie.spec (λ c κs. search needs) returns)

@@ -1,33 +1,37 @@
-use mathlib.Core.Path.{refl}
-use Prim.Native.Nat.{_*_, _-_}
+use mathlib.Core.Path.{_∙_}
+use mathlib.Core.Bool.{true}
+use Prim.Native.Nat.{_-_}
 use native.Mathlib.Omega.{arith}
+use borrow.Author.Needs.{needs}
+use Rattle.rules.specs.Sizes.{blockCount}
 use Rattle.rules.specs.Check.{rowOk}
-use Rattle.fields.specs.Gathered.{Gathered, begin, next, end}
-use Rattle.image.proofs.Rows.{inRange, both-in-range, row-in-range}
+use Rattle.fields.specs.Pieces.{Tested, tested-none, tested-next, tested-all}
 use Rattle.image.proofs.table.rows_ok.Statement.{statement}
 use Rattle.image.proofs.table.rows_ok.Tie as tie
 
 abbrev Inv-loop : tie.InvT-loop
-Inv-loop table seen₀ b₀ seen b = Gathered inRange (rowOk table) 16 seen b
+Inv-loop table ok₀ b₀ ok b = Tested true (rowOk table) blockCount b ok
 
 abbrev μ-loop : tie.MeasureT-loop
-μ-loop table seen₀ b₀ seen b = 16 - b
+μ-loop table ok₀ b₀ ok b = blockCount - b
 
 loop-holds : tie.Need-loop-holds Inv-loop μ-loop
-loop-holds c = begin inRange (rowOk (c .before .args .table .now)) 16 refl
+loop-holds c = tested-none true (rowOk (c .before .args .table .now)) blockCount
+
+row-ok-requires : tie.Need-row-ok-requires Inv-loop μ-loop
+row-ok-requires c κs = (rw (c .block-of .ensures) (c .before .loop-test .taken), c .before .before .before .before .pre)
 
 loop-again : tie.Need-loop-again Inv-loop μ-loop
 loop-again c =
-    let a = c .before .before .before .before .args in
-    let l = c .before .before .loop in
-    let x = c .get16 .result in
-    next inRange (rowOk (a .table .now)) 16 (l .seen) (l .b) (l .inv) x (c .before .loop-test .taken) (both-in-range (l .seen) x)
-    (row-in-range (a .table .now) (l .b) x (omega arith) (omega (arith, c .before .before .before .shared-slice-known .given (2 * l .b))) (c .get16 .ensures))
+    let a = c .before .before .before .before .before .args in
+    let l = c .before .before .before .loop in
+    tested-next true (rowOk (a .table .now)) blockCount (l .b) (l .ok) (l .inv) (c .row-ok .result) (c .before .before .loop-test .taken)
+    (c .row-ok .ensures ∙ rw (c .before .block-of .ensures))
 
 returns : tie.Need-returns Inv-loop μ-loop
 returns c =
     let l = c .before .loop in
-    end inRange (rowOk (c .before .before .before .args .table .now)) 16 (l .seen) (l .b) (l .inv) (c .loop-test .left)
+    tested-all true (rowOk (c .before .before .before .args .table .now)) blockCount (l .b) (l .ok) (l .inv) (c .loop-test .left)
 
 pub rows-ok-spec : {M : Type 1} → statement M
 rows-ok-spec =
@@ -37,9 +41,9 @@ rows-ok-spec =
     μ-loop
     loop-holds
     (λ c. omega arith)
-    (λ c κs. omega arith)
+    (λ c κs. search needs)
+    row-ok-requires
     (λ c. omega arith)
     (λ c. omega arith)
     loop-again
-    (λ c. omega arith)
     returns)

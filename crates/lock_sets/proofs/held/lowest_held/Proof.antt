@@ -6,7 +6,7 @@ use Rattle.lock_sets.proofs.held.lowest_held.Statement.{statement}
 use Rattle.lock_sets.proofs.held.lowest_held.Tie as tie
 
 returns : tie.Need-returns
-returns c = rw (c .lock-of .ensures, c .before .block-of .ensures) (sym (ap lowestBy (zeros-lowest (c .before .before .before .args .set) (c .before .before .if1 .taken))))
+returns c = rw (c .lock-of .ensures) (sym (ap lowestBy (zeros-lowest (c .before .before .args .set) (c .before .if1 .taken))))
 
 returns-2 : tie.Need-returns-2
 returns-2 c = sym (ap lowestBy (zeros-none (c .before .args .set) (c .if1 .left)))
@@ -17,7 +17,6 @@ lowest-held-spec =
     (tie.spec
     (λ c. search needs)
     (λ c. search needs)
-    (λ c κs. search needs)
     (λ c κs. search needs)
     returns
     returns-2)
