@@ -18,7 +18,9 @@ use Rattle.fields.specs.Put.{part-drop}
 use Rattle.image.specs.Records.{no-record}
 
 module _ (image s : List ℕ) (at : ℕ) where
-  pub arrival-at : arrivalOk image (drop at s) ≡ (eqb (getD s (at + eventThreadPlace) 0) 0 && eqb (entry (recordAt image (num16 (drop (at + eventSignalPlace) s)))) externalCode && signalTidy (drop (at + eventSignalPlace) s))
+  pub arrival-at : arrivalOk image (drop at s)
+      ≡ (eqb (getD s (at + eventThreadPlace) 0) 0 && eqb (entry (recordAt image (num16 (drop (at + eventSignalPlace) s)))) externalCode
+      && signalTidy (drop (at + eventSignalPlace) s))
   unfolding arrivalOk signalTidy
   arrival-at =
       let a = eqb (getD s (at + eventThreadPlace) 0) 0 in
@@ -32,7 +34,8 @@ module _ (image s : List ℕ) (at : ℕ) where
   pub arrival-past : labels image ≤ num16 (drop (at + eventSignalPlace) s) → arrivalOk image (drop at s) ≡ false
   arrival-past h = arrival-at ∙ rw (no-record image (num16 (drop (at + eventSignalPlace) s)) h, and-false)
 
-pub turn-at : (s : List ℕ) (at : ℕ) → turnOk (drop at s) ≡ (ltb (getD s (at + eventThreadPlace) 0) threadCount && isZeros (part s (at + eventSignalPlace) signalSize))
+pub turn-at : (s : List ℕ) (at : ℕ)
+    → turnOk (drop at s) ≡ (ltb (getD s (at + eventThreadPlace) 0) threadCount && isZeros (part s (at + eventSignalPlace) signalSize))
 unfolding turnOk
 turn-at s at = rw (getD-drop at s 1 0, part-drop)
 
@@ -45,6 +48,7 @@ turn-kinds c = case (eqb c stepCode) refl
     case false e = refl
 
 module _ (image s : List ℕ) (i : ℕ) where
-  pub event-at : eventAtOk image s i ≡ cond (eqb (getD s (eventSize * i) 0) arrivalCode) (arrivalOk image (drop (eventSize * i) s)) ((eqb (getD s (eventSize * i) 0) stepCode || eqb (getD s (eventSize * i) 0) cutCode) && turnOk (drop (eventSize * i) s))
+  pub event-at : eventAtOk image s i ≡ cond (eqb (getD s (eventSize * i) 0) arrivalCode) (arrivalOk image (drop (eventSize * i) s))
+      ((eqb (getD s (eventSize * i) 0) stepCode || eqb (getD s (eventSize * i) 0) cutCode) && turnOk (drop (eventSize * i) s))
   unfolding eventAtOk eventOk
   event-at = rw (getD-drop (eventSize * i) s 0 0, add-zero, turn-kinds (getD s (eventSize * i) 0))
