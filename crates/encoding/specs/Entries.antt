@@ -20,7 +20,9 @@ abbrev pub entryBytes : Entry → ByteEntry
 entryBytes n = record { event = eventBytes (n .event); answer = answerBytes (n .answer) }
 
 -- whatever bytes follow
-pub entries-are : (l : List Entry) (q r : List ℕ) → byteEntries (length l) (blocks eventBytes (events l) ++ q) (blocks answerBytes (map (λ (n : Entry). n .answer) l) ++ r) ≡ map entryBytes l
+pub entries-are : (l : List Entry) (q r : List ℕ)
+    → byteEntries (length l) (blocks eventBytes (events l) ++ q) (blocks answerBytes (map (λ (n : Entry). n .answer) l) ++ r)
+    ≡ map entryBytes l
 unfolding byteEntries blocks
 entries-are [] q r = refl
 entries-are (n ∷ l) q r =
@@ -55,13 +57,16 @@ module _ (R : Rules) where
   length-log s (e ∷ es) = ap suc (length-log (react R s e .state) es)
 
   -- the bytes of events carried out, with the bytes of their answers
-  pub log-entries : (s : Machine) (es : List Event) (q r : List ℕ) → byteEntries (length es) (blocks eventBytes es ++ q) (blocks answerBytes (answers R s es) ++ r) ≡ map entryBytes (log R s es)
+  pub log-entries : (s : Machine) (es : List Event) (q r : List ℕ)
+      → byteEntries (length es) (blocks eventBytes es ++ q) (blocks answerBytes (answers R s es) ++ r) ≡ map entryBytes (log R s es)
   log-entries s es q r = rw (length-log, log-events, log-answers) at (entries-are (log R s es) q r)
 
   -- so of a list of events that break no rule
-  pub run-entries : (image b : List ℕ) → AreBytes b → length b ≡ eventSize * eventsIn b → ((i : ℕ) → i < eventsIn b → eventAtOk image b i ≡ true) → (s : Machine)
+  pub run-entries : (image b : List ℕ) → AreBytes b → length b ≡ eventSize * eventsIn b
+      → ((i : ℕ) → i < eventsIn b → eventAtOk image b i ≡ true) → (s : Machine)
       → byteEntries (eventsIn b) b (blocks answerBytes (answers R s (eventsFrom b))) ≡ map entryBytes (log R s (eventsFrom b))
   run-entries image b h l e s =
       let n : length (eventsFrom b) ≡ eventsIn b = length-events b in
       let f : blocks eventBytes (eventsFrom b) ≡ b = events-forth image b l e h in
-      rw (append-nil (blocks eventBytes (eventsFrom b)), append-nil (blocks answerBytes (answers R s (eventsFrom b))), n, f) at (log-entries s (eventsFrom b) [] [])
+      rw (append-nil (blocks eventBytes (eventsFrom b)), append-nil (blocks answerBytes (answers R s (eventsFrom b))), n, f) at
+      (log-entries s (eventsFrom b) [] [])

@@ -1,4 +1,5 @@
--- The place of a thread's first tree: what the law says of a thread's first tree is said of the tree at this place, and a search of the bytes finds it.
+-- The place of a thread's first tree: what the law says of a thread's first tree is said of the tree at this place, and a search of
+-- the bytes finds it.
 use mathlib.Core.Path.{_≡_, refl, ap, _∙_}
 use mathlib.Core.Bool.{Bool, not, cond}
 use mathlib.Core.Logic.{ite}
@@ -29,7 +30,8 @@ module _ (t : ℕ) where
   first-none [] h = refl
   first-none (x ∷ l) h = go (ℕ-discrete (x .thread) t) h (first-none l)
     where
-      go : (d : Dec (x .thread ≡ t)) → suc (length l) ≤ ite d 0 (suc (firstTree t l)) → (length l ≤ firstTree t l → first t l ≡ none) → ite d (some (x .pending)) (first t l) ≡ none
+      go : (d : Dec (x .thread ≡ t)) → suc (length l) ≤ ite d 0 (suc (firstTree t l)) → (length l ≤ firstTree t l → first t l ≡ none)
+          → ite d (some (x .pending)) (first t l) ≡ none
       go (yes p) h ih = absurd (omega arith)
       go (no p) h ih = ih (omega arith)
 
@@ -38,7 +40,8 @@ module _ (t : ℕ) where
   put-nowhere p [] h = refl
   put-nowhere p (x ∷ l) h = go (ℕ-discrete (x .thread) t) h (put-nowhere p l)
     where
-      go : (d : Dec (x .thread ≡ t)) → suc (length l) ≤ ite d 0 (suc (firstTree t l)) → (length l ≤ firstTree t l → put t p l ≡ l) → ite d (refit t p l) (x ∷ put t p l) ≡ x ∷ l
+      go : (d : Dec (x .thread ≡ t)) → suc (length l) ≤ ite d 0 (suc (firstTree t l)) → (length l ≤ firstTree t l → put t p l ≡ l)
+          → ite d (refit t p l) (x ∷ put t p l) ≡ x ∷ l
       go (yes q) h ih = absurd (omega arith)
       go (no q) h ih = ap (λ r. x ∷ r) (ih (omega arith))
 
@@ -48,7 +51,8 @@ module _ (t : ℕ) where
   first-thread [] h = absurd (omega arith)
   first-thread (x ∷ l) h = go (ℕ-discrete (x .thread) t) h (first-thread l)
     where
-      go : (d : Dec (x .thread ≡ t)) → ite d 0 (suc (firstTree t l)) < suc (length l) → (firstTree t l < length l → getD l (firstTree t l) noTree .thread ≡ t)
+      go : (d : Dec (x .thread ≡ t)) → ite d 0 (suc (firstTree t l)) < suc (length l)
+          → (firstTree t l < length l → getD l (firstTree t l) noTree .thread ≡ t)
           → getD (x ∷ l) (ite d 0 (suc (firstTree t l))) noTree .thread ≡ t
       go (yes p) h ih = p
       go (no p) h ih = ih (omega arith)
@@ -58,7 +62,8 @@ module _ (t : ℕ) where
   first-some [] h = absurd (omega arith)
   first-some (x ∷ l) h = go (ℕ-discrete (x .thread) t) h (first-some l)
     where
-      go : (d : Dec (x .thread ≡ t)) → ite d 0 (suc (firstTree t l)) < suc (length l) → (firstTree t l < length l → first t l ≡ some (getD l (firstTree t l) noTree .pending))
+      go : (d : Dec (x .thread ≡ t)) → ite d 0 (suc (firstTree t l)) < suc (length l)
+          → (firstTree t l < length l → first t l ≡ some (getD l (firstTree t l) noTree .pending))
           → ite d (some (x .pending)) (first t l) ≡ some (getD (x ∷ l) (ite d 0 (suc (firstTree t l))) noTree .pending)
       go (yes p) h ih = refl
       go (no p) h ih = ih (omega arith)
@@ -68,12 +73,14 @@ module _ (t : ℕ) where
   put-none [] h = absurd (omega arith)
   put-none (x ∷ l) h = go (ℕ-discrete (x .thread) t) h (put-none l)
     where
-      go : (d : Dec (x .thread ≡ t)) → ite d 0 (suc (firstTree t l)) < suc (length l) → (firstTree t l < length l → put t none l ≡ take (firstTree t l) l ++ drop (suc (firstTree t l)) l)
+      go : (d : Dec (x .thread ≡ t)) → ite d 0 (suc (firstTree t l)) < suc (length l)
+          → (firstTree t l < length l → put t none l ≡ take (firstTree t l) l ++ drop (suc (firstTree t l)) l)
           → ite d l (x ∷ put t none l) ≡ take (ite d 0 (suc (firstTree t l))) (x ∷ l) ++ drop (suc (ite d 0 (suc (firstTree t l)))) (x ∷ l)
       go (yes p) h ih = refl
       go (no p) h ih = ap (λ r. x ∷ r) (ih (omega arith))
 
-  pub put-some : (p : List Signal) (l : List Tree) → firstTree t l < length l → put t (some p) l ≡ set l (firstTree t l) (record { thread = t; pending = p })
+  pub put-some : (p : List Signal) (l : List Tree) → firstTree t l < length l
+      → put t (some p) l ≡ set l (firstTree t l) (record { thread = t; pending = p })
   unfolding firstTree put
   put-some p [] h = absurd (omega arith)
   put-some p (x ∷ l) h = go (ℕ-discrete (x .thread) t) h (put-some p l)
@@ -81,7 +88,8 @@ module _ (t : ℕ) where
       y : Tree
       y = record { thread = t; pending = p }
 
-      go : (d : Dec (x .thread ≡ t)) → ite d 0 (suc (firstTree t l)) < suc (length l) → (firstTree t l < length l → put t (some p) l ≡ set l (firstTree t l) y)
+      go : (d : Dec (x .thread ≡ t)) → ite d 0 (suc (firstTree t l)) < suc (length l)
+          → (firstTree t l < length l → put t (some p) l ≡ set l (firstTree t l) y)
           → ite d (y ∷ l) (x ∷ put t (some p) l) ≡ set (x ∷ l) (ite d 0 (suc (firstTree t l))) y
       go (yes q) h ih = refl
       go (no q) h ih = ap (λ r. x ∷ r) (ih (omega arith))
@@ -93,18 +101,22 @@ unfoldable pub elsewhere : List ℕ → ℕ → ℕ → Bool
 elsewhere b t i = not (eqb (getD b (treesPlace + treeSize * i) 0) t)
 
 -- a test that is that of the trees from i on
-search : (t : ℕ) (ok : ℕ → Bool) (l : List Tree) (i : ℕ) → ((j : ℕ) → j < length l → ok (i + j) ≡ not (eqb (getD l j noTree .thread) t)) → firstBad ok i (length l) ≡ i + firstTree t l
+search : (t : ℕ) (ok : ℕ → Bool) (l : List Tree) (i : ℕ) → ((j : ℕ) → j < length l → ok (i + j) ≡ not (eqb (getD l j noTree .thread) t))
+    → firstBad ok i (length l) ≡ i + firstTree t l
 unfolding firstBad firstTree
 search t ok [] i h = omega arith
 search t ok (x ∷ l) i h =
     let e : ok i ≡ not (eqb (x .thread) t) = ap ok (omega arith) ∙ h 0 (omega arith) in
     rw e (go (ℕ-discrete (x .thread) t) (search t ok l (i + 1) (λ j lj. ap ok (omega arith) ∙ h (suc j) (omega arith))))
   where
-    go : (d : Dec (x .thread ≡ t)) → firstBad ok (i + 1) (length l) ≡ i + 1 + firstTree t l → cond (not (eqb (x .thread) t)) (firstBad ok (i + 1) (length l)) i ≡ i + ite d 0 (suc (firstTree t l))
+    go : (d : Dec (x .thread ≡ t)) → firstBad ok (i + 1) (length l) ≡ i + 1 + firstTree t l
+        → cond (not (eqb (x .thread) t)) (firstBad ok (i + 1) (length l)) i ≡ i + ite d 0 (suc (firstTree t l))
     go (yes p) ih = rw (eq-eqb (x .thread) t p) (omega arith)
     go (no p) ih = rw (ne-eqb (x .thread) t p) (omega arith)
 
-pub first-found : (s : Machine) {b : List ℕ} (t : ℕ) → b ≡ encode s → length (s .trees) ≤ treeCount → firstBad (elsewhere b t) 0 (length (s .trees)) ≡ firstTree t (s .trees)
+pub first-found : (s : Machine) {b : List ℕ} (t : ℕ) → b ≡ encode s → length (s .trees) ≤ treeCount
+    → firstBad (elsewhere b t) 0 (length (s .trees)) ≡ firstTree t (s .trees)
 unfolding elsewhere
 first-found s {b} t e l =
-    search t (elsewhere b t) (s .trees) 0 (λ j h. ap (λ n. not (eqb n t)) (ap (λ k. getD b (treesPlace + treeSize * k) 0) (omega arith) ∙ thread-byte-is s j e l h (treesPlace + treeSize * j) refl)) ∙ omega arith
+    search t (elsewhere b t) (s .trees) 0 (λ j h. ap (λ n. not (eqb n t)) (ap (λ k. getD b (treesPlace + treeSize * k) 0) (omega arith)
+    ∙ thread-byte-is s j e l h (treesPlace + treeSize * j) refl)) ∙ omega arith

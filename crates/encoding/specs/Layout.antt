@@ -28,7 +28,8 @@ slots s = blocks treeBytes (pad noTree treeCount (s .trees))
 pub encode-header : (s : Machine) → encode s ≡ header s ++ (length (s .trees) ∷ slots s)
 unfolding encode header slots
 encode-header s =
-    sym (append-assoc (blocks le16 (pad 0 wordTotal (s .words))) (blocks threadBytes (pad idle threadCount (s .threads))) (length (s .trees) ∷ blocks treeBytes (pad noTree treeCount (s .trees))))
+    sym (append-assoc (blocks le16 (pad 0 wordTotal (s .words))) (blocks threadBytes (pad idle threadCount (s .threads)))
+    (length (s .trees) ∷ blocks treeBytes (pad noTree treeCount (s .trees))))
 
 -- the same with all before the trees in one part
 pub encode-slots : (s : Machine) → encode s ≡ (header s ++ (length (s .trees) ∷ [])) ++ (slots s ++ [])
@@ -49,7 +50,8 @@ thread-on s t at n h e =
     let words : List ℕ = blocks le16 (pad 0 wordTotal (s .words)) in
     let after : List ℕ = length (s .trees) ∷ blocks treeBytes (pad noTree treeCount (s .trees)) in (
       blocks threadBytes (drop (suc t) (s .threads)) ++ after,
-      rw (pad-full idle threadCount (s .threads) n) (block-drop threadBytes threadSize length-thread idle words after (s .threads) at t (omega (arith, length-words s)) (omega arith)),
+      rw (pad-full idle threadCount (s .threads) n) (block-drop threadBytes threadSize length-thread idle words after (s .threads) at t
+          (omega (arith, length-words s)) (omega arith)),
     )
 
 pub tree-on : (s : Machine) (i at : ℕ) → length (s .trees) ≤ treeCount → i < length (s .trees) → at ≡ treesPlace + treeSize * i
@@ -59,5 +61,6 @@ tree-on s i at n h e =
     let xs = pad noTree treeCount (s .trees) in
     let before : List ℕ = header s ++ (length (s .trees) ∷ []) in
     let d : drop at (before ++ (blocks treeBytes xs ++ [])) ≡ treeBytes (getD xs i noTree) ++ (blocks treeBytes (drop (suc i) xs) ++ []) =
-    block-drop treeBytes treeSize length-tree noTree before [] xs at i (omega (arith, length-before s)) (omega (arith, length-pad noTree treeCount (s .trees))) in
+    block-drop treeBytes treeSize length-tree noTree before [] xs at i (omega (arith, length-before s))
+    (omega (arith, length-pad noTree treeCount (s .trees))) in
     (blocks treeBytes (drop (suc i) xs) ++ [], ap (drop at) (encode-slots s) ∙ rw (pad-at noTree treeCount (s .trees) i n) at d)

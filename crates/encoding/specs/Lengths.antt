@@ -12,7 +12,8 @@ use Rattle.rules.specs.Answers.{answerBytes}
 use Rattle.rules.specs.declared.answer.Answer.{Answer}
 use Rattle.fields.specs.Blocks.{length-blocks, length-pad}
 
-length-raw : (label locks count : ℕ) (returns : List ℕ) (present : ℕ) (values : List ℕ) → length (threadRaw label locks count returns present values) ≡ threadSize
+length-raw : (label locks count : ℕ) (returns : List ℕ) (present : ℕ) (values : List ℕ)
+    → length (threadRaw label locks count returns present values) ≡ threadSize
 unfolding threadRaw
 length-raw label locks count returns present values = simp (length-append, length-blocks le16 2 (λ x. refl), length-pad)
 
@@ -38,7 +39,13 @@ length-threads s = simp (length-blocks threadBytes threadSize length-thread, len
 pub length-encode : (s : Machine) → length (encode s) ≡ stateSize
 unfolding encode
 length-encode s =
-    simp (length-append, length-blocks le16 2 (λ x. refl), length-blocks threadBytes threadSize length-thread, length-blocks treeBytes treeSize length-tree, length-pad)
+    simp (
+      length-append,
+      length-blocks le16 2 (λ x. refl),
+      length-blocks threadBytes threadSize length-thread,
+      length-blocks treeBytes treeSize length-tree,
+      length-pad,
+    )
 
 pub length-event : (e : Event) → length (eventBytes e) ≡ eventSize
 unfolding eventBytes

@@ -1,4 +1,5 @@
--- The bytes of document 01 and the values that they say: each kind of record, the state, events and entries read and written; then stores into a state's bytes.
+-- The bytes of document 01 and the values that they say: each kind of record, the state, events and entries read and written; then
+-- stores into a state's bytes.
 pub mod Lengths
 pub mod Sized
 pub mod Tests

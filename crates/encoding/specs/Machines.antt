@@ -35,14 +35,20 @@ module _ (s : Machine) (z : Sized s) where
   unfolding encode
   threads-back =
       let after : List ℕ = length (s .trees) ∷ blocks treeBytes (pad noTree treeCount (s .trees)) in
-      rw (drop-at (blocks le16 (pad 0 wordTotal (s .words))) (blocks threadBytes (pad idle threadCount (s .threads)) ++ after) wordsSize (length-words s), pad-full idle threadCount (s .threads) (z .threads), ← z .threads)
+      rw (
+        drop-at (blocks le16 (pad 0 wordTotal (s .words))) (blocks threadBytes (pad idle threadCount (s .threads)) ++ after) wordsSize
+            (length-words s),
+        pad-full idle threadCount (s .threads) (z .threads),
+        ← z .threads,
+      )
       (chunks-blocks threadBytes threadFrom threadSize length-thread SizedThread thread-back (s .threads) after (z .eachThread))
 
   trees-back : chunks treeFrom treeSize (getD (encode s) treeCountPlace 0) (drop treesPlace (encode s)) ≡ s .trees
   unfolding slots
   trees-back =
       let n = length (s .trees) in
-      let d : drop treesPlace (encode s) ≡ blocks treeBytes (pad noTree treeCount (s .trees)) ++ [] = ap (drop treesPlace) (encode-slots s) ∙ drop-at (header s ++ (n ∷ [])) _ treesPlace (length-before s) in
+      let d : drop treesPlace (encode s) ≡ blocks treeBytes (pad noTree treeCount (s .trees)) ++ [] =
+      ap (drop treesPlace) (encode-slots s) ∙ drop-at (header s ++ (n ∷ [])) _ treesPlace (length-before s) in
       rw (count-back, d, pad-split noTree treeCount (s .trees) (z .trees), blocks-append, append-assoc)
       (chunks-blocks treeBytes treeFrom treeSize length-tree SizedTree tree-back (s .trees) _ (z .eachTree))
 
@@ -56,7 +62,8 @@ pub record StateRead (state : List ℕ) : Type 0 where
   pub threads : (t : ℕ) → t < threadCount → threadTidy (drop (threadSize * t) (drop wordsSize state)) ≡ true
   pub few : getD state treeCountPlace 0 ≤ treeCount
   pub each : (i : ℕ) → i < getD state treeCountPlace 0 → treeTidy (drop (treeSize * i) (drop treesPlace state)) ≡ true
-  pub zeros : part (drop treesPlace state) (treeSize * getD state treeCountPlace 0) (treeSize * (treeCount - getD state treeCountPlace 0)) ≡ replicate (treeSize * (treeCount - getD state treeCountPlace 0)) 0
+  pub zeros : part (drop treesPlace state) (treeSize * getD state treeCountPlace 0)
+      (treeSize * (treeCount - getD state treeCountPlace 0)) ≡ replicate (treeSize * (treeCount - getD state treeCountPlace 0)) 0
 
 pub state-read : (state : List ℕ) → length state ≡ stateSize → stateTidy state ≡ true → StateRead state
 unfolding stateTidy threadAtTidy treeAtTidy
@@ -76,20 +83,31 @@ state-read state l e =
       zeros = rw part-drop (zeros-part state (treesPlace + treeSize * n) (treeSize * (treeCount - n)) (omega arith) (t .1));
     }
 
-pub machine-forth : (state : List ℕ) → AreBytes state → length state ≡ stateSize → stateTidy state ≡ true → encode (machineFrom state) ≡ state
+pub machine-forth : (state : List ℕ) → AreBytes state → length state ≡ stateSize → stateTidy state ≡ true
+    → encode (machineFrom state) ≡ state
 unfolding encode machineFrom wordsFrom part
 machine-forth s h l e =
     let o = state-read s l e in
     let n = getD s treeCountPlace 0 in
-    let w : blocks le16 (pad 0 wordTotal (chunks num16 2 wordTotal s)) ≡ part s 0 wordsSize = ap (blocks le16) (pad-full 0 wordTotal _ (length-chunks num16 2 wordTotal s)) ∙ nums-forth s 0 wordTotal wordsSize h (omega arith) refl in
-    let t : blocks threadBytes (pad idle threadCount (chunks threadFrom threadSize threadCount (drop threadsPlace s))) ≡ part s threadsPlace (threadSize * threadCount) =
+    let w : blocks le16 (pad 0 wordTotal (chunks num16 2 wordTotal s)) ≡ part s 0 wordsSize =
+    ap (blocks le16) (pad-full 0 wordTotal _ (length-chunks num16 2 wordTotal s))
+    ∙ nums-forth s 0 wordTotal wordsSize h (omega arith) refl in
+    let t : blocks threadBytes (pad idle threadCount (chunks threadFrom threadSize threadCount (drop threadsPlace s)))
+    ≡ part s threadsPlace (threadSize * threadCount) =
     ap (blocks threadBytes) (pad-full idle threadCount _ (length-chunks threadFrom threadSize threadCount (drop threadsPlace s)))
-    ∙ blocks-chunks threadBytes threadFrom threadSize threadCount (drop threadsPlace s) (λ j lj. thread-forth (drop (threadSize * j) (drop threadsPlace s)) (bytes-drop (drop threadsPlace s) (threadSize * j) (bytes-drop s threadsPlace h)) (simp length-drop (omega arith)) (o .threads j lj)) in
-    let c : length (chunks treeFrom treeSize n (drop treesPlace s)) ∷ [] ≡ part s treeCountPlace 1 = ap (λ q. q ∷ []) (length-chunks treeFrom treeSize n (drop treesPlace s)) ∙ byte-forth s treeCountPlace (omega arith) in
-    let r : blocks treeBytes (pad noTree treeCount (chunks treeFrom treeSize n (drop treesPlace s))) ≡ part s treesPlace (treeSize * treeCount) =
+    ∙ blocks-chunks threadBytes threadFrom threadSize threadCount (drop threadsPlace s)
+    (λ j lj. thread-forth (drop (threadSize * j) (drop threadsPlace s))
+    (bytes-drop (drop threadsPlace s) (threadSize * j) (bytes-drop s threadsPlace h)) (simp length-drop (omega arith)) (o .threads j lj)) in
+    let c : length (chunks treeFrom treeSize n (drop treesPlace s)) ∷ [] ≡ part s treeCountPlace 1 =
+    ap (λ q. q ∷ []) (length-chunks treeFrom treeSize n (drop treesPlace s)) ∙ byte-forth s treeCountPlace (omega arith) in
+    let r : blocks treeBytes (pad noTree treeCount (chunks treeFrom treeSize n (drop treesPlace s)))
+    ≡ part s treesPlace (treeSize * treeCount) =
     padded-forth treeBytes treeFrom noTree treeSize treeCount n (drop treesPlace s) no-tree (o .few)
-    (λ j lj. tree-forth (drop (treeSize * j) (drop treesPlace s)) (bytes-drop (drop treesPlace s) (treeSize * j) (bytes-drop s treesPlace h)) (simp length-drop (omega (arith, o .few))) (o .each j lj)) (o .zeros) in
-    glue s 0 wordsSize (stateSize - threadsPlace) _ _ w (glue s threadsPlace (threadSize * threadCount) (stateSize - treeCountPlace) _ _ t (glue s treeCountPlace 1 (stateSize - treesPlace) _ _ c r)) ∙ take-all stateSize s (omega arith)
+    (λ j lj. tree-forth (drop (treeSize * j) (drop treesPlace s))
+    (bytes-drop (drop treesPlace s) (treeSize * j) (bytes-drop s treesPlace h)) (simp length-drop (omega (arith, o .few)))
+    (o .each j lj)) (o .zeros) in
+    glue s 0 wordsSize (stateSize - threadsPlace) _ _ w (glue s threadsPlace (threadSize * threadCount) (stateSize - treeCountPlace) _ _
+    t (glue s treeCountPlace 1 (stateSize - treesPlace) _ _ c r)) ∙ take-all stateSize s (omega arith)
 
 pub machine-sized : (state : List ℕ) → length state ≡ stateSize → stateTidy state ≡ true → Sized (machineFrom state)
 unfolding machineFrom wordsFrom
@@ -100,8 +118,10 @@ machine-sized s l e =
       words = length-chunks num16 2 wordTotal s;
       threads = length-chunks threadFrom threadSize threadCount (drop threadsPlace s);
       trees = rw (length-chunks treeFrom treeSize n (drop treesPlace s)) (o .few);
-      eachThread = each-chunks SizedThread threadFrom threadSize threadCount (drop threadsPlace s) (λ j lj. thread-sized (drop (threadSize * j) (drop threadsPlace s)) (simp length-drop (omega arith)) (o .threads j lj));
-      eachTree = each-chunks SizedTree treeFrom treeSize n (drop treesPlace s) (λ j lj. tree-sized (drop (treeSize * j) (drop treesPlace s)) (simp length-drop (omega (arith, o .few))) (o .each j lj));
+      eachThread = each-chunks SizedThread threadFrom threadSize threadCount (drop threadsPlace s)
+          (λ j lj. thread-sized (drop (threadSize * j) (drop threadsPlace s)) (simp length-drop (omega arith)) (o .threads j lj));
+      eachTree = each-chunks SizedTree treeFrom treeSize n (drop treesPlace s)
+          (λ j lj. tree-sized (drop (treeSize * j) (drop treesPlace s)) (simp length-drop (omega (arith, o .few))) (o .each j lj));
     }
 
 -- ---- bytes that are written pass the tests
@@ -123,7 +143,8 @@ module _ (s : Machine) (z : Sized s) where
   unfolding slots
   tail-zeros =
       let n = length (s .trees) in
-      rw encode-slots (padded-tail treeBytes treeSize length-tree noTree treeCount (s .trees) (header s ++ (n ∷ [])) [] (treesPlace + treeSize * n) (treeSize * (treeCount - n)) no-tree (z .trees) (omega (arith, length-before s)) refl)
+      rw encode-slots (padded-tail treeBytes treeSize length-tree noTree treeCount (s .trees) (header s ++ (n ∷ [])) []
+      (treesPlace + treeSize * n) (treeSize * (treeCount - n)) no-tree (z .trees) (omega (arith, length-before s)) refl)
 
   pub machine-tidy : stateTidy (encode s) ≡ true
   unfolding stateTidy

@@ -67,11 +67,14 @@ num32-forth b i h l =
     let hx : x < 65536 = num16-small (drop i b) (bytes-drop b i h) in
     let e₁ : (x + 65536 * y) % 65536 ≡ x = omega arith in
     let e₂ : (x + 65536 * y) / 65536 ≡ y = omega arith in
-    let f : le16 x ++ le16 y ≡ part b i 4 = glue b i 2 2 (le16 x) (le16 y) (num-forth b i h (omega arith)) (ap le16 e ∙ num-forth b (i + 2) h (omega arith)) in
+    let f : le16 x ++ le16 y ≡ part b i 4 =
+    glue b i 2 2 (le16 x) (le16 y) (num-forth b i h (omega arith)) (ap le16 e ∙ num-forth b (i + 2) h (omega arith)) in
     rw (e₁, e₂) f
 
 -- k numbers from place i on
-pub nums-forth : (b : List ℕ) (i k n : ℕ) → AreBytes b → i + 2 * k ≤ length b → n ≡ 2 * k → blocks le16 (chunks num16 2 k (drop i b)) ≡ part b i n
+pub nums-forth : (b : List ℕ) (i k n : ℕ) → AreBytes b → i + 2 * k ≤ length b → n ≡ 2 * k → blocks le16 (chunks num16 2 k (drop i b))
+    ≡ part b i n
 unfolding part
 nums-forth b i k n h l e =
-    rw e (blocks-chunks le16 num16 2 k (drop i b) (λ j lj. num16-forth (drop i b) (2 * j) (bytes-drop b i h) (simp length-drop (omega arith))))
+    rw e (blocks-chunks le16 num16 2 k (drop i b)
+    (λ j lj. num16-forth (drop i b) (2 * j) (bytes-drop b i h) (simp length-drop (omega arith))))

@@ -22,7 +22,8 @@ shift : (p r : ℕ) → p / 2 ^ suc r ≡ p / 2 / 2 ^ r
 shift p r = rw (← one-add r) (sym (shr-shr p 1 r))
 
 -- a register by its number
-pub register-at : (present : ℕ) (values : List ℕ) (r n i : ℕ) → i < n → getD (registersFrom present values r n) i none ≡ registerOf present values (r + i)
+pub register-at : (present : ℕ) (values : List ℕ) (r n i : ℕ) → i < n → getD (registersFrom present values r n) i none
+    ≡ registerOf present values (r + i)
 unfolding registersFrom
 register-at present values r zero i h = absurd (omega arith)
 register-at present values r (suc n) zero h = rw add-zero
@@ -64,17 +65,20 @@ unfolding registersFrom presence
 presence-forth p vs r zero h = omega arith
 presence-forth p vs r (suc n) h = go (has r p) refl (presence-forth p vs (suc r) n (omega (arith, half p r, pow-suc 2 n)))
   where
-    go : (b : Bool) → has r p ≡ b → presence (registersFrom p vs (suc r) n) ≡ p / 2 ^ suc r → presence (cond b (some (getD vs r 0)) none ∷ registersFrom p vs (suc r) n) ≡ p / 2 ^ r
+    go : (b : Bool) → has r p ≡ b → presence (registersFrom p vs (suc r) n) ≡ p / 2 ^ suc r
+        → presence (cond b (some (getD vs r 0)) none ∷ registersFrom p vs (suc r) n) ≡ p / 2 ^ r
     go true e ih = unfold presence in omega (arith, ih, half p r, eqb-true (p / 2 ^ r % 2) 1 e)
     go false e ih = unfold presence in omega (arith, ih, half p r, eqb-false (p / 2 ^ r % 2) 1 e)
 
 -- where the values of absent registers are zero
-pub values-forth : (p : ℕ) (vs : List ℕ) (r n : ℕ) → r + n ≤ length vs → ((i : ℕ) → r ≤ i → i < r + n → (has i p || eqb (getD vs i 0) 0) ≡ true)
+pub values-forth : (p : ℕ) (vs : List ℕ) (r n : ℕ) → r + n ≤ length vs
+    → ((i : ℕ) → r ≤ i → i < r + n → (has i p || eqb (getD vs i 0) 0) ≡ true)
     → map valueOr0 (registersFrom p vs r n) ≡ take n (drop r vs)
 unfolding registersFrom
 values-forth p vs r zero l h = refl
 values-forth p vs r (suc n) l h =
-    rw (drop-cons vs r 0 (omega arith)) (go (has r p) (h r (omega arith) (omega arith)) (values-forth p vs (suc r) n (omega arith) (λ i a b. h i (omega arith) (omega arith))))
+    rw (drop-cons vs r 0 (omega arith))
+    (go (has r p) (h r (omega arith) (omega arith)) (values-forth p vs (suc r) n (omega arith) (λ i a b. h i (omega arith) (omega arith))))
   where
     go : (b : Bool) → (b || eqb (getD vs r 0) 0) ≡ true → map valueOr0 (registersFrom p vs (suc r) n) ≡ take n (drop (suc r) vs)
         → valueOr0 (cond b (some (getD vs r 0)) none) ∷ map valueOr0 (registersFrom p vs (suc r) n) ≡ getD vs r 0 ∷ take n (drop (suc r) vs)

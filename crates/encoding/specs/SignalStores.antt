@@ -37,21 +37,30 @@ unfolding treeBytes put
 push-bytes x k g h e =
     let r : List ℕ = blocks signalBytes (pad noSignal pendingCount (x .pending)) in
     let w : put r (signalSize * k) (signalBytes g) ≡ blocks signalBytes (pad noSignal pendingCount (x .pending ++ g ∷ [])) =
-    blocks-push signalBytes signalSize length-signal noSignal pendingCount (x .pending) g (signalSize * k) (signalBytes g) h (rw e) (omega (arith, length-signal g)) (put-whole _ _ (length-signal _ ∙ sym (length-signal g))) in
+    blocks-push signalBytes signalSize length-signal noSignal pendingCount (x .pending) g (signalSize * k) (signalBytes g) h (rw e)
+    (omega (arith, length-signal g)) (put-whole _ _ (length-signal _ ∙ sym (length-signal g))) in
     let n : k + 1 ≡ length (x .pending ++ g ∷ []) = simp length-append (omega arith) in
-    ap (λ l. put l 1 ((k + 1) ∷ [])) (put-after (x .thread ∷ length (x .pending) ∷ []) r (signalsPlace + signalSize * k) (signalSize * k) (signalBytes g) refl) ∙ rw (w, n)
+    ap (λ l. put l 1 ((k + 1) ∷ [])) (put-after (x .thread ∷ length (x .pending) ∷ []) r (signalsPlace + signalSize * k) (signalSize * k)
+    (signalBytes g) refl) ∙ rw (w, n)
 
 take-bytes : (x : Tree) (k : ℕ) → 0 < length (x .pending) → length (x .pending) ≤ pendingCount → k ≡ length (x .pending)
-    → put (put (treeBytes x) 2 (part (treeBytes x) (2 + signalSize) (signalSize * (k - 1)) ++ replicate signalSize 0)) 1 ((k - 1) ∷ []) ≡ treeBytes (rest x)
+    → put (put (treeBytes x) 2 (part (treeBytes x) (2 + signalSize) (signalSize * (k - 1)) ++ replicate signalSize 0)) 1 ((k - 1) ∷ [])
+    ≡ treeBytes (rest x)
 unfolding treeBytes put removeAt
 take-bytes x k h l e =
     let r : List ℕ = blocks signalBytes (pad noSignal pendingCount (x .pending)) in
     let z : k - 1 ≡ length (x .pending) - 1 - 0 = omega arith in
-    let p : part (x .thread ∷ length (x .pending) ∷ r) (signalsPlace + signalSize) (signalSize * (k - 1)) ≡ part r signalSize (signalSize * (k - 1)) = part-after (x .thread ∷ length (x .pending) ∷ []) r (signalsPlace + signalSize) signalSize (signalSize * (k - 1)) refl in
-    let w : put r 0 (part r signalSize (signalSize * (k - 1)) ++ replicate signalSize 0) ≡ blocks signalBytes (pad noSignal pendingCount (drop 1 (x .pending))) =
-    blocks-remove signalBytes signalSize length-signal noSignal pendingCount (x .pending) 0 0 signalSize (signalSize * (k - 1)) h l no-signal refl refl (rw z) in
+    let p : part (x .thread ∷ length (x .pending) ∷ r) (signalsPlace + signalSize) (signalSize * (k - 1))
+    ≡ part r signalSize (signalSize * (k - 1)) =
+    part-after (x .thread ∷ length (x .pending) ∷ []) r (signalsPlace + signalSize) signalSize (signalSize * (k - 1)) refl in
+    let w : put r 0 (part r signalSize (signalSize * (k - 1)) ++ replicate signalSize 0)
+    ≡ blocks signalBytes (pad noSignal pendingCount (drop 1 (x .pending))) =
+    blocks-remove signalBytes signalSize length-signal noSignal pendingCount (x .pending) 0 0 signalSize (signalSize * (k - 1)) h l
+    no-signal refl refl (rw z) in
     let n : k - 1 ≡ length (drop 1 (x .pending)) = rw (length-drop, e) in
-    rw p (ap (λ l. put l 1 ((k - 1) ∷ [])) (put-after (x .thread ∷ length (x .pending) ∷ []) r 2 0 (part r signalSize (signalSize * (k - 1)) ++ replicate signalSize 0) refl) ∙ rw (w, n))
+    rw p (ap (λ l. put l 1 ((k - 1) ∷ []))
+    (put-after (x .thread ∷ length (x .pending) ∷ []) r 2 0 (part r signalSize (signalSize * (k - 1)) ++ replicate signalSize 0) refl)
+    ∙ rw (w, n))
 
 pub move-bytes : (x : Tree) (t : ℕ) → put (treeBytes x) 0 (t ∷ []) ≡ treeBytes (moved x t)
 unfolding treeBytes put
@@ -60,37 +69,54 @@ move-bytes x t = refl
 -- ---- what stores do to tree i, along equations
 
 module _ (s : Machine) (i : ℕ) {b : List ℕ} (e : b ≡ encode s) (l : length (s .trees) ≤ treeCount) (h : i < length (s .trees)) where
-  pub signal-push : {b₁ b₂ : List ℕ} (k at : ℕ) (g : Signal) → k ≡ length (getD (s .trees) i noTree .pending) → length (getD (s .trees) i noTree .pending) < pendingCount
+  pub signal-push : {b₁ b₂ : List ℕ} (k at : ℕ) (g : Signal) → k ≡ length (getD (s .trees) i noTree .pending)
+      → length (getD (s .trees) i noTree .pending) < pendingCount
       → at ≡ treesPlace + treeSize * i → b₁ ≡ put b (at + 2 + signalSize * k) (signalBytes g) → b₂ ≡ put b₁ (at + 1) ((k + 1) ∷ [])
       → b₂ ≡ encode (withTrees s (set (s .trees) i (pushed (getD (s .trees) i noTree) g)))
   signal-push {b₁} {b₂} k at g ek few ea e₁ e₂ =
       let x = getD (s .trees) i noTree in
-      let f₁ = tree-put s i l h (treeBytes x) (at + signalsPlace + signalSize * k) (signalsPlace + signalSize * k) (signalBytes g) (e ∙ tree-open s i l h) e₁ (length-tree x) (omega arith) (omega (arith, length-signal g)) in
-      let f₂ = tree-put s i l h (put (treeBytes x) (signalsPlace + signalSize * k) (signalBytes g)) (at + 1) 1 ((k + 1) ∷ []) f₁ e₂ (length-put _ _ _ ∙ length-tree x) (omega arith) (omega arith) in
+      let f₁ = tree-put s i l h (treeBytes x) (at + signalsPlace + signalSize * k) (signalsPlace + signalSize * k) (signalBytes g)
+      (e ∙ tree-open s i l h) e₁ (length-tree x) (omega arith) (omega (arith, length-signal g)) in
+      let f₂ = tree-put s i l h (put (treeBytes x) (signalsPlace + signalSize * k) (signalBytes g)) (at + 1) 1 ((k + 1) ∷ []) f₁ e₂
+      (length-put _ _ _ ∙ length-tree x) (omega arith) (omega arith) in
       f₂ ∙ rw (push-bytes x k g few ek) (tree-close s i l h (pushed x g))
 
-  pub signal-take : {b₁ b₂ : List ℕ} (k at : ℕ) → k ≡ length (getD (s .trees) i noTree .pending) → 0 < length (getD (s .trees) i noTree .pending)
+  pub signal-take : {b₁ b₂ : List ℕ} (k at : ℕ) → k ≡ length (getD (s .trees) i noTree .pending)
+      → 0 < length (getD (s .trees) i noTree .pending)
       → length (getD (s .trees) i noTree .pending) ≤ pendingCount → at ≡ treesPlace + treeSize * i
-      → b₁ ≡ put b (at + 2) (part b (at + 2 + signalSize) (signalSize * (k - 1)) ++ replicate signalSize 0) → b₂ ≡ put b₁ (at + 1) ((k - 1) ∷ [])
+      → b₁ ≡ put b (at + 2) (part b (at + 2 + signalSize) (signalSize * (k - 1)) ++ replicate signalSize 0)
+      → b₂ ≡ put b₁ (at + 1) ((k - 1) ∷ [])
       → b₂ ≡ encode (withTrees s (set (s .trees) i (rest (getD (s .trees) i noTree))))
   signal-take {b₁} {b₂} k at ek some few ea e₁ e₂ =
       let x = getD (s .trees) i noTree in
       let f = e ∙ tree-open s i l h in
-      let p : part b (at + signalsPlace + signalSize) (signalSize * (k - 1)) ≡ part (treeBytes x) (signalsPlace + signalSize) (signalSize * (k - 1)) = tree-part s i l h (treeBytes x) (at + signalsPlace + signalSize) (signalsPlace + signalSize) (signalSize * (k - 1)) f (length-tree x) (omega arith) (omega arith) in
+      let p : part b (at + signalsPlace + signalSize) (signalSize * (k - 1)) ≡ part (treeBytes x) (signalsPlace + signalSize)
+      (signalSize * (k - 1)) = tree-part s i l h (treeBytes x) (at + signalsPlace + signalSize) (signalsPlace + signalSize)
+      (signalSize * (k - 1)) f (length-tree x) (omega arith) (omega arith) in
       let a : List ℕ = part (treeBytes x) (signalsPlace + signalSize) (signalSize * (k - 1)) ++ replicate signalSize 0 in
-      let la : length a ≡ signalSize * (k - 1) + signalSize = simp (length-append, length-replicate, length-part (treeBytes x) (signalsPlace + signalSize) (signalSize * (k - 1)) (omega (arith, length-tree x))) in
+      let la : length a ≡ signalSize * (k - 1) + signalSize =
+      simp (
+        length-append,
+        length-replicate,
+        length-part (treeBytes x) (signalsPlace + signalSize) (signalSize * (k - 1))
+            (omega (arith, length-tree x)),
+      ) in
       let f₁ = tree-put s i l h (treeBytes x) (at + 2) 2 a f (rw p at e₁) (length-tree x) (omega arith) (omega arith) in
-      let f₂ = tree-put s i l h (put (treeBytes x) 2 a) (at + 1) 1 ((k - 1) ∷ []) f₁ e₂ (length-put _ _ _ ∙ length-tree x) (omega arith) (omega arith) in
+      let f₂ = tree-put s i l h (put (treeBytes x) 2 a) (at + 1) 1 ((k - 1) ∷ []) f₁ e₂ (length-put _ _ _ ∙ length-tree x) (omega arith)
+      (omega arith) in
       f₂ ∙ rw (take-bytes x k some few ek) (tree-close s i l h (rest x))
 
-  pub tree-move : {b₁ : List ℕ} (t at : ℕ) → at ≡ treesPlace + treeSize * i → b₁ ≡ put b at (t ∷ []) → b₁ ≡ encode (withTrees s (set (s .trees) i (moved (getD (s .trees) i noTree) t)))
+  pub tree-move : {b₁ : List ℕ} (t at : ℕ) → at ≡ treesPlace + treeSize * i → b₁ ≡ put b at (t ∷ [])
+      → b₁ ≡ encode (withTrees s (set (s .trees) i (moved (getD (s .trees) i noTree) t)))
   tree-move t at ea e₁ =
       let x = getD (s .trees) i noTree in
-      tree-put s i l h (treeBytes x) at 0 (t ∷ []) (e ∙ tree-open s i l h) e₁ (length-tree x) (omega arith) (omega arith) ∙ rw (move-bytes x t) (tree-close s i l h (moved x t))
+      tree-put s i l h (treeBytes x) at 0 (t ∷ []) (e ∙ tree-open s i l h) e₁ (length-tree x) (omega arith) (omega arith)
+      ∙ rw (move-bytes x t) (tree-close s i l h (moved x t))
 
 -- ---- what is read of tree i, along equations
 
-module _ (s : Machine) (i : ℕ) {b : List ℕ} (e : b ≡ encode s) (l : length (s .trees) ≤ treeCount) (h : i < length (s .trees)) (at : ℕ) (ea : at ≡ treesPlace + treeSize * i) where
+module _ (s : Machine) (i : ℕ) {b : List ℕ} (e : b ≡ encode s) (l : length (s .trees) ≤ treeCount) (h : i < length (s .trees)) (at : ℕ)
+    (ea : at ≡ treesPlace + treeSize * i) where
   pub thread-byte-is : getD b at 0 ≡ getD (s .trees) i noTree .thread
   thread-byte-is =
       let d = tree-on s i at l h ea in
@@ -128,4 +154,5 @@ module _ (s : Machine) (i : ℕ) {b : List ℕ} (e : b ≡ encode s) (l : length
   signal-is z k hk =
       let x = getD (s .trees) i noTree in
       let g = signal-on z k hk in
-      rw (g .1) (signal-back (getD (x .pending) k noSignal) (each-at SizedSignal (x .pending) k noSignal (each-at SizedTree (s .trees) i noTree z h .each) hk) (g .0))
+      rw (g .1) (signal-back (getD (x .pending) k noSignal)
+      (each-at SizedSignal (x .pending) k noSignal (each-at SizedTree (s .trees) i noTree z h .each) hk) (g .0))

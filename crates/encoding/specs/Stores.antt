@@ -26,7 +26,14 @@ withThread s t w = record { words = s .words; threads = set (s .threads) t w; tr
 -- ---- the machines stay within limits
 
 pub sized-word : (s : Machine) (n v : ℕ) → Sized s → Sized (withWord s n v)
-sized-word s n v z = record { words = length-set (s .words) n v ∙ z .words; threads = z .threads; trees = z .trees; eachThread = z .eachThread; eachTree = z .eachTree }
+sized-word s n v z = record {
+  words = length-set (s .words) n v ∙ z .words;
+  threads = z .threads;
+  trees = z .trees;
+  eachThread =
+      z .eachThread;
+  eachTree = z .eachTree;
+}
 
 pub sized-thread : (s : Machine) (t : ℕ) (w : ThreadState) → SizedThread w → Sized s → Sized (withThread s t w)
 sized-thread s t w h z =
@@ -44,32 +51,38 @@ thread-at-sized s t z h = each-at SizedThread (s .threads) t idle (z .eachThread
 -- ---- stores and reads
 
 module _ (s : Machine) where
-  pub word-put : (n v : ℕ) → length (s .words) ≡ blockCount * wordCount → n < blockCount * wordCount → put (encode s) (2 * n) (le16 v) ≡ encode (withWord s n v)
+  pub word-put : (n v : ℕ) → length (s .words) ≡ blockCount * wordCount → n < blockCount * wordCount
+      → put (encode s) (2 * n) (le16 v) ≡ encode (withWord s n v)
   unfolding encode
   word-put n v l h =
       let l′ : length (set (s .words) n v) ≡ wordTotal = length-set (s .words) n v ∙ l in
       rw (pad-full 0 wordTotal (s .words) l, pad-full 0 wordTotal (set (s .words) n v) l′)
       (block-put le16 2 (λ x. refl) 0 [] _ (s .words) (2 * n) n 0 (le16 v) v (omega arith) (omega arith) (omega arith) (put-whole _ _ refl))
 
-  pub word-get : (n : ℕ) → length (s .words) ≡ blockCount * wordCount → n < blockCount * wordCount → num16 (drop (2 * n) (encode s)) ≡ getD (s .words) n 0
+  pub word-get : (n : ℕ) → length (s .words) ≡ blockCount * wordCount → n < blockCount * wordCount
+      → num16 (drop (2 * n) (encode s)) ≡ getD (s .words) n 0
   unfolding encode
   word-get n l h =
-      rw (pad-full 0 wordTotal (s .words) l, block-drop le16 2 (λ x. refl) 0 [] _ (s .words) (2 * n) n (omega arith) (omega arith)) (num16-le16 _ _)
+      rw (pad-full 0 wordTotal (s .words) l, block-drop le16 2 (λ x. refl) 0 [] _ (s .words) (2 * n) n (omega arith) (omega arith))
+      (num16-le16 _ _)
 
   -- a store inside thread t's record that makes it the record of w
-  pub thread-inside : (t at j : ℕ) (a : List ℕ) (w : ThreadState) → length (s .threads) ≡ threadCount → t < threadCount → at ≡ wordsSize + threadSize * t + j
+  pub thread-inside : (t at j : ℕ) (a : List ℕ) (w : ThreadState) → length (s .threads) ≡ threadCount → t < threadCount
+      → at ≡ wordsSize + threadSize * t + j
       → j + length a ≤ threadSize → put (threadBytes (threadAt s t)) j a ≡ threadBytes w → put (encode s) at a ≡ encode (withThread s t w)
   unfolding encode
   thread-inside t at j a w l h e k p =
       let l′ : length (set (s .threads) t w) ≡ threadCount = length-set (s .threads) t w ∙ l in
       let words : List ℕ = blocks le16 (pad 0 wordTotal (s .words)) in
       rw (pad-full idle threadCount (s .threads) l, pad-full idle threadCount (set (s .threads) t w) l′)
-      (block-put threadBytes threadSize length-thread idle words _ (s .threads) at t j a w (omega (arith, length-words s)) (omega arith) k p)
+      (block-put threadBytes threadSize length-thread idle words _ (s .threads) at t j a w (omega (arith, length-words s))
+      (omega arith) k p)
 
   pub thread-put : (t : ℕ) (w : ThreadState) → length (s .threads) ≡ threadCount → t < threadCount
       → put (encode s) (wordsSize + threadSize * t) (threadBytes w) ≡ encode (withThread s t w)
   thread-put t w l h =
-      thread-inside t (threadsPlace + threadSize * t) 0 (threadBytes w) w l h (omega arith) (omega (arith, length-thread w)) (put-whole (threadBytes (threadAt s t)) (threadBytes w) (length-thread (threadAt s t) ∙ sym (length-thread w)))
+      thread-inside t (threadsPlace + threadSize * t) 0 (threadBytes w) w l h (omega arith) (omega (arith, length-thread w))
+      (put-whole (threadBytes (threadAt s t)) (threadBytes w) (length-thread (threadAt s t) ∙ sym (length-thread w)))
 
   pub thread-get : (t : ℕ) → Sized s → t < threadCount → threadFrom (drop (wordsSize + threadSize * t) (encode s)) ≡ threadAt s t
   thread-get t z h =
@@ -87,5 +100,6 @@ module _ (s : Machine) (z : Sized s) {b : List ℕ} (e : b ≡ encode s) where
   pub word-then : (n v : ℕ) {b′ : List ℕ} → n < blockCount * wordCount → b′ ≡ put b (2 * n) (le16 v) → b′ ≡ encode (withWord s n v)
   word-then n v h k = k ∙ rw e (word-put s n v (z .words) h)
 
-  pub thread-then : (t : ℕ) (w : ThreadState) {b′ : List ℕ} → t < threadCount → b′ ≡ put b (wordsSize + threadSize * t) (threadBytes w) → b′ ≡ encode (withThread s t w)
+  pub thread-then : (t : ℕ) (w : ThreadState) {b′ : List ℕ} → t < threadCount → b′ ≡ put b (wordsSize + threadSize * t) (threadBytes w)
+      → b′ ≡ encode (withThread s t w)
   thread-then t w h k = k ∙ rw e (thread-put s t w (z .threads) h)

@@ -20,8 +20,10 @@ use Rattle.fields.specs.Blocks.{blocks-append, length-blocks, length-pad, pad-f
 use Rattle.encoding.specs.Sized.{SizedJob, SizedThread}
 use Rattle.encoding.specs.Tests.{both, both-hold, all-at, all-hold, zeros-part}
 use Rattle.encoding.specs.Runs.{length-chunks, chunks-at, padded-forth, padded-tail, byte-forth, glue}
-use Rattle.encoding.specs.Numbers.{num16-le16, num32-le32, nums-back, AreBytes, bytes-drop, num16-forth, num-forth, num32-forth, nums-forth}
-use Rattle.encoding.specs.Registers.{length-values, registers-back, length-registers, presence-forth, values-forth, presence-lt, absent-zero}
+use Rattle.encoding.specs.Numbers.{num16-le16, num32-le32, nums-back, AreBytes, bytes-drop, num16-forth, num-forth, num32-forth}
+use Rattle.encoding.specs.Numbers.{nums-forth}
+use Rattle.encoding.specs.Registers.{length-values, registers-back, length-registers, presence-forth, values-forth, presence-lt}
+use Rattle.encoding.specs.Registers.{absent-zero}
 
 -- ---- written, and read back
 
@@ -29,17 +31,22 @@ after : Job → List ℕ → List ℕ
 after j q = le32 (presence (j .registers)) ++ blocks le16 (pad 0 registerCount (map valueOr0 (j .registers))) ++ q
 
 -- a running thread's record from its return labels on
-returns-on : (locks : ℕ) (j : Job) (q : List ℕ) → drop 5 (threadBytes (running locks j) ++ q) ≡ blocks le16 (pad 0 returnCount (j .returns)) ++ after j q
+returns-on : (locks : ℕ) (j : Job) (q : List ℕ) → drop 5 (threadBytes (running locks j) ++ q)
+    ≡ blocks le16 (pad 0 returnCount (j .returns)) ++ after j q
 unfolding threadBytes threadRaw after
-returns-on locks j q = append-assoc (blocks le16 (pad 0 returnCount (j .returns))) (le32 (presence (j .registers)) ++ blocks le16 (pad 0 registerCount (map valueOr0 (j .registers)))) q
+returns-on locks j q = append-assoc (blocks le16 (pad 0 returnCount (j .returns)))
+    (le32 (presence (j .registers)) ++ blocks le16 (pad 0 registerCount (map valueOr0 (j .registers)))) q
 
 present-on : (locks : ℕ) (j : Job) (q : List ℕ) → drop 21 (threadBytes (running locks j) ++ q) ≡ after j q
 present-on locks j q =
     let r : List ℕ = blocks le16 (pad 0 returnCount (j .returns)) in
-    let m : length r ≡ 2 * returnCount = length-blocks le16 2 (λ x. refl) (pad 0 returnCount (j .returns)) ∙ rw (length-pad 0 returnCount (j .returns)) in
-    sym (drop-drop (2 * returnCount) returnsPlace (threadBytes (running locks j) ++ q)) ∙ ap (drop (2 * returnCount)) (returns-on locks j q) ∙ drop-at r (after j q) (2 * returnCount) m
+    let m : length r ≡ 2 * returnCount = length-blocks le16 2 (λ x. refl) (pad 0 returnCount (j .returns))
+    ∙ rw (length-pad 0 returnCount (j .returns)) in
+    sym (drop-drop (2 * returnCount) returnsPlace (threadBytes (running locks j) ++ q))
+    ∙ ap (drop (2 * returnCount)) (returns-on locks j q) ∙ drop-at r (after j q) (2 * returnCount) m
 
-values-on : (locks : ℕ) (j : Job) (q : List ℕ) → drop registersPlace (threadBytes (running locks j) ++ q) ≡ blocks le16 (pad 0 registerCount (map valueOr0 (j .registers))) ++ q
+values-on : (locks : ℕ) (j : Job) (q : List ℕ) → drop registersPlace (threadBytes (running locks j) ++ q)
+    ≡ blocks le16 (pad 0 registerCount (map valueOr0 (j .registers))) ++ q
 unfolding after
 values-on locks j q = sym (drop-drop 4 21 (threadBytes (running locks j) ++ q)) ∙ ap (drop 4) (present-on locks j q)
 
@@ -57,9 +64,11 @@ count-back locks j q = refl
 
 present-back : (locks : ℕ) (j : Job) (q : List ℕ) → num32 (drop 21 (threadBytes (running locks j) ++ q)) ≡ presence (j .registers)
 unfolding after
-present-back locks j q = rw present-on (num32-le32 (presence (j .registers)) (blocks le16 (pad 0 registerCount (map valueOr0 (j .registers))) ++ q))
+present-back locks j q = rw present-on
+    (num32-le32 (presence (j .registers)) (blocks le16 (pad 0 registerCount (map valueOr0 (j .registers))) ++ q))
 
-values-back : (locks : ℕ) (j : Job) (q : List ℕ) → SizedJob j → chunks num16 2 registerCount (drop registersPlace (threadBytes (running locks j) ++ q)) ≡ map valueOr0 (j .registers)
+values-back : (locks : ℕ) (j : Job) (q : List ℕ) → SizedJob j
+    → chunks num16 2 registerCount (drop registersPlace (threadBytes (running locks j) ++ q)) ≡ map valueOr0 (j .registers)
 values-back locks j q z =
     let vs : List ℕ = map valueOr0 (j .registers) in
     let n : length vs ≡ registerCount = length-values (j .registers) ∙ z .registers in
@@ -71,9 +80,11 @@ job-back locks j z q =
     let b : List ℕ = threadBytes (running locks j) ++ q in
     let n : getD (drop 4 b) 0 0 ≡ length (j .returns) = getD-drop 4 b 0 0 ∙ count-back locks j q in
     let c : chunks num16 2 (getD (drop 4 b) 0 0) (drop 5 b) ≡ j .returns =
-    rw (n, returns-on, pad-split 0 returnCount (j .returns) (z .returns), blocks-append, append-assoc (blocks le16 (j .returns))) (nums-back (length (j .returns)) (j .returns) _ refl) in
+    rw (n, returns-on, pad-split 0 returnCount (j .returns) (z .returns), blocks-append, append-assoc (blocks le16 (j .returns)))
+    (nums-back (length (j .returns)) (j .returns) _ refl) in
     let f : registersFrom (num32 (drop 21 b)) (chunks num16 2 registerCount (drop registerCount b)) 0 registerCount ≡ j .registers =
-    rw (present-back, values-back locks j q z, ← z .registers) (registers-back (j .registers) (presence (j .registers)) (map valueOr0 (j .registers)) 0 (omega arith) refl) in
+    rw (present-back, values-back locks j q z, ← z .registers)
+    (registers-back (j .registers) (presence (j .registers)) (map valueOr0 (j .registers)) 0 (omega arith) refl) in
     λ i. record { label = label-back locks j q i; returns = c i; registers = f i }
 
 idle-back : (q : List ℕ) → num16 (threadBytes idle ++ q) ≡ idleLabel
@@ -121,22 +132,28 @@ running-read b l e =
 module _ (b : List ℕ) (o : RunningRead b) where
   present-forth : presence (jobFrom b .registers) ≡ num32 (drop 21 b)
   unfolding jobFrom
-  present-forth = presence-forth (num32 (drop 21 b)) (chunks num16 2 registerCount (drop registerCount b)) 0 registerCount (omega (arith, o .present)) ∙ omega arith
+  present-forth = presence-forth (num32 (drop 21 b)) (chunks num16 2 registerCount (drop registerCount b)) 0 registerCount
+      (omega (arith, o .present)) ∙ omega arith
 
   registers-forth : map valueOr0 (jobFrom b .registers) ≡ chunks num16 2 registerCount (drop registerCount b)
   unfolding jobFrom absentZero
   registers-forth =
       let vs : List ℕ = chunks num16 2 registerCount (drop registerCount b) in
       let lv : length vs ≡ registerCount = length-chunks num16 2 registerCount (drop registerCount b) in
-      values-forth (num32 (drop 21 b)) vs 0 registerCount (omega arith) (λ i l h. rw (chunks-at num16 2 registerCount (drop registerCount b) 0 i (omega arith), drop-drop) (o .absent i (omega arith)))
+      values-forth (num32 (drop 21 b)) vs 0 registerCount (omega arith)
+      (λ i l h. rw (chunks-at num16 2 registerCount (drop registerCount b) 0 i (omega arith), drop-drop) (o .absent i (omega arith)))
       ∙ take-all registerCount vs (omega arith)
 
-raw-forth : (b : List ℕ) (label locks count : ℕ) (returns : List ℕ) (present : ℕ) (values : List ℕ) → le16 label ≡ part b 0 2 → le16 locks ≡ part b 2 2
-    → count ∷ [] ≡ part b returnCountPlace 1 → blocks le16 (pad 0 returnCount returns) ≡ part b returnsPlace (2 * returnCount) → le32 present ≡ part b presencePlace 4 → blocks le16 (pad 0 registerCount values) ≡ part b registersPlace (2 * registerCount)
+raw-forth : (b : List ℕ) (label locks count : ℕ) (returns : List ℕ) (present : ℕ) (values : List ℕ) → le16 label ≡ part b 0 2
+    → le16 locks ≡ part b 2 2
+    → count ∷ [] ≡ part b returnCountPlace 1 → blocks le16 (pad 0 returnCount returns) ≡ part b returnsPlace (2 * returnCount)
+    → le32 present ≡ part b presencePlace 4 → blocks le16 (pad 0 registerCount values) ≡ part b registersPlace (2 * registerCount)
     → threadRaw label locks count returns present values ≡ part b 0 threadSize
 unfolding threadRaw
 raw-forth b label locks count returns present values e₁ e₂ e₃ e₄ e₅ e₆ =
-    glue b 0 locksPlace (threadSize - locksPlace) _ _ e₁ (glue b locksPlace 2 (threadSize - returnCountPlace) _ _ e₂ (glue b returnCountPlace 1 (threadSize - returnsPlace) _ _ e₃ (glue b returnsPlace (2 * returnCount) (threadSize - presencePlace) _ _ e₄ (glue b presencePlace 4 (2 * registerCount) _ _ e₅ e₆))))
+    glue b 0 locksPlace (threadSize - locksPlace) _ _ e₁ (glue b locksPlace 2 (threadSize - returnCountPlace) _ _ e₂
+    (glue b returnCountPlace 1 (threadSize - returnsPlace) _ _ e₃
+    (glue b returnsPlace (2 * returnCount) (threadSize - presencePlace) _ _ e₄ (glue b presencePlace 4 (2 * registerCount) _ _ e₅ e₆))))
 
 module _ (b : List ℕ) (h : AreBytes b) (l : threadSize ≤ length b) (o : RunningRead b) where
   returns-forth : blocks le16 (pad 0 returnCount (jobFrom b .returns)) ≡ part b returnsPlace (2 * returnCount)
@@ -144,7 +161,8 @@ module _ (b : List ℕ) (h : AreBytes b) (l : threadSize ≤ length b) (o : Runn
   returns-forth =
       let n = getD b 4 0 in
       rw (getD-drop 4 b 0 0)
-      (padded-forth le16 num16 0 2 8 n (drop 5 b) refl (o .few) (λ j lj. num16-forth (drop 5 b) (2 * j) (bytes-drop b 5 h) (simp length-drop (omega (arith, o .few)))) (o .zeros))
+      (padded-forth le16 num16 0 2 8 n (drop 5 b) refl (o .few)
+      (λ j lj. num16-forth (drop 5 b) (2 * j) (bytes-drop b 5 h) (simp length-drop (omega (arith, o .few)))) (o .zeros))
 
   length-returns : length (jobFrom b .returns) ≡ getD b 4 0
   unfolding jobFrom
@@ -154,16 +172,21 @@ module _ (b : List ℕ) (h : AreBytes b) (l : threadSize ≤ length b) (o : Runn
   unfolding threadBytes
   running-forth =
       let v : pad 0 registerCount (map valueOr0 (jobFrom b .registers)) ≡ chunks num16 2 registerCount (drop registerCount b) =
-      ap (pad 0 registerCount) (registers-forth b o) ∙ pad-full 0 registerCount _ (length-chunks num16 2 registerCount (drop registerCount b)) in
-      raw-forth b _ _ _ _ _ _ (label-forth (num-forth b 0 h (omega arith))) (num-forth b 2 h (omega arith)) (ap (λ n. n ∷ []) length-returns ∙ byte-forth b 4 (omega arith)) returns-forth
-      (ap le32 (present-forth b o) ∙ num32-forth b presencePlace h (omega arith)) (ap (blocks le16) v ∙ nums-forth b registersPlace registerCount (2 * registerCount) h (omega arith) refl)
+      ap (pad 0 registerCount) (registers-forth b o)
+      ∙ pad-full 0 registerCount _ (length-chunks num16 2 registerCount (drop registerCount b)) in
+      raw-forth b _ _ _ _ _ _ (label-forth (num-forth b 0 h (omega arith))) (num-forth b 2 h (omega arith))
+      (ap (λ n. n ∷ []) length-returns ∙ byte-forth b 4 (omega arith)) returns-forth
+      (ap le32 (present-forth b o) ∙ num32-forth b presencePlace h (omega arith)) (ap (blocks le16) v
+      ∙ nums-forth b registersPlace registerCount (2 * registerCount) h (omega arith) refl)
     where
       label-forth : le16 (num16 b) ≡ part b 0 2 → le16 (jobFrom b .label) ≡ part b 0 2
       label-forth e = unfold jobFrom in e
 
-idle-forth : (b : List ℕ) → AreBytes b → threadSize ≤ length b → num16 b ≡ idleLabel → isZeros (part b locksPlace (threadSize - locksPlace)) ≡ true → threadBytes idle ≡ part b 0 threadSize
+idle-forth : (b : List ℕ) → AreBytes b → threadSize ≤ length b → num16 b ≡ idleLabel
+    → isZeros (part b locksPlace (threadSize - locksPlace)) ≡ true → threadBytes idle ≡ part b 0 threadSize
 idle-forth b h l e t =
-    idle-raw ∙ glue b 0 locksPlace (threadSize - locksPlace) (le16 idleLabel) (replicate (threadSize - locksPlace) 0) (ap le16 (sym e) ∙ num-forth b 0 h (omega arith)) (sym (zeros-part b locksPlace (threadSize - locksPlace) (omega arith) t))
+    idle-raw ∙ glue b 0 locksPlace (threadSize - locksPlace) (le16 idleLabel) (replicate (threadSize - locksPlace) 0) (ap le16 (sym e)
+    ∙ num-forth b 0 h (omega arith)) (sym (zeros-part b locksPlace (threadSize - locksPlace) (omega arith) t))
 
 pub thread-forth : (b : List ℕ) → AreBytes b → threadSize ≤ length b → threadTidy b ≡ true → threadBytes (threadFrom b) ≡ take threadSize b
 unfolding threadFrom threadTidy part
@@ -185,7 +208,8 @@ thread-sized b l e = go (eqb (num16 b) idleLabel) refl e
       registers = length-registers (num32 (drop 21 b)) (chunks num16 2 registerCount (drop registerCount b)) 0 registerCount;
     }
 
-    go : (c : Bool) → eqb (num16 b) idleLabel ≡ c → cond c (isZeros (part b locksPlace (threadSize - locksPlace))) (runningTidy b) ≡ true → SizedThread (cond c idle (running (num16 (drop 2 b)) (jobFrom b)))
+    go : (c : Bool) → eqb (num16 b) idleLabel ≡ c → cond c (isZeros (part b locksPlace (threadSize - locksPlace))) (runningTidy b) ≡ true
+        → SizedThread (cond c idle (running (num16 (drop 2 b)) (jobFrom b)))
     go true p t = tt
     go false p t = job p (running-read b l t)
 
@@ -197,14 +221,17 @@ module _ (locks : ℕ) (j : Job) (z : SizedJob j) (q : List ℕ) where
   absent-tidy r h =
       let b : List ℕ = threadBytes (running locks j) ++ q in
       let v : num16 (drop (registerCount + 2 * r) b) ≡ getD (map valueOr0 (j .registers)) r 0 =
-      ap num16 (sym (drop-drop (2 * r) registerCount b)) ∙ sym (chunks-at num16 2 registerCount (drop registerCount b) 0 r h) ∙ ap (λ l. getD l r 0) (values-back locks j q z) in
+      ap num16 (sym (drop-drop (2 * r) registerCount b)) ∙ sym (chunks-at num16 2 registerCount (drop registerCount b) 0 r h)
+      ∙ ap (λ l. getD l r 0) (values-back locks j q z) in
       rw (present-back, v) (absent-zero (j .registers) r (omega (arith, z .registers)))
 
-  returns-tidy : isZeros (part (threadBytes (running locks j) ++ q) (5 + 2 * length (j .returns)) (2 * (returnCount - length (j .returns)))) ≡ true
+  returns-tidy : isZeros (part (threadBytes (running locks j) ++ q) (5 + 2 * length (j .returns))
+      (2 * (returnCount - length (j .returns)))) ≡ true
   returns-tidy =
       let n = length (j .returns) in
       rw (← part-drop (threadBytes (running locks j) ++ q) 5 (2 * n) (2 * (returnCount - n)), returns-on)
-      (padded-tail le16 2 (λ x. refl) 0 returnCount (j .returns) [] (after j q) (2 * n) (2 * (returnCount - n)) refl (z .returns) (omega arith) refl)
+      (padded-tail le16 2 (λ x. refl) 0 returnCount (j .returns) [] (after j q) (2 * n) (2 * (returnCount - n)) refl (z .returns)
+      (omega arith) refl)
 
   running-tidy : runningTidy (threadBytes (running locks j) ++ q) ≡ true
   unfolding runningTidy
@@ -213,10 +240,16 @@ module _ (locks : ℕ) (j : Job) (z : SizedJob j) (q : List ℕ) where
       let n = length (j .returns) in
       let p : presence (j .registers) < 2 ^ registerCount = rw (z .registers) at (presence-lt (j .registers)) in
       rw (count-back, present-back)
-      (both-hold _ _ (both-hold _ _ (both-hold _ _ (le-leb n returnCount (z .returns)) returns-tidy) (lt-ltb (presence (j .registers)) (2 ^ registerCount) p)) (all-hold (absentZero b) 0 registerCount (λ r l h. absent-tidy r (omega arith))))
+      (both-hold _ _ (both-hold _ _ (both-hold _ _ (le-leb n returnCount (z .returns)) returns-tidy)
+      (lt-ltb (presence (j .registers)) (2 ^ registerCount) p))
+      (all-hold (absentZero b) 0 registerCount (λ r l h. absent-tidy r (omega arith))))
 
 idle-zeros : (q : List ℕ) → isZeros (part (threadBytes idle ++ q) locksPlace (threadSize - locksPlace)) ≡ true
-idle-zeros q = rw (idle-raw, part-at (le16 idleLabel) (replicate (threadSize - locksPlace) 0) q locksPlace (threadSize - locksPlace) refl refl) (are-zeros (threadSize - locksPlace))
+idle-zeros q = rw (
+  idle-raw,
+  part-at (le16 idleLabel) (replicate (threadSize - locksPlace) 0) q locksPlace (threadSize - locksPlace) refl
+      refl,
+) (are-zeros (threadSize - locksPlace))
 
 pub thread-tidy : (w : ThreadState) → SizedThread w → (q : List ℕ) → threadTidy (threadBytes w ++ q) ≡ true
 unfolding threadTidy

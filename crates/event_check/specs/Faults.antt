@@ -23,5 +23,6 @@ pub record Counted (s : List ℕ) : Type 0 where
 pub counted : (s : List ℕ) → eventsLengthFault s ≡ 0 → Counted s
 unfolding eventsLengthFault
 counted s e =
-    let k = and-both (eqb (length s) (eventSize * (length s / eventSize))) (leb (length s / eventSize) eventCount) (refusal-none _ 7 0 (omega arith) e) in
+    let k = and-both (eqb (length s) (eventSize * (length s / eventSize))) (leb (length s / eventSize) eventCount)
+    (refusal-none _ 7 0 (omega arith) e) in
     record { whole = eqb-true _ _ (k .0); few = leb-true _ eventCount (k .1) }

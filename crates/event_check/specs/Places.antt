@@ -9,8 +9,8 @@ use lib.Dec.{eqb, leb, ltb}
 use lib.ListN.{getD, drop}
 use lib.Seq.{drop-drop, getD-drop}
 use Rattle.rules.specs.Sizes.{threadCount, registerCount, signalSize, eventThreadPlace, eventSignalPlace, eventSize}
-use Rattle.rules.specs.Bytes.{num16, part, isZeros}
 use Rattle.rules.specs.Codes.{externalCode, arrivalCode, stepCode, cutCode}
+use Rattle.rules.specs.Bytes.{num16, part, isZeros}
 use Rattle.rules.specs.Image.{labels, recordAt, entry}
 use Rattle.rules.specs.Events.{stepping, cutting, kindCode, kindOf, arrivalOk, turnOk, eventOk, eventAtOk}
 use Rattle.rules.specs.WellFormed.{signalTidy}
@@ -18,7 +18,9 @@ use Rattle.fields.specs.Put.{part-drop}
 use Rattle.image.specs.Records.{no-record}
 
 module _ (image s : List ℕ) (at : ℕ) where
-  pub arrival-at : arrivalOk image (drop at s) ≡ (eqb (getD s (at + eventThreadPlace) 0) 0 && eqb (entry (recordAt image (num16 (drop (at + eventSignalPlace) s)))) externalCode && signalTidy (drop (at + eventSignalPlace) s))
+  pub arrival-at : arrivalOk image (drop at s)
+      ≡ (eqb (getD s (at + eventThreadPlace) 0) 0 && eqb (entry (recordAt image (num16 (drop (at + eventSignalPlace) s)))) externalCode
+      && signalTidy (drop (at + eventSignalPlace) s))
   unfolding arrivalOk signalTidy
   arrival-at =
       let a = eqb (getD s (at + eventThreadPlace) 0) 0 in
@@ -32,7 +34,8 @@ module _ (image s : List ℕ) (at : ℕ) where
   pub arrival-past : labels image ≤ num16 (drop (at + eventSignalPlace) s) → arrivalOk image (drop at s) ≡ false
   arrival-past h = arrival-at ∙ rw (no-record image (num16 (drop (at + eventSignalPlace) s)) h, and-false)
 
-pub turn-at : (s : List ℕ) (at : ℕ) → turnOk (drop at s) ≡ (ltb (getD s (at + eventThreadPlace) 0) threadCount && isZeros (part s (at + eventSignalPlace) signalSize))
+pub turn-at : (s : List ℕ) (at : ℕ)
+    → turnOk (drop at s) ≡ (ltb (getD s (at + eventThreadPlace) 0) threadCount && isZeros (part s (at + eventSignalPlace) signalSize))
 unfolding turnOk
 turn-at s at = rw (getD-drop at s 1 0, part-drop)
 

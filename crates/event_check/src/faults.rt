@@ -55,7 +55,8 @@ pub fn events_fault(image: &[u8], events: &[u8], answers: &[u8]) -> u32
 
 // The first of the refusals 1 to 9 of a Run, or 0.
 pub fn run_fault(image: &[u8], table: &[u8], state: &[u8], events: &[u8], answers: &[u8]) -> u32
-    ensures { λ r. ⌜ r ≡ runReturn (now (image .entry)) (now (table .entry)) (now (state .entry)) (now (events .entry)) (now (answers .entry)) ⌝ }
+    ensures { λ r. ⌜ r ≡ runReturn (now (image .entry)) (now (table .entry)) (now (state .entry)) (now (events .entry))
+        (now (answers .entry)) ⌝ }
 {
     let before = machine_fault(image, table, state);
     if before != 0 {

@@ -25,13 +25,17 @@ module _ {A : Type 0} (f : A → List ℕ) where
   blocks-one x = append-nil (f x)
 
   -- the bytes up to the i-th block, that block, and the rest
-  pub blocks-cut : (xs : List A) (i : ℕ) (d : A) → i < length xs → blocks f xs ≡ blocks f (take i xs) ++ f (getD xs i d) ++ blocks f (drop (suc i) xs)
+  pub blocks-cut : (xs : List A) (i : ℕ) (d : A) → i < length xs → blocks f xs ≡ blocks f (take i xs) ++ f (getD xs i d) ++ blocks f
+      (drop (suc i) xs)
   unfolding blocks
-  blocks-cut xs i d h = ap (blocks f) (split-at xs i d h) ∙ blocks-append (take i xs) (getD xs i d ∷ drop (suc i) xs) ∙ sym (append-assoc (blocks f (take i xs)) (f (getD xs i d)) (blocks f (drop (suc i) xs)))
+  blocks-cut xs i d h = ap (blocks f) (split-at xs i d h) ∙ blocks-append (take i xs) (getD xs i d ∷ drop (suc i) xs)
+      ∙ sym (append-assoc (blocks f (take i xs)) (f (getD xs i d)) (blocks f (drop (suc i) xs)))
 
-  pub blocks-set : (xs : List A) (i : ℕ) (x : A) → i < length xs → blocks f (set xs i x) ≡ blocks f (take i xs) ++ f x ++ blocks f (drop (suc i) xs)
+  pub blocks-set : (xs : List A) (i : ℕ) (x : A) → i < length xs → blocks f (set xs i x) ≡ blocks f (take i xs) ++ f x ++ blocks f
+      (drop (suc i) xs)
   unfolding blocks
-  blocks-set xs i x h = ap (blocks f) (set-split xs i x h) ∙ blocks-append (take i xs) (x ∷ drop (suc i) xs) ∙ sym (append-assoc (blocks f (take i xs)) (f x) (blocks f (drop (suc i) xs)))
+  blocks-set xs i x h = ap (blocks f) (set-split xs i x h) ∙ blocks-append (take i xs) (x ∷ drop (suc i) xs)
+      ∙ sym (append-assoc (blocks f (take i xs)) (f x) (blocks f (drop (suc i) xs)))
 
   pub blocks-take : (xs : List A) (k : ℕ) (d : A) → k < length xs → blocks f (take (k + 1) xs) ≡ blocks f (take k xs) ++ f (getD xs k d)
   blocks-take xs k d h = rw (add-one, take-suc xs k d, blocks-append, blocks-one)
@@ -50,8 +54,14 @@ module _ {A : Type 0} (f : A → List ℕ) where
     pub blocks-put : (p q : List ℕ) (xs : List A) (d : A) (at i : ℕ) (x : A) → at ≡ length p + n * i → i < length xs
         → put (p ++ blocks f xs ++ q) at (f x) ≡ p ++ blocks f (set xs i x) ++ q
     blocks-put p q xs d at i x e h =
-        rw (blocks-cut xs i d h, blocks-set xs i x h, regroup p (blocks f (take i xs)) (f (getD xs i d)) (blocks f (drop (suc i) xs)) q, regroup p (blocks f (take i xs)) (f x) (blocks f (drop (suc i) xs)) q)
-        (put-at (p ++ blocks f (take i xs)) (f (getD xs i d)) (blocks f (drop (suc i) xs) ++ q) (f x) at (e ∙ front p xs i h) (same _ ∙ sym (same _)))
+        rw (
+          blocks-cut xs i d h,
+          blocks-set xs i x h,
+          regroup p (blocks f (take i xs)) (f (getD xs i d)) (blocks f (drop (suc i) xs)) q,
+          regroup p (blocks f (take i xs)) (f x) (blocks f (drop (suc i) xs)) q,
+        )
+        (put-at (p ++ blocks f (take i xs)) (f (getD xs i d)) (blocks f (drop (suc i) xs) ++ q) (f x) at (e ∙ front p xs i h)
+        (same _ ∙ sym (same _)))
 
     -- and read
     pub blocks-part : (p q : List ℕ) (xs : List A) (d : A) (at i : ℕ) → at ≡ length p + n * i → i < length xs
@@ -94,16 +104,19 @@ module _ {A : Type 0} (d : A) where
   pad-full (suc n) (x ∷ xs) e = ap (λ l. x ∷ l) (pad-full n xs (omega arith))
 
 -- what `blocks` wrote `chunks` reads
-module _ {A : Type 0} (f : A → List ℕ) (g : List ℕ → A) (n : ℕ) (same : (x : A) → length (f x) ≡ n) (P : A → Type 0) (back : (x : A) → P x → (r : List ℕ) → g (f x ++ r) ≡ x) where
+module _ {A : Type 0} (f : A → List ℕ) (g : List ℕ → A) (n : ℕ) (same : (x : A) → length (f x) ≡ n) (P : A → Type 0) (back : (x : A)
+    → P x → (r : List ℕ) → g (f x ++ r) ≡ x) where
   pub chunks-blocks : (xs : List A) (q : List ℕ) → Each P xs → chunks g n (length xs) (blocks f xs ++ q) ≡ xs
   unfolding chunks blocks
   chunks-blocks [] q h = refl
-  chunks-blocks (x ∷ xs) q h = rw (append-assoc, back x (h .0) (blocks f xs ++ q), drop-at (f x) (blocks f xs ++ q) n (same x)) (ap (λ l. x ∷ l) (chunks-blocks xs q (h .1)))
+  chunks-blocks (x ∷ xs) q h = rw (append-assoc, back x (h .0) (blocks f xs ++ q), drop-at (f x) (blocks f xs ++ q) n (same x))
+      (ap (λ l. x ∷ l) (chunks-blocks xs q (h .1)))
 
 -- the same of a list that is cut p, then blocks, then q, the parts nested to the right
 module _ {A : Type 0} (f : A → List ℕ) (n : ℕ) (same : (x : A) → length (f x) ≡ n) (d : A) where
   -- a store inside the i-th block that makes it the block of y
-  pub block-put : (p q : List ℕ) (xs : List A) (at i j : ℕ) (a : List ℕ) (y : A) → at ≡ length p + n * i + j → i < length xs → j + length a ≤ n
+  pub block-put : (p q : List ℕ) (xs : List A) (at i j : ℕ) (a : List ℕ) (y : A) → at ≡ length p + n * i + j → i < length xs
+      → j + length a ≤ n
       → put (f (getD xs i d)) j a ≡ f y → put (p ++ (blocks f xs ++ q)) at a ≡ p ++ (blocks f (set xs i y) ++ q)
   block-put p q xs at i j a y e h k w =
       let x : List ℕ = f (getD xs i d) in

@@ -49,8 +49,10 @@ module _ {A : Type 0} (f : A → List ℕ) (n : ℕ) (same : (x : A) → length 
   pub blocks-push : (xs : List A) (y : A) (at : ℕ) (a : List ℕ) → length xs < N → at ≡ n * length xs → length a ≤ n → put (f d) 0 a ≡ f y
       → put (blocks f (pad d N xs)) at a ≡ blocks f (pad d N (xs ++ (y ∷ [])))
   blocks-push xs y at a h e k w =
-      let g : getD (pad d N xs) (length xs) d ≡ d = pad-at d N xs (length xs) (le-of-lt h) ∙ List·getD-eq-default xs d (le-refl (length xs)) in
-      let r = block-put f n same d [] [] (pad d N xs) at (length xs) 0 a y (omega arith) (omega (arith, length-pad d N xs)) (omega arith) (rw g w) in
+      let g : getD (pad d N xs) (length xs) d ≡ d = pad-at d N xs (length xs) (le-of-lt h)
+      ∙ List·getD-eq-default xs d (le-refl (length xs)) in
+      let r = block-put f n same d [] [] (pad d N xs) at (length xs) 0 a y (omega arith) (omega (arith, length-pad d N xs)) (omega arith)
+      (rw g w) in
       rw (← pad-push d N xs y h) (simp append-nil at r)
 
   -- the i-th block goes, and the later ones move down
@@ -70,9 +72,11 @@ module _ {A : Type 0} (f : A → List ℕ) (n : ℕ) (same : (x : A) → length 
       let k : length (drop (suc i) xs) ≡ length xs - 1 - i = length-drop (suc i) xs ∙ omega arith in
       let lb : length b ≡ n * (length xs - 1 - i) = length-blocks f n same (drop (suc i) xs) ∙ rw k in
       let lo : length o ≡ n = length-replicate {A = ℕ} n 0 in
-      let w : blocks f (pad d N xs) ≡ a ++ x ++ b ++ y = ap (blocks f) (pad-split d N xs l) ∙ blocks-append f xs (replicate (N - length xs) d) ∙ ap (λ q. q ++ y) (blocks-cut f xs i d h) in
+      let w : blocks f (pad d N xs) ≡ a ++ x ++ b ++ y = ap (blocks f) (pad-split d N xs l)
+      ∙ blocks-append f xs (replicate (N - length xs) d) ∙ ap (λ q. q ++ y) (blocks-cut f xs i d h) in
       let w′ : a ++ x ++ b ++ y ≡ a ++ (x ++ b) ++ y = simp append-assoc in
-      let p : part (blocks f (pad d N xs)) from more ≡ b = rw w (part-at (a ++ x) b y from more (simp length-append (omega arith)) (omega arith)) in
+      let p : part (blocks f (pad d N xs)) from more ≡ b =
+      rw w (part-at (a ++ x) b y from more (simp length-append (omega arith)) (omega arith)) in
       let ly : length ys ≡ length xs - 1 = length-removeAt i xs h in
       let c : N - length ys ≡ suc (N - length xs) = omega arith in
       let r : blocks f (pad d N ys) ≡ (a ++ b) ++ (o ++ y) =

@@ -30,7 +30,8 @@ module _ {A : Type 0} (g : List ℕ → A) (k : ℕ) where
   next-place s b j = drop-drop k (b + k * j) s ∙ rw (mul-add, mul-one, add-assoc)
 
   -- a piece, and the pieces after it
-  pub chunk-step : (s : List ℕ) (b n j : ℕ) → j < n → chunks g k (n - j) (drop (b + k * j) s) ≡ g (drop (b + k * j) s) ∷ chunks g k (n - (j + 1)) (drop (b + k * (j + 1)) s)
+  pub chunk-step : (s : List ℕ) (b n j : ℕ) → j < n → chunks g k (n - j) (drop (b + k * j) s) ≡ g (drop (b + k * j) s) ∷ chunks g k
+      (n - (j + 1)) (drop (b + k * (j + 1)) s)
   unfolding chunks
   chunk-step s b n j h = let e : n - j ≡ suc (n - (j + 1)) = omega arith in rw (e, next-place s b j)
 
@@ -39,7 +40,8 @@ module _ {A : Type 0} (g : List ℕ → A) (k : ℕ) where
   chunk-done s n j e = rw e
 
   -- a test of every piece is a test of the places
-  pub every-chunk : (ok : A → Bool) (s : List ℕ) (b j n : ℕ) → every ok (chunks g k n (drop (b + k * j) s)) ≡ allFrom (λ i. ok (g (drop (b + k * i) s))) j n
+  pub every-chunk : (ok : A → Bool) (s : List ℕ) (b j n : ℕ) → every ok (chunks g k n (drop (b + k * j) s))
+      ≡ allFrom (λ i. ok (g (drop (b + k * i) s))) j n
   unfolding every chunks allFrom
   every-chunk ok s b j zero = refl
   every-chunk ok s b j (suc n) = rw (next-place s b j, every-chunk ok s b (j + 1) n)

@@ -6,7 +6,8 @@ use native.Mathlib.Nat.{add-zero, add-suc, suc-add, zero-add}
 use native.Mathlib.Numerals.{add-one}
 use native.Mathlib.Omega.{arith}
 use lib.ListN.{length, getD, take, drop, set, length-append, length-drop, take-append-drop}
-use lib.Seq.{sets, length-sets, sets-eq, take-at, drop-at, getD-drop, take-suc, length-take-le, take-add, getD-set-other, drop-drop, drop-append-add, getD-append-add}
+use lib.Seq.{sets, length-sets, sets-eq, take-at, drop-at, getD-drop, take-suc, length-take-le, take-add, getD-set-other, drop-drop}
+use lib.Seq.{drop-append-add, getD-append-add}
 use Rattle.rules.specs.Bytes.{part}
 
 -- s with the bytes a from place i on, in the place of as many of its own
@@ -26,11 +27,13 @@ put-more s i [] j b e = rw (e, add-zero)
 put-more s i (x ∷ a) j b e = put-more (set s i x) (suc i) a j b (e ∙ simp (add-suc, suc-add))
 
 -- the same, along two equations: what a run of calls leaves
-pub put-then : (s : List ℕ) (i : ℕ) (a : List ℕ) (j : ℕ) (b : List ℕ) {s₁ s₂ : List ℕ} → s₁ ≡ put s i a → s₂ ≡ put s₁ j b → j ≡ i + length a → s₂ ≡ put s i (a ++ b)
+pub put-then : (s : List ℕ) (i : ℕ) (a : List ℕ) (j : ℕ) (b : List ℕ) {s₁ s₂ : List ℕ} → s₁ ≡ put s i a → s₂ ≡ put s₁ j b
+    → j ≡ i + length a → s₂ ≡ put s i (a ++ b)
 put-then s i a j b e₁ e₂ h = e₂ ∙ rw e₁ (put-more s i a j b h)
 
 -- a single store after a run
-pub set-then : (s : List ℕ) (i : ℕ) (a : List ℕ) (j v : ℕ) {s₁ : List ℕ} → s₁ ≡ put s i a → j ≡ i + length a → set s₁ j v ≡ put s i (a ++ (v ∷ []))
+pub set-then : (s : List ℕ) (i : ℕ) (a : List ℕ) (j v : ℕ) {s₁ : List ℕ} → s₁ ≡ put s i a → j ≡ i + length a
+    → set s₁ j v ≡ put s i (a ++ (v ∷ []))
 set-then s i a j v {s₁} e h = put-then s i a j (v ∷ []) e (unfold put in refl {a = set s₁ j v}) h
 
 -- where s is cut at i and after the bytes that are replaced
@@ -46,7 +49,8 @@ pub put-whole : (m a : List ℕ) → length m ≡ length a → put m 0 a ≡ a
 put-whole m a e = simp append-nil at (put-at [] m [] a 0 refl e)
 
 -- a store within the middle part
-pub put-inside : (p m q : List ℕ) (at j : ℕ) (a : List ℕ) → at ≡ length p + j → j + length a ≤ length m → put (p ++ m ++ q) at a ≡ p ++ put m j a ++ q
+pub put-inside : (p m q : List ℕ) (at j : ℕ) (a : List ℕ) → at ≡ length p + j → j + length a ≤ length m
+    → put (p ++ m ++ q) at a ≡ p ++ put m j a ++ q
 unfolding put
 put-inside p m q at j a e h =
     let x : List ℕ = take j m in
@@ -76,7 +80,8 @@ put-after (x ∷ p) m at j a e =
 pub getD-put-after : (s : List ℕ) (i : ℕ) (a : List ℕ) (j d : ℕ) → i + length a ≤ j → getD (put s i a) j d ≡ getD s j d
 unfolding put
 getD-put-after s i [] j d h = refl
-getD-put-after s i (x ∷ a) j d h = getD-put-after (set s i x) (suc i) a j d (rw suc-add (rw add-suc at h)) ∙ getD-set-other s i j x d (λ e. omega arith)
+getD-put-after s i (x ∷ a) j d h = getD-put-after (set s i x) (suc i) a j d (rw suc-add (rw add-suc at h))
+    ∙ getD-set-other s i j x d (λ e. omega arith)
 
 -- ---- parts
 
@@ -112,5 +117,6 @@ pub gap-step : (s₀ : List ℕ) (at n k : ℕ) {s : List ℕ} → at + n + k < 
     → set s (at + k) (getD s (at + n + k) 0) ≡ put s₀ at (part s₀ (at + n) (k + 1))
 gap-step s₀ at n k {s} h e =
     let l : length (part s₀ (at + n) k) ≡ k = length-part s₀ (at + n) k (omega arith) in
-    let g : getD s (at + n + k) 0 ≡ getD s₀ (at + n + k) 0 = rw e (getD-put-after s₀ at (part s₀ (at + n) k) (at + n + k) 0 (omega arith)) in
+    let g : getD s (at + n + k) 0 ≡ getD s₀ (at + n + k) 0 =
+    rw e (getD-put-after s₀ at (part s₀ (at + n) k) (at + n + k) 0 (omega arith)) in
     set-then s₀ at (part s₀ (at + n) k) (at + k) _ e (omega arith) ∙ rw (g, part-suc s₀ (at + n) k 0 h)

@@ -73,7 +73,8 @@ unfolding firstBad allFrom
 none-bad ok i zero = eq-eqb i (i + 0) (omega arith)
 none-bad ok i (suc n) = go (ok i) (none-bad ok (i + 1) n)
   where
-    go : (t : Bool) → eqb (firstBad ok (i + 1) n) (i + 1 + n) ≡ allFrom ok (i + 1) n → eqb (cond t (firstBad ok (i + 1) n) i) (i + suc n) ≡ (t && allFrom ok (i + 1) n)
+    go : (t : Bool) → eqb (firstBad ok (i + 1) n) (i + 1 + n) ≡ allFrom ok (i + 1) n → eqb (cond t (firstBad ok (i + 1) n) i) (i + suc n)
+        ≡ (t && allFrom ok (i + 1) n)
     go true e = let f : i + suc n ≡ i + 1 + n = omega arith in rw f e
     go false e = ne-eqb i (i + suc n) (λ z. omega arith)
 

@@ -43,7 +43,8 @@ join-none a c b h = go (eqb a 0) (eqb b 0) refl refl
     go false y p q = ne-eqb (a + c * b) 0 (λ e. eqb-false a 0 p (omega arith))
 
 -- x is 0 exactly if the first n bytes are zero, y exactly if the n after them are: the number that they make, exactly if all are
-halves-none : (b : List ℕ) (n c x y : ℕ) → 0 < c → eqb x 0 ≡ isZeros (take n b) → eqb y 0 ≡ isZeros (take n (drop n b)) → eqb (x + c * y) 0 ≡ isZeros (take (n + n) b)
+halves-none : (b : List ℕ) (n c x y : ℕ) → 0 < c → eqb x 0 ≡ isZeros (take n b) → eqb y 0 ≡ isZeros (take n (drop n b))
+    → eqb (x + c * y) 0 ≡ isZeros (take (n + n) b)
 halves-none b n c x y h e f = join-none x c y h ∙ rw (e, f, take-add n n b, zeros-append)
 
 byte-none : (b : List ℕ) → eqb (getD b 0 0) 0 ≡ isZeros (take 1 b)
@@ -80,7 +81,8 @@ module _ (s : List ℕ) (at n : ℕ) where
     pub gathered-byte : k < n → Gathered s at n (bitOr set (getD s (at + k) 0)) (k + 1)
     unfolding part
     gathered-byte h =
-        let e : eqb (getD s (at + k) 0) 0 ≡ isZeros (part s (at + k) 1) = rw (getD-drop (at + k) s 0 0, add-zero) at (byte-none (drop (at + k) s)) in
+        let e : eqb (getD s (at + k) 0) 0 ≡ isZeros (part s (at + k) 1) =
+        rw (getD-drop (at + k) s 0 0, add-zero) at (byte-none (drop (at + k) s)) in
         (omega arith, or-none set (getD s (at + k) 0) ∙ rw (inv .1, e, zeros-cut s at k 1) refl)
 
     pub gathered-all : n ≤ k → eqb set 0 ≡ isZeros (part s at n)
@@ -88,12 +90,15 @@ module _ (s : List ℕ) (at n : ℕ) where
         let e : k ≡ n = omega arith in
         rw e at (inv .1)
 
-pub sixteen-none : (s : List ℕ) (at : ℕ) {v w : ℕ} → v ≡ num64 (drop at s) → w ≡ num64 (drop (at + 8) s) → eqb (bitOr v w) 0 ≡ isZeros (part s at 16)
+pub sixteen-none : (s : List ℕ) (at : ℕ) {v w : ℕ} → v ≡ num64 (drop at s) → w ≡ num64 (drop (at + 8) s)
+    → eqb (bitOr v w) 0 ≡ isZeros (part s at 16)
 sixteen-none s at {v} {w} e f = or-none v w ∙ rw (eight-none s at e, eight-none s (at + 8) f, zeros-cut s at 8 8) refl
 
 -- two runs that meet or share bytes cover one run
-pub zeros-cover : (s : List ℕ) (at a j r : ℕ) → (isZeros (part s (at + a) (j + r)) && isZeros (part s at (a + j))) ≡ isZeros (part s at (a + (j + r)))
-zeros-cover s at a j r = rw (zeros-cut s at a (j + r), zeros-cut s at a j, zeros-cut s (at + a) j r) (go (isZeros (part s at a)) (isZeros (part s (at + a) j)) (isZeros (part s (at + a + j) r)))
+pub zeros-cover : (s : List ℕ) (at a j r : ℕ) → (isZeros (part s (at + a) (j + r)) && isZeros (part s at (a + j)))
+    ≡ isZeros (part s at (a + (j + r)))
+zeros-cover s at a j r = rw (zeros-cut s at a (j + r), zeros-cut s at a j, zeros-cut s (at + a) j r)
+    (go (isZeros (part s at a)) (isZeros (part s (at + a) j)) (isZeros (part s (at + a + j) r)))
   where
     go : (x y z : Bool) → ((y && z) && (x && y)) ≡ (x && (y && z))
     go true true z = and-true z
@@ -103,7 +108,8 @@ zeros-cover s at a j r = rw (zeros-cut s at a (j + r), zeros-cut s at a j, zeros
 abbrev pub lastSixteen : List ℕ → ℕ → ℕ → Bool
 lastSixteen s at n = isZeros (part s (at + n - 16) 16)
 
-pub last-none : (s : List ℕ) (at n : ℕ) {v w : ℕ} → 16 ≤ n → v ≡ num64 (drop (at + n - 16) s) → w ≡ num64 (drop (at + n - 8) s) → eqb (bitOr v w) 0 ≡ lastSixteen s at n
+pub last-none : (s : List ℕ) (at n : ℕ) {v w : ℕ} → 16 ≤ n → v ≡ num64 (drop (at + n - 16) s) → w ≡ num64 (drop (at + n - 8) s)
+    → eqb (bitOr v w) 0 ≡ lastSixteen s at n
 last-none s at n {v} {w} h e f =
     let there : at + n - 16 + 8 ≡ at + n - 8 = omega arith in
     sixteen-none s (at + n - 16) e (rw there f)
@@ -118,12 +124,21 @@ module _ (s : List ℕ) (at half : ℕ) (z : Bool) where
   unfolding isZeros part
   halved-none set e = (omega arith, refl, e ∙ sym (and-true z))
 
-  pub halved-eight : (set k v w : ℕ) → Halved s at half z set k → k + 8 ≤ half → v ≡ num64 (drop (at + k) s) → w ≡ num64 (drop (at + half + k) s) → Halved s at half z (bitOr (bitOr set v) w) (k + 8)
+  pub halved-eight : (set k v w : ℕ) → Halved s at half z set k → k + 8 ≤ half → v ≡ num64 (drop (at + k) s)
+      → w ≡ num64 (drop (at + half + k) s) → Halved s at half z (bitOr (bitOr set v) w) (k + 8)
   halved-eight set k v w inv h e f = (
     h,
     omega (arith, inv .1),
     or-none (bitOr set v) w
-        ∙ rw (or-none set v, inv .2, eight-none s (at + k) e, eight-none s (at + half + k) f, zeros-cut s at k 8, zeros-cut s (at + half) k 8)
+        ∙ rw (
+          or-none set v,
+          inv .2,
+          eight-none s (at + k) e,
+          eight-none s (at + half + k) f,
+          zeros-cut s at k 8,
+          zeros-cut s
+              (at + half) k 8,
+        )
         (go z (isZeros (part s at k)) (isZeros (part s (at + half) k)) (isZeros (part s (at + k) 8)) (isZeros (part s (at + half + k) 8))),
   )
     where
@@ -134,11 +149,13 @@ module _ (s : List ℕ) (at half : ℕ) (z : Bool) where
       go true true false x y = sym (and-false x)
 
 -- both halves are gathered, and fewer than sixteen bytes are left, which the last sixteen have
-pub halved-all : (s : List ℕ) (at n half set k : ℕ) → 16 ≤ n → half ≡ n / 16 * 8 → half ≤ k → Halved s at half (lastSixteen s at n) set k → eqb set 0 ≡ isZeros (part s at n)
+pub halved-all : (s : List ℕ) (at n half set k : ℕ) → 16 ≤ n → half ≡ n / 16 * 8 → half ≤ k → Halved s at half (lastSixteen s at n) set k
+    → eqb set 0 ≡ isZeros (part s at n)
 halved-all s at n half set k l e h inv =
     let j : ℕ = half + half + 16 - n in
     let done : k ≡ half = omega (arith, inv .0) in
-    let both : (isZeros (part s at half) && isZeros (part s (at + half) half)) ≡ isZeros (part s at (half + half)) = sym (zeros-cut s at half half) in
+    let both : (isZeros (part s at half) && isZeros (part s (at + half) half)) ≡ isZeros (part s at (half + half)) =
+    sym (zeros-cut s at half half) in
     let whole : n - 16 + (j + (16 - j)) ≡ n = omega arith in
     let last : j + (16 - j) ≡ 16 = omega arith in
     let begun : n - 16 + j ≡ half + half = omega arith in
@@ -150,7 +167,8 @@ unfolding isZeros
 zeros-are [] e = refl
 zeros-are (x ∷ l) e = go (eqb x 0) refl e (zeros-are l)
   where
-    go : (b : Bool) → eqb x 0 ≡ b → (b && isZeros l) ≡ true → (isZeros l ≡ true → l ≡ replicate (length l) 0) → x ∷ l ≡ 0 ∷ replicate (length l) 0
+    go : (b : Bool) → eqb x 0 ≡ b → (b && isZeros l) ≡ true → (isZeros l ≡ true → l ≡ replicate (length l) 0)
+        → x ∷ l ≡ 0 ∷ replicate (length l) 0
     go true p q r = rw (eqb-true x 0 p) (ap (λ t. 0 ∷ t) (r q))
     go false p q r = absurd (let z : _≡_ {A = ℕ} 0 1 = cc in omega arith)
 

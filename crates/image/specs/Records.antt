@@ -24,7 +24,11 @@ cond-le false q m h = omega arith
 
 pub labels-fit : (s : List ℕ) → recordSize * labels s ≤ length s
 unfolding labels
-labels-fit s = omega (arith, cond-le (eqb (length s) (recordSize * (length s / recordSize)) && leb (length s / recordSize) recordCount) (length s / recordSize) (length s / recordSize) (omega arith))
+labels-fit s = omega (
+  arith,
+  cond-le (eqb (length s) (recordSize * (length s / recordSize)) && leb (length s / recordSize) recordCount)
+      (length s / recordSize) (length s / recordSize) (omega arith),
+)
 
 small : (a b : Bool) (q : ℕ) → (b ≡ true → q ≤ recordCount) → cond (a && b) q 0 ≤ recordCount
 small true true q h = h refl
@@ -33,7 +37,8 @@ small false b q h = omega arith
 
 pub labels-small : (s : List ℕ) → labels s ≤ recordCount
 unfolding labels
-labels-small s = small (eqb (length s) (recordSize * (length s / recordSize))) (leb (length s / recordSize) recordCount) (length s / recordSize) (leb-true (length s / recordSize) recordCount)
+labels-small s = small (eqb (length s) (recordSize * (length s / recordSize))) (leb (length s / recordSize) recordCount)
+    (length s / recordSize) (leb-true (length s / recordSize) recordCount)
 
 pub no-record : (s : List ℕ) (l : ℕ) → labels s ≤ l → recordAt s l ≡ []
 unfolding recordAt

@@ -34,7 +34,8 @@ unfolding firstOf
 then [] ys = refl
 then (x ∷ xs) ys = go (eqb x 0) refl (then xs ys)
   where
-    go : (t : Bool) → eqb x 0 ≡ t → firstOf (xs ++ ys) ≡ cond (eqb (firstOf xs) 0) (firstOf ys) (firstOf xs) → cond t (firstOf (xs ++ ys)) x ≡ cond (eqb (cond t (firstOf xs) x) 0) (firstOf ys) (cond t (firstOf xs) x)
+    go : (t : Bool) → eqb x 0 ≡ t → firstOf (xs ++ ys) ≡ cond (eqb (firstOf xs) 0) (firstOf ys) (firstOf xs)
+        → cond t (firstOf (xs ++ ys)) x ≡ cond (eqb (cond t (firstOf xs) x) 0) (firstOf ys) (cond t (firstOf xs) x)
     go true e r = r
     go false e r = rw e
 

@@ -40,7 +40,8 @@ pub ones-held : (set : ℕ) → set < 65536 → ones set ≡ locksHeld set
 unfolding locksHeld
 ones-held set h = sym (counted set lockCount 0 (rw div-one h) ∙ rw div-one)
 
-found : (set k i : ℕ) → firstFrom (λ l. has l set) i k ≡ cond (ltb (trailingZeros k (set / 2 ^ i)) k) (some (i + trailingZeros k (set / 2 ^ i))) none
+found : (set k i : ℕ) → firstFrom (λ l. has l set) i k ≡ cond (ltb (trailingZeros k (set / 2 ^ i)) k)
+    (some (i + trailingZeros k (set / 2 ^ i))) none
 unfolding firstFrom trailingZeros
 found set zero i = refl
 found set (suc k) i = go (set / 2 ^ i % 2) (omega arith) (trailingZeros k (set / 2 ^ i / 2)) (rw (← half set i) at (found set k (i + 1)))
@@ -63,7 +64,8 @@ module _ (set : ℕ) where
 
 -- a set without a lock is empty
 empty : (set : ℕ) → ones set ≡ 0 → set ≡ 0
-empty = bin-ind (λ set. ones set ≡ 0 → set ≡ 0) (λ e. refl) (λ set rest e. omega (arith, ones-step set, rest (omega (arith, ones-step set))))
+empty = bin-ind (λ set. ones set ≡ 0 → set ≡ 0) (λ e. refl)
+    (λ set rest e. omega (arith, ones-step set, rest (omega (arith, ones-step set))))
 
 pub none-held : (set : ℕ) → set < 65536 → locksHeld set ≡ 0 → set ≡ 0
 none-held set h e = empty set (ones-held set h ∙ e)

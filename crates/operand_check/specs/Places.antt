@@ -59,33 +59,68 @@ mark-rest j h = rw (le-ltb j placesSize h)
 module _ (m : List ℕ) (marks : Marks m) where
   mark-at : (j : ℕ) → j < (2 * placesSize) → getD m j 0 ≡ markOf j
   unfolding Marks
-  mark-at j h = eqb-true (getD m j 0) (markOf j) (all-at (λ j. eqb (getD m j 0) (markOf j)) 0 (2 * placesSize) j marks (omega arith) (omega arith))
+  mark-at j h = eqb-true (getD m j 0) (markOf j) (all-at (λ j. eqb (getD m j 0) (markOf j)) 0 (2 * placesSize) j marks (omega arith)
+      (omega arith))
 
   module _ (r : List ℕ) (bytes : (i : ℕ) → getD r i 0 < 256) (c : ℕ) (most : c ≤ operandCount) where
-    used : (k : ℕ) → k < c → (bitsOk m r c (operandSize * k) && bitsOk m r c (operandSize * k + 1) && bitsOk m r c (operandSize * k + 2)) ≡ ltb (kind r k) 4
+    used : (k : ℕ) → k < c → (bitsOk m r c (operandSize * k) && bitsOk m r c (operandSize * k + 1) && bitsOk m r c (operandSize * k + 2))
+        ≡ ltb (kind r k) 4
     unfolding bitsOk
     used k h =
         let x : ℕ = operandCount - c + k in
         let at₀ : placesSize - operandSize * c + operandSize * k ≡ operandSize * x = omega arith in
         let at₁ : placesSize - operandSize * c + (operandSize * k + 1) ≡ operandSize * x + 1 = omega arith in
         let at₂ : placesSize - operandSize * c + (operandSize * k + 2) ≡ operandSize * x + 2 = omega arith in
-        rw (at₀, at₁, at₂, mark-at (operandSize * x) (omega arith), mark-at (operandSize * x + 1) (omega arith), mark-at (operandSize * x + 2) (omega arith), mark-kind x (omega arith), mark-value x 1 (omega arith) (omega arith) (omega arith), mark-value x 2 (omega arith) (omega arith) (omega arith), no-bits, no-bits, and-true, and-true)
+        rw (
+          at₀,
+          at₁,
+          at₂,
+          mark-at (operandSize * x) (omega arith),
+          mark-at (operandSize * x + 1) (omega arith),
+          mark-at (operandSize * x + 2) (omega arith),
+          mark-kind x (omega arith),
+          mark-value x 1 (omega arith) (omega arith) (omega arith),
+          mark-value x 2 (omega arith) (omega arith) (omega arith),
+          no-bits,
+          no-bits,
+          and-true,
+          and-true,
+        )
         (below-four (kind r k) (bytes (operandsPlace + operandSize * k)))
 
-    unused : (k : ℕ) → k < operandCount → c ≤ k → (bitsOk m r c (operandSize * k) && bitsOk m r c (operandSize * k + 1) && bitsOk m r c (operandSize * k + 2)) ≡ (eqb (kind r k) 0 && eqb (value r k) 0)
+    unused : (k : ℕ) → k < operandCount → c ≤ k
+        → (bitsOk m r c (operandSize * k) && bitsOk m r c (operandSize * k + 1) && bitsOk m r c (operandSize * k + 2))
+        ≡ (eqb (kind r k) 0 && eqb (value r k) 0)
     unfolding bitsOk num16
     unused k l h =
         let low : operandsPlace + (operandSize * k + 1) ≡ operandsPlace + 1 + operandSize * k + 0 = omega arith in
         let high : operandsPlace + (operandSize * k + 2) ≡ operandsPlace + 1 + operandSize * k + 1 = omega arith in
-        let rest : (i : ℕ) → i < placesSize → operandSize * c ≤ i → getD m (placesSize - operandSize * c + i) 0 ≡ 255 = λ i p q. mark-at (placesSize - operandSize * c + i) (omega arith) ∙ mark-rest (placesSize - operandSize * c + i) (omega arith) in
-        rw (rest (operandSize * k) (omega arith) (omega arith), rest (operandSize * k + 1) (omega arith) (omega arith), rest (operandSize * k + 2) (omega arith) (omega arith), all-bits (kind r k) (bytes (operandsPlace + operandSize * k)), all-bits (getD r (operandsPlace + (operandSize * k + 1)) 0) (bytes (operandsPlace + (operandSize * k + 1))), all-bits (getD r (operandsPlace + (operandSize * k + 2)) 0) (bytes (operandsPlace + (operandSize * k + 2))), low, high, getD-drop, getD-drop, join-none _ 256 _ (omega arith), and-assoc)
+        let rest : (i : ℕ) → i < placesSize → operandSize * c ≤ i → getD m (placesSize - operandSize * c + i) 0 ≡ 255 =
+        λ i p q. mark-at (placesSize - operandSize * c + i) (omega arith) ∙ mark-rest (placesSize - operandSize * c + i) (omega arith) in
+        rw (
+          rest (operandSize * k) (omega arith) (omega arith),
+          rest (operandSize * k + 1) (omega arith) (omega arith),
+          rest (operandSize * k + 2) (omega arith) (omega arith),
+          all-bits (kind r k) (bytes (operandsPlace + operandSize * k)),
+          all-bits (getD r (operandsPlace + (operandSize * k + 1)) 0) (bytes (operandsPlace + (operandSize * k + 1))),
+          all-bits (getD r (operandsPlace + (operandSize * k + 2)) 0) (bytes (operandsPlace + (operandSize * k + 2))),
+          low,
+          high,
+          getD-drop,
+          getD-drop,
+          join-none _ 256 _ (omega arith),
+          and-assoc,
+        )
 
-    place : (k : ℕ) → k < operandCount → (bitsOk m r c (operandSize * k) && bitsOk m r c (operandSize * k + 1) && bitsOk m r c (operandSize * k + 2)) ≡ placeOk r c k
+    place : (k : ℕ) → k < operandCount
+        → (bitsOk m r c (operandSize * k) && bitsOk m r c (operandSize * k + 1) && bitsOk m r c (operandSize * k + 2)) ≡ placeOk r c k
     unfolding placeOk
     place k l = by-test k c _ _ _ (used k) (unused k l)
 
     pub places : allFrom (bitsOk m r c) 0 placesSize ≡ allFrom (placeOk r c) 0 operandCount
-    places = all-threes (bitsOk m r c) 0 operandCount ∙ all-same (λ k. bitsOk m r c (operandSize * k) && bitsOk m r c (operandSize * k + 1) && bitsOk m r c (operandSize * k + 2)) (placeOk r c) 0 operandCount (λ k p q. place k (omega arith))
+    places = all-threes (bitsOk m r c) 0 operandCount
+        ∙ all-same (λ k. bitsOk m r c (operandSize * k) && bitsOk m r c (operandSize * k + 1) && bitsOk m r c (operandSize * k + 2))
+        (placeOk r c) 0 operandCount (λ k p q. place k (omega arith))
 
 -- ---- the values
 
@@ -95,7 +130,12 @@ kind-small k v = go (ltb k 4) refl
   where
     go : (t : Bool) → ltb k 4 ≡ t → operandOk k v ≡ (t && operandOk k v)
     go true e = refl
-    go false e = simp (ne-eqb k 1 (λ z. omega (arith, ltb-false k 4 e)), ne-eqb k 2 (λ z. omega (arith, ltb-false k 4 e)), ne-eqb k 3 (λ z. omega (arith, ltb-false k 4 e)))
+    go false e = simp (
+      ne-eqb k 1 (λ z. omega (arith, ltb-false k 4 e)),
+      ne-eqb k 2 (λ z. omega (arith, ltb-false k 4 e)),
+      ne-eqb k 3
+          (λ z. omega (arith, ltb-false k 4 e)),
+    )
 
 -- a value is below a limit exactly if both with some room are
 with-room : (v limit room : ℕ) → ltb (v + room) (limit + room) ≡ ltb v limit
@@ -113,7 +153,8 @@ fits (suc (suc zero)) v h l = with-room v registerCount (65536 - registerCount) 
 fits (suc (suc (suc zero))) v h l = with-room v wordCount (65536 - wordCount)
 fits (suc (suc (suc (suc k)))) v h l = absurd (omega arith)
 
-pub value-fits : (r room : List ℕ) (k kd v : ℕ) → kd ≡ kind r k → v ≡ value r k → room ≡ roomOf → kd < 4 → v < 65536 → ltb (v + getD room kd 0) 65536 ≡ valueOk r k
+pub value-fits : (r room : List ℕ) (k kd v : ℕ) → kd ≡ kind r k → v ≡ value r k → room ≡ roomOf → kd < 4 → v < 65536
+    → ltb (v + getD room kd 0) 65536 ≡ valueOk r k
 unfolding valueOk
 value-fits r room k kd v e f g h l = rw (← e, ← f, g) (fits kd v h l)
 
@@ -136,15 +177,18 @@ module _ (r : List ℕ) (c : ℕ) (most : c ≤ operandCount) where
   unfolding slotOk placeOk valueOk
   slot k e = rw (← e) (go (ltb k c))
     where
-      go : (t : Bool) → cond t (operandOk (kind r k) (value r k)) (eqb (kind r k) 0 && eqb (value r k) 0) ≡ (cond t (ltb (kind r k) 4) (eqb (kind r k) 0 && eqb (value r k) 0) && cond t (operandOk (kind r k) (value r k)) true)
+      go : (t : Bool) → cond t (operandOk (kind r k) (value r k)) (eqb (kind r k) 0 && eqb (value r k) 0)
+          ≡ (cond t (ltb (kind r k) 4) (eqb (kind r k) 0 && eqb (value r k) 0) && cond t (operandOk (kind r k) (value r k)) true)
       go true = kind-small (kind r k) (value r k)
       go false = sym (and-true _)
 
   values-used : allFrom value-used 0 operandCount ≡ allFrom (valueOk r) 0 c
   values-used =
       let e : c + (operandCount - c) ≡ operandCount = omega arith in
-      let first : allFrom value-used 0 c ≡ allFrom (valueOk r) 0 c = all-same value-used (valueOk r) 0 c (λ k p q. rw (lt-ltb k c (omega arith))) in
-      let rest : allFrom value-used (0 + c) (operandCount - c) ≡ true = all-holds value-used (0 + c) (operandCount - c) (λ k p q. rw (le-ltb k c (omega arith))) in
+      let first : allFrom value-used 0 c ≡ allFrom (valueOk r) 0 c =
+      all-same value-used (valueOk r) 0 c (λ k p q. rw (lt-ltb k c (omega arith))) in
+      let rest : allFrom value-used (0 + c) (operandCount - c) ≡ true =
+      all-holds value-used (0 + c) (operandCount - c) (λ k p q. rw (le-ltb k c (omega arith))) in
       rw e at (all-split value-used 0 c (operandCount - c)) ∙ rw (first, rest, and-true)
 
   pub slots : c ≡ operands r → allFrom (slotOk r) 0 operandCount ≡ (allFrom (placeOk r c) 0 operandCount && allFrom (valueOk r) 0 c)
@@ -156,7 +200,8 @@ module _ (r : List ℕ) (c : ℕ) (most : c ≤ operandCount) where
 -- ---- few operands
 
 -- a kind below 4 and a value that is short with its room
-pub value-few : (r room : List ℕ) (k kd v : ℕ) → kd ≡ kind r k → v ≡ value r k → room ≡ roomOf → v < 65536 → (ltb kd 4 && ltb (v + getD room (kd % 4) 0) 65536) ≡ valueOk r k
+pub value-few : (r room : List ℕ) (k kd v : ℕ) → kd ≡ kind r k → v ≡ value r k → room ≡ roomOf → v < 65536
+    → (ltb kd 4 && ltb (v + getD room (kd % 4) 0) 65536) ≡ valueOk r k
 unfolding valueOk
 value-few r room k kd v e f g l = rw (← e, ← f, g) (go (ltb kd 4) refl)
   where
@@ -168,8 +213,10 @@ value-few r room k kd v e f g l = rw (← e, ← f, g) (go (ltb kd 4) refl)
     go false h = sym (kind-small kd v ∙ rw h refl)
 
 -- kinds and values gathered one operand further
-pub few-next : (kinds seen kd x : ℕ) (b : Bool) → (ltb kd 4 && ltb x 65536) ≡ b → (ltb (bitOr kinds kd) 4 && ltb (bitOr seen x) 65536) ≡ ((ltb kinds 4 && ltb seen 65536) && b)
-few-next kinds seen kd x b e = rw (or-below 2 kinds kd, or-below 16 seen x, ← e) (exchange (ltb kinds 4) (ltb kd 4) (ltb seen 65536) (ltb x 65536))
+pub few-next : (kinds seen kd x : ℕ) (b : Bool) → (ltb kd 4 && ltb x 65536) ≡ b → (ltb (bitOr kinds kd) 4 && ltb (bitOr seen x) 65536)
+    ≡ ((ltb kinds 4 && ltb seen 65536) && b)
+few-next kinds seen kd x b e =
+    rw (or-below 2 kinds kd, or-below 16 seen x, ← e) (exchange (ltb kinds 4) (ltb kd 4) (ltb seen 65536) (ltb x 65536))
 
 part-first : (s : List ℕ) (i n : ℕ) → i < length s → part s i (suc n) ≡ getD s i 0 ∷ part s (i + 1) n
 unfolding part
@@ -183,7 +230,8 @@ zeros-from s at k (suc n) h =
     rw (part-first s (at + k) n (omega arith), e) (ap (λ b. eqb (getD s (at + k) 0) 0 && b) (zeros-from s at (k + 1) n (omega arith)))
 
 unused-slot : (r : List ℕ) (k : ℕ) → operands r ≤ k
-    → (eqb (getD r (operandsPlace + operandSize * k) 0) 0 && eqb (getD r (operandsPlace + (operandSize * k + 1)) 0) 0 && eqb (getD r (operandsPlace + (operandSize * k + 2)) 0) 0) ≡ slotOk r k
+    → (eqb (getD r (operandsPlace + operandSize * k) 0) 0 && eqb (getD r (operandsPlace + (operandSize * k + 1)) 0) 0
+    && eqb (getD r (operandsPlace + (operandSize * k + 2)) 0) 0) ≡ slotOk r k
 unfolding slotOk num16
 unused-slot r k h =
     let low : operandsPlace + (operandSize * k + 1) ≡ operandsPlace + 1 + operandSize * k + 0 = omega arith in
@@ -194,9 +242,12 @@ used-slot : (r : List ℕ) (k : ℕ) → k < operands r → valueOk r k ≡ slot
 unfolding slotOk valueOk
 used-slot r k h = rw (lt-ltb k (operands r) h) refl
 
-pub few-slots : (r : List ℕ) (c : ℕ) → length r ≡ recordSize → c ≡ operands r → c ≤ operandCount → (allFrom (valueOk r) 0 c && isZeros (part r (operandsPlace + operandSize * c) (placesSize - operandSize * c))) ≡ allFrom (slotOk r) 0 operandCount
+pub few-slots : (r : List ℕ) (c : ℕ) → length r ≡ recordSize → c ≡ operands r → c ≤ operandCount
+    → (allFrom (valueOk r) 0 c && isZeros (part r (operandsPlace + operandSize * c) (placesSize - operandSize * c)))
+    ≡ allFrom (slotOk r) 0 operandCount
 few-slots r c h e most =
-    let used : allFrom (valueOk r) 0 c ≡ allFrom (slotOk r) 0 c = all-same (valueOk r) (slotOk r) 0 c (λ k p q. used-slot r k (omega arith)) in
+    let used : allFrom (valueOk r) 0 c ≡ allFrom (slotOk r) 0 c =
+    all-same (valueOk r) (slotOk r) 0 c (λ k p q. used-slot r k (omega arith)) in
     let size : placesSize - operandSize * c ≡ operandSize * (operandCount - c) = omega arith in
     let rest : isZeros (part r (operandsPlace + operandSize * c) (placesSize - operandSize * c)) ≡ allFrom (slotOk r) c (operandCount - c) =
     rw size

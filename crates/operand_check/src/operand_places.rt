@@ -57,7 +57,8 @@ pub fn places_ok(r: &[u8], marks: &[u8; MARKS_SIZE], c: usize) -> bool
 // Each of c values is below the limit of its kind. The sums of value and room are gathered without a branch: each is below 65,536
 // exactly if all their bits together are.
 pub fn values_ok(r: &[u8], room: &[u32; 4], c: usize) -> bool
-    requires { ⌜ (length (now r) ≡ recordSize) × (c ≤ operandCount) × (now room ≡ roomOf) × (allFrom (placeOk (now r) c) 0 operandCount ≡ true) ⌝ }
+    requires { ⌜ (length (now r) ≡ recordSize) × (c ≤ operandCount) × (now room ≡ roomOf)
+        × (allFrom (placeOk (now r) c) 0 operandCount ≡ true) ⌝ }
     ensures { λ z. ⌜ z ≡ allFrom (valueOk (now (r .entry))) 0 c ⌝ }
 {
     let mut seen: u32 = 0;

@@ -17,7 +17,9 @@ use Rattle.rules.specs.Answers.{answerBytes}
 use Rattle.rules.specs.Events.{eventsIn, eventsFrom, eventsLengthOk, eventAtOk}
 use Rattle.rules.specs.Steps.{rulesBy, answers, final}
 use Rattle.rules.specs.Walk.{walkFrom, metBytes, metCount}
-use Rattle.rules.specs.Calls.{stateLengthFault, stateFault, eventsLengthFault, eventFault, answersLengthFault, wordsLengthFault, threadFault, metLengthFault, freshReturn, freshState, runReturn, runState, runAnswers, walkFault, walkReturn, walkMet}
+use Rattle.rules.specs.Calls.{stateLengthFault, stateFault, eventsLengthFault, eventFault, answersLengthFault, wordsLengthFault}
+use Rattle.rules.specs.Calls.{threadFault, metLengthFault, freshReturn, freshState, runReturn, runState, runAnswers, walkFault, walkReturn}
+use Rattle.rules.specs.Calls.{walkMet}
 use Rattle.laws.specs.Logic.{and-both}
 use Rattle.laws.specs.Faults.{first-of-zero, refusal-zero, fault-free, checked-of}
 use Rattle.encoding.specs.Sized.{Sized}
@@ -29,7 +31,8 @@ use Rattle.step_ready.specs.Ready.{Ready}
 use Rattle.engine.specs.Runs.{Events}
 
 -- the state of a call that is not refused is one that an event can be carried out on
-machine-lent : (image table state more : List ℕ) → AreBytes state → firstOf (imageFaults image table (stateLengthFault state ∷ stateFault image table state ∷ more)) ≡ 0
+machine-lent : (image table state more : List ℕ) → AreBytes state
+    → firstOf (imageFaults image table (stateLengthFault state ∷ stateFault image table state ∷ more)) ≡ 0
     → Ready image table state × (firstOf more ≡ 0)
 unfolding stateLengthFault stateFault wellFormed
 machine-lent image table state more bytes h =
@@ -63,13 +66,17 @@ module _ (image table words state : List ℕ) where
     unfolding freshReturn stateLengthFault wordsLengthFault
     fresh-lengths =
         let five = first-of-zero _ _ (checked-of image table _ h .1) in
-        let ten = first-of-zero _ _ (five .1) in
-        (eqb-true (length words) wordsSize (refusal-zero _ 10 0 (omega arith) (ten .0)), eqb-true (length state) stateSize (refusal-zero _ 5 0 (omega arith) (five .0)))
+        let ten = first-of-zero _ _ (five .1) in (
+          eqb-true (length words) wordsSize (refusal-zero _ 10 0 (omega arith) (ten .0)),
+          eqb-true (length state) stateSize
+              (refusal-zero _ 5 0 (omega arith) (five .0)),
+        )
 
 -- ---- Run
 
 module _ (image table state events space : List ℕ) where
-  pub run-refused : (runReturn image table state events space ≡ 0 → ⊥) → (runState image table state events space ≡ state) × (runAnswers image table state events space ≡ space)
+  pub run-refused : (runReturn image table state events space ≡ 0 → ⊥) → (runState image table state events space ≡ state)
+      × (runAnswers image table state events space ≡ space)
   unfolding runState runAnswers
   run-refused n = let e = ne-eqb (runReturn image table state events space) 0 n in (rw e refl, rw e refl)
 
@@ -78,7 +85,8 @@ module _ (image table state events space : List ℕ) where
     unfolding runState
     run-state = rw h refl
 
-    pub run-answers : runAnswers image table state events space ≡ blocks answerBytes (answers (rulesBy image table) (machineFrom state) (eventsFrom events))
+    pub run-answers : runAnswers image table state events space
+        ≡ blocks answerBytes (answers (rulesBy image table) (machineFrom state) (eventsFrom events))
     unfolding runAnswers
     run-answers = rw h refl
 
@@ -101,7 +109,8 @@ module _ (image table state events space : List ℕ) where
 -- ---- the walk
 
 module _ (image table state : List ℕ) (t : ℕ) (met : List ℕ) where
-  pub walk-refused : (walkFault image table state t met ≡ 0 → ⊥) → (walkReturn image table state t met ≡ walkFault image table state t met) × (walkMet image table state t met ≡ met)
+  pub walk-refused : (walkFault image table state t met ≡ 0 → ⊥)
+      → (walkReturn image table state t met ≡ walkFault image table state t met) × (walkMet image table state t met ≡ met)
   unfolding walkReturn walkMet
   walk-refused n = let e = ne-eqb (walkFault image table state t met) 0 n in (rw e refl, rw e refl)
 

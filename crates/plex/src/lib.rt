@@ -41,9 +41,12 @@ pub extern "C" fn plex_run(
     events: &[u8],
     answers: &mut [u8],
 ) -> u32
-    ensures { λ r. ⌜ r ≡ runReturn (now (image .entry)) (now (table .entry)) (now (state .entry)) (now (events .entry)) (now (answers .entry)) ⌝ }
-    ensures { λ _. ⌜ now (state .exit) ≡ runState (now (image .entry)) (now (table .entry)) (now (state .entry)) (now (events .entry)) (now (answers .entry)) ⌝ }
-    ensures { λ _. ⌜ now (answers .exit) ≡ runAnswers (now (image .entry)) (now (table .entry)) (now (state .entry)) (now (events .entry)) (now (answers .entry)) ⌝ }
+    ensures { λ r. ⌜ r ≡ runReturn (now (image .entry)) (now (table .entry)) (now (state .entry)) (now (events .entry))
+        (now (answers .entry)) ⌝ }
+    ensures { λ _. ⌜ now (state .exit) ≡ runState (now (image .entry)) (now (table .entry)) (now (state .entry)) (now (events .entry))
+        (now (answers .entry)) ⌝ }
+    ensures { λ _. ⌜ now (answers .exit) ≡ runAnswers (now (image .entry)) (now (table .entry)) (now (state .entry))
+        (now (events .entry)) (now (answers .entry)) ⌝ }
 {
     let fault = run_fault(image, table, state, events, answers);
     if fault != 0 {

@@ -22,15 +22,19 @@ module _ (image table s : List ℕ) (at : ℕ) where
   homed-none e = rw (getD-drop at s pendingCountPlace 0, e)
 
   pub homed-some : (getD s (at + pendingCountPlace) 0 ≡ 0 → ⊥)
-      → homed image table (treeFrom (drop at s)) ≡ eqb (getD s at 0) (rowAt table (blockAt image (num16 (drop (at + signalsPlace) s))) .thread)
+      → homed image table (treeFrom (drop at s))
+      ≡ eqb (getD s at 0) (rowAt table (blockAt image (num16 (drop (at + signalsPlace) s))) .thread)
   unfolding homed treeFrom signalFrom
-  homed-some e = rw (getD-drop at s pendingCountPlace 0, getD-drop at s 0 0, add-zero, drop-drop signalsPlace at s) (go (getD s (at + pendingCountPlace) 0) e)
+  homed-some e = rw (getD-drop at s pendingCountPlace 0, getD-drop at s 0 0, add-zero, drop-drop signalsPlace at s)
+      (go (getD s (at + pendingCountPlace) 0) e)
     where
-      go : (n : ℕ) → (n ≡ 0 → ⊥) → homedAs image table (getD s at 0) (chunks signalFrom signalSize n (drop (at + signalsPlace) s)) ≡ eqb (getD s at 0) (rowAt table (blockAt image (num16 (drop (at + signalsPlace) s))) .thread)
+      go : (n : ℕ) → (n ≡ 0 → ⊥) → homedAs image table (getD s at 0) (chunks signalFrom signalSize n (drop (at + signalsPlace) s))
+          ≡ eqb (getD s at 0) (rowAt table (blockAt image (num16 (drop (at + signalsPlace) s))) .thread)
       go zero h = absurd (h refl)
       go (suc n) h = unfold chunks in refl
 
 -- a label past the image has a block past the table, and that a thread that nobody has
-pub no-thread : (image table : List ℕ) (l : ℕ) → length table ≡ tableSize → labels image ≤ l → rowAt table (blockAt image l) .thread ≡ threadCount
+pub no-thread : (image table : List ℕ) (l : ℕ) → length table ≡ tableSize → labels image ≤ l → rowAt table (blockAt image l) .thread
+    ≡ threadCount
 unfolding rowAt
 no-thread image table l e h = rw (no-record image l h) (List·getD-eq-default table threadCount (omega arith))

@@ -32,7 +32,8 @@ flagsOf s = map flag (chunks threadFrom threadSize threadCount (drop threadsPlac
 module _ (image table s : List ℕ) (n : ℕ) where
   -- the trees from the i-th on, with these flags
   abbrev treesFrom : ℕ → List ℕ → Bool
-  treesFrom i flags = allFrom (treeAtGood image s) i (n - i) && pass image table flags (chunks treeFrom treeSize (n - i) (drop (treesPlace + treeSize * i) s))
+  treesFrom i flags = allFrom (treeAtGood image s) i (n - i)
+      && pass image table flags (chunks treeFrom treeSize (n - i) (drop (treesPlace + treeSize * i) s))
 
   unfoldable pub treesGood : Bool
   treesGood = allFrom (treeAtGood image s) 0 n && pass image table (flagsOf s) (chunks treeFrom treeSize n (drop treesPlace s))
@@ -42,28 +43,41 @@ module _ (image table s : List ℕ) (n : ℕ) where
 
   pub passing-none : Passing (flagsOf s) 0
   unfolding treesGood
-  passing-none = (omega arith, flags-length (chunks threadFrom threadSize threadCount (drop threadsPlace s)) ∙ length-chunks threadFrom threadSize threadCount (drop threadsPlace s), rw sub-zero)
+  passing-none = (
+    omega arith,
+    flags-length (chunks threadFrom threadSize threadCount (drop threadsPlace s))
+        ∙ length-chunks threadFrom threadSize threadCount (drop threadsPlace s),
+    rw sub-zero,
+  )
 
   module _ (flags : List ℕ) (i : ℕ) (inv : Passing flags i) where
     pub passing-all : n ≤ i → isZeros (part flags 0 threadCount) ≡ treesGood
     unfolding pass part
-    passing-all h = rw (take-all threadCount flags (omega (arith, inv .1))) (sym (inv .2 ∙ rw (all-done (treeAtGood image s) n i (omega arith), chunk-done treeFrom treeSize (drop (treesPlace + treeSize * i) s) n i (omega arith))))
+    passing-all h = rw (take-all threadCount flags (omega (arith, inv .1)))
+        (sym (inv .2 ∙ rw (
+          all-done (treeAtGood image s) n i (omega arith),
+          chunk-done treeFrom treeSize
+              (drop (treesPlace + treeSize * i) s) n i (omega arith),
+        )))
 
     module _ (h : i < n) where
       pub passing-bad : treeAtGood image s i ≡ false → false ≡ treesGood
       passing-bad e = sym (inv .2 ∙ rw (all-fail (treeAtGood image s) n i h e))
 
       module _ (t : ℕ) (e : t ≡ treeFrom (drop (treesPlace + treeSize * i) s) .thread) (good : treeAtGood image s i ≡ true) where
-        one : treesGood ≡ (stands image table (getD flags t 0) (treeFrom (drop (treesPlace + treeSize * i) s)) && treesFrom (i + 1) (set flags t 0))
+        one : treesGood ≡ (stands image table (getD flags t 0) (treeFrom (drop (treesPlace + treeSize * i) s))
+            && treesFrom (i + 1) (set flags t 0))
         unfolding pass
         one =
             let x : Tree = treeFrom (drop (treesPlace + treeSize * i) s) in
             let l : List Tree = chunks treeFrom treeSize (n - (i + 1)) (drop (treesPlace + treeSize * (i + 1)) s) in
             inv .2 ∙ rw (all-pass (treeAtGood image s) n i h good, chunk-step treeFrom treeSize s treesPlace n i h, e)
-            (and-swap (allFrom (treeAtGood image s) (i + 1) (n - (i + 1))) (stands image table (getD flags (x .thread) 0) x) (pass image table (set flags (x .thread) 0) l))
+            (and-swap (allFrom (treeAtGood image s) (i + 1) (n - (i + 1))) (stands image table (getD flags (x .thread) 0) x)
+            (pass image table (set flags (x .thread) 0) l))
 
         pub passing-lost : stands image table (getD flags t 0) (treeFrom (drop (treesPlace + treeSize * i) s)) ≡ false → false ≡ treesGood
         passing-lost q = sym (one ∙ rw q)
 
-        pub passing-next : stands image table (getD flags t 0) (treeFrom (drop (treesPlace + treeSize * i) s)) ≡ true → Passing (set flags t 0) (i + 1)
+        pub passing-next : stands image table (getD flags t 0) (treeFrom (drop (treesPlace + treeSize * i) s)) ≡ true
+            → Passing (set flags t 0) (i + 1)
         passing-next q = (omega arith, length-set flags t 0 ∙ inv .1, one ∙ rw q)

@@ -75,13 +75,15 @@ module _ (image table : List ℕ) where
 
   -- the first tree comes off
   module _ (x : Tree) (l : List Tree) where
-    off : (t j : ℕ) (fs : List ℕ) → x .thread ≡ t + j → j < length fs → queuesBy t fs (x ∷ l) ≡ (stands (getD fs j 0) x && queuesBy t (set fs j 0) l)
+    off : (t j : ℕ) (fs : List ℕ) → x .thread ≡ t + j → j < length fs
+        → queuesBy t fs (x ∷ l) ≡ (stands (getD fs j 0) x && queuesBy t (set fs j 0) l)
     unfolding every queuesBy
     off t j [] e h = absurd (omega arith)
     off t zero (f ∷ fs) e h =
         rw (queue-here t x l (e ∙ add-zero t), earlier (t + 1) fs x l (omega arith)) (go (eqb f 0))
       where
-        go : (b : Bool) → (cond b (homed image table x && homes (queue t l)) (homes (queue t l)) && queuesBy (t + 1) fs l) ≡ ((not b || homed image table x) && (homes (queue t l) && queuesBy (t + 1) fs l))
+        go : (b : Bool) → (cond b (homed image table x && homes (queue t l)) (homes (queue t l)) && queuesBy (t + 1) fs l)
+            ≡ ((not b || homed image table x) && (homes (queue t l) && queuesBy (t + 1) fs l))
         go true = and-assoc (homed image table x) (homes (queue t l)) (queuesBy (t + 1) fs l)
         go false = refl
     off t (suc j) (f ∷ fs) e h =
@@ -89,10 +91,12 @@ module _ (image table : List ℕ) where
         (and-swap (queueBy f (queue t l)) (stands (getD fs j 0) x) (queuesBy (t + 1) (set fs j 0) l))
 
   -- where every tree is of one of the threads, the pass tests the queues
-  by-pass : (fs : List ℕ) (l : List Tree) → length fs ≡ threadCount → (every (treeOk image table) l && queuesBy 0 fs l) ≡ (every (treeOk image table) l && pass fs l)
+  by-pass : (fs : List ℕ) (l : List Tree) → length fs ≡ threadCount → (every (treeOk image table) l && queuesBy 0 fs l)
+      ≡ (every (treeOk image table) l && pass fs l)
   unfolding every treeOk pass
   by-pass fs [] e = no-trees 0 fs
-  by-pass fs (x ∷ l) e = go (ltb (x .thread) threadCount) (every (pendingOk image table) (x .pending)) refl (by-pass (set fs (x .thread) 0) l (length-set fs (x .thread) 0 ∙ e))
+  by-pass fs (x ∷ l) e = go (ltb (x .thread) threadCount) (every (pendingOk image table) (x .pending)) refl
+      (by-pass (set fs (x .thread) 0) l (length-set fs (x .thread) 0 ∙ e))
     where
       f : ℕ
       f = getD fs (x .thread) 0
@@ -100,13 +104,16 @@ module _ (image table : List ℕ) where
       left : List ℕ
       left = set fs (x .thread) 0
 
-      go : (b p : Bool) → ltb (x .thread) threadCount ≡ b → (every (treeOk image table) l && queuesBy 0 left l) ≡ (every (treeOk image table) l && pass left l)
-          → (b && p && every (treeOk image table) l && queuesBy 0 fs (x ∷ l)) ≡ (b && p && every (treeOk image table) l && (stands f x && pass left l))
+      go : (b p : Bool) → ltb (x .thread) threadCount ≡ b → (every (treeOk image table) l && queuesBy 0 left l)
+          ≡ (every (treeOk image table) l && pass left l)
+          → (b && p && every (treeOk image table) l && queuesBy 0 fs (x ∷ l))
+          ≡ (b && p && every (treeOk image table) l && (stands f x && pass left l))
       go false p h rec = refl
       go true false h rec = refl
       go true true h rec =
           rw (off x l 0 (x .thread) fs (sym (zero-add (x .thread))) (omega (arith, ltb-true (x .thread) threadCount h)))
-          (and-swap (every (treeOk image table) l) (stands f x) (queuesBy 0 left l) ∙ rw rec (and-swap (stands f x) (every (treeOk image table) l) (pass left l)))
+          (and-swap (every (treeOk image table) l) (stands f x) (queuesBy 0 left l)
+          ∙ rw rec (and-swap (stands f x) (every (treeOk image table) l) (pass left l)))
 
   pub queues-pass : (ws : List ThreadState) (l : List Tree) → length ws ≡ threadCount
       → (every (treeOk image table) l && queuesOk image table 0 ws l) ≡ (every (treeOk image table) l && pass (map flag ws) l)

@@ -26,12 +26,14 @@ module _ (image table s : List ℕ) where
   trees n = chunks treeFrom treeSize n (drop treesPlace s)
 
   -- the threads, each where it stands
-  threads-at : (t k : ℕ) → threadsOk image table t (chunks threadFrom threadSize k (drop (threadsPlace + threadSize * t) s)) ≡ allFrom (λ i. threadOk image table i (threadFrom (drop (threadsPlace + threadSize * i) s))) t k
+  threads-at : (t k : ℕ) → threadsOk image table t (chunks threadFrom threadSize k (drop (threadsPlace + threadSize * t) s))
+      ≡ allFrom (λ i. threadOk image table i (threadFrom (drop (threadsPlace + threadSize * i) s))) t k
   unfolding threadsOk chunks allFrom
   threads-at t zero = refl
   threads-at t (suc k) = rw (next-place threadFrom threadSize s threadsPlace t, threads-at (t + 1) k)
 
-  all-threads : (allFrom (threadAtTidy s) 0 threadCount && threadsOk image table 0 threads) ≡ allFrom (threadAtGood image table s) 0 threadCount
+  all-threads : (allFrom (threadAtTidy s) 0 threadCount && threadsOk image table 0 threads)
+      ≡ allFrom (threadAtGood image table s) 0 threadCount
   unfolding threadAtTidy
   all-threads =
       rw (threads-at 0 threadCount)
@@ -58,7 +60,8 @@ module _ (image table s : List ℕ) where
     state-many h = rw (← e, lt-leb n treeCount h, and-false)
 
     pub state-few : n ≤ treeCount
-        → wellFormed image table s ≡ (allFrom (threadAtGood image table s) 0 threadCount && apart threads && isZeros (part s (treesPlace + treeSize * n) (treeSize * (treeCount - n))) && treesGood image table s n)
+        → wellFormed image table s ≡ (allFrom (threadAtGood image table s) 0 threadCount && apart threads
+        && isZeros (part s (treesPlace + treeSize * n) (treeSize * (treeCount - n))) && treesGood image table s n)
     unfolding wellFormed stateTidy machineOk machineFrom treesGood
     state-few h =
         let a = allFrom (threadAtTidy s) 0 threadCount in
@@ -69,5 +72,6 @@ module _ (image table s : List ℕ) where
         let q = queuesOk image table 0 threads (trees n) in
         let p = pass image table (flagsOf s) (trees n) in
         let f : (c && (d && q)) ≡ (allFrom (treeAtGood image s) 0 n && p) =
-        ap (λ x. c && x) (queues-pass image table threads (trees n) (length-chunks threadFrom threadSize threadCount (drop threadsPlace s))) ∙ sym (and-assoc c d p) ∙ ap (λ x. x && p) (all-trees n) in
+        ap (λ x. c && x) (queues-pass image table threads (trees n)
+        (length-chunks threadFrom threadSize threadCount (drop threadsPlace s))) ∙ sym (and-assoc c d p) ∙ ap (λ x. x && p) (all-trees n) in
         rw (← e, le-leb n treeCount h) (regroup a c u b (apart threads) d q ∙ rw (f, all-threads))

@@ -39,11 +39,14 @@ module _ (image table : List ℕ) where
   unfolding threadTidy threadOk threadFrom threadGood placesOk jobFrom every
   good-thread t b = go (eqb (num16 b) idleLabel)
     where
-      go : (i : Bool) → (cond i (isZeros (part b locksPlace (threadSize - locksPlace))) (runningTidy b) && threadOk image table t (cond i idle (running (num16 (drop locksPlace b)) (jobFrom b)))) ≡ cond i (isZeros (part b locksPlace (threadSize - locksPlace))) (runningTidy b && placesOk t b)
+      go : (i : Bool) → (cond i (isZeros (part b locksPlace (threadSize - locksPlace))) (runningTidy b)
+          && threadOk image table t (cond i idle (running (num16 (drop locksPlace b)) (jobFrom b))))
+          ≡ cond i (isZeros (part b locksPlace (threadSize - locksPlace))) (runningTidy b && placesOk t b)
       go true = and-true (isZeros (part b locksPlace (threadSize - locksPlace)))
       go false =
           rw (getD-drop returnCountPlace b 0 0)
-          (ap (λ x. runningTidy b && (placeOk image table t (num16 (drop locksPlace b)) (num16 b) && x)) (every-chunk num16 2 (placeOk image table t (num16 (drop locksPlace b))) b returnsPlace 0 (getD b returnCountPlace 0)))
+          (ap (λ x. runningTidy b && (placeOk image table t (num16 (drop locksPlace b)) (num16 b) && x))
+          (every-chunk num16 2 (placeOk image table t (num16 (drop locksPlace b))) b returnsPlace 0 (getD b returnCountPlace 0)))
 
   module _ (t locks l : ℕ) where
     pub place-past : labels image ≤ l → placeOk image table t locks l ≡ false
@@ -63,14 +66,17 @@ module _ (image table : List ℕ) where
 
   -- a record where it stands
   module _ (t : ℕ) (s : List ℕ) (at : ℕ) where
-    pub return-at : (k : ℕ) → returnOk t (drop at s) k ≡ placeOk image table t (num16 (drop (at + locksPlace) s)) (num16 (drop (at + returnsPlace + 2 * k) s))
+    pub return-at : (k : ℕ) → returnOk t (drop at s) k ≡ placeOk image table t (num16 (drop (at + locksPlace) s))
+        (num16 (drop (at + returnsPlace + 2 * k) s))
     return-at k = rw (drop-drop locksPlace at s, drop-drop (returnsPlace + 2 * k) at s, ← add-assoc at returnsPlace (2 * k))
 
-    pub places-at : placesOk t (drop at s) ≡ (placeOk image table t (num16 (drop (at + locksPlace) s)) (num16 (drop at s)) && allFrom (returnOk t (drop at s)) 0 (getD s (at + returnCountPlace) 0))
+    pub places-at : placesOk t (drop at s) ≡ (placeOk image table t (num16 (drop (at + locksPlace) s)) (num16 (drop at s))
+        && allFrom (returnOk t (drop at s)) 0 (getD s (at + returnCountPlace) 0))
     unfolding placesOk
     places-at = rw (drop-drop locksPlace at s, getD-drop at s returnCountPlace 0)
 
-    pub thread-idle : num16 (drop at s) ≡ idleLabel → threadGood t (drop at s) ≡ isZeros (part s (at + locksPlace) (threadSize - locksPlace))
+    pub thread-idle : num16 (drop at s) ≡ idleLabel
+        → threadGood t (drop at s) ≡ isZeros (part s (at + locksPlace) (threadSize - locksPlace))
     unfolding threadGood
     thread-idle e = rw (eq-eqb _ _ e) (rw part-drop)
 

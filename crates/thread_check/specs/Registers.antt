@@ -14,7 +14,8 @@ use Rattle.rules.specs.WellFormed.{absentZero, runningTidy}
 use Rattle.fields.specs.Put.{part-drop}
 
 module _ (s : List ℕ) (at : ℕ) where
-  pub absent-at : (r : ℕ) → absentZero (drop at s) r ≡ (has r (num32 (drop (at + presencePlace) s)) || eqb (num16 (drop (at + registersPlace + 2 * r) s)) 0)
+  pub absent-at : (r : ℕ) → absentZero (drop at s) r
+      ≡ (has r (num32 (drop (at + presencePlace) s)) || eqb (num16 (drop (at + registersPlace + 2 * r) s)) 0)
   unfolding absentZero
   absent-at r = rw (drop-drop presencePlace at s, drop-drop (registersPlace + 2 * r) at s, ← add-assoc at registersPlace (2 * r))
 
@@ -23,6 +24,14 @@ module _ (s : List ℕ) (at : ℕ) where
     unfolding runningTidy
     running-many h = rw (getD-drop, ← e, lt-leb n returnCount h)
 
-    pub running-few : n ≤ returnCount → runningTidy (drop at s) ≡ (isZeros (part s (at + returnsPlace + 2 * n) (2 * (returnCount - n))) && ltb (num32 (drop (at + presencePlace) s)) (2 ^ registerCount) && allFrom (absentZero (drop at s)) 0 registerCount)
+    pub running-few : n ≤ returnCount → runningTidy (drop at s) ≡ (isZeros (part s (at + returnsPlace + 2 * n) (2 * (returnCount - n)))
+        && ltb (num32 (drop (at + presencePlace) s)) (2 ^ registerCount) && allFrom (absentZero (drop at s)) 0 registerCount)
     unfolding runningTidy
-    running-few h = rw (getD-drop, ← e, le-leb n returnCount h, part-drop, ← add-assoc at returnsPlace (2 * n), drop-drop presencePlace at s)
+    running-few h = rw (
+      getD-drop,
+      ← e,
+      le-leb n returnCount h,
+      part-drop,
+      ← add-assoc at returnsPlace (2 * n),
+      drop-drop presencePlace at s,
+    )

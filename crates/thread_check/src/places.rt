@@ -54,7 +54,8 @@ pub fn place_ok(image: &[u8], n: usize, table: &[u8], t: Thread, locks: u16, l: 
 
 // The label and the return labels of a thread record.
 pub fn places_ok(image: &[u8], n: usize, table: &[u8], t: Thread, s: &[u8], at: usize) -> bool
-    requires { ⌜ Passed (now image) (now table) × (n ≡ labels (now image)) × (at + threadSize ≤ length (now s)) × (getD (now s) (at + returnCountPlace) 0 ≤ returnCount) ⌝ }
+    requires { ⌜ Passed (now image) (now table) × (n ≡ labels (now image)) × (at + threadSize ≤ length (now s))
+        × (getD (now s) (at + returnCountPlace) 0 ≤ returnCount) ⌝ }
     ensures { λ r. ⌜ r ≡ placesOk (now (image .entry)) (now (table .entry)) (t .0) (drop at (now (s .entry))) ⌝ }
 {
     let locks = get16(s, at + LOCKS_PLACE);

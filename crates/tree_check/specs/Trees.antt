@@ -32,7 +32,9 @@ signalAtGood image b j = signalGood image (drop (signalsPlace + signalSize * j) 
 unfoldable pub treeGood : List ℕ → List ℕ → Bool
 treeGood image b =
     leb (getD b pendingCountPlace 0) pendingCount
-    && (ltb (getD b 0 0) threadCount && isZeros (part b (signalsPlace + signalSize * getD b pendingCountPlace 0) (signalSize * (pendingCount - getD b pendingCountPlace 0))) && allFrom (signalAtGood image b) 0 (getD b pendingCountPlace 0))
+    && (ltb (getD b 0 0) threadCount
+    && isZeros (part b (signalsPlace + signalSize * getD b pendingCountPlace 0)
+    (signalSize * (pendingCount - getD b pendingCountPlace 0))) && allFrom (signalAtGood image b) 0 (getD b pendingCountPlace 0))
 
 -- the bytes are tidy, and the tree that they say is well formed
 pub good-tree : (image table b : List ℕ) → (treeTidy b && treeOk image table (treeFrom b)) ≡ treeGood image b
@@ -41,7 +43,9 @@ good-tree image table b =
     let n = getD b pendingCountPlace 0 in
     let o = ltb (getD b 0 0) threadCount in
     let z = isZeros (part b (signalsPlace + signalSize * n) (signalSize * (pendingCount - n))) in
-    let e : every (pendingOk image table) (treeFrom b .pending) ≡ allFrom (λ j. pendingAt image (num16 (drop (signalsPlace + signalSize * j) b))) 0 n = every-chunk signalFrom signalSize (pendingOk image table) b signalsPlace 0 n in
+    let e : every (pendingOk image table) (treeFrom b .pending)
+    ≡ allFrom (λ j. pendingAt image (num16 (drop (signalsPlace + signalSize * j) b))) 0 n =
+    every-chunk signalFrom signalSize (pendingOk image table) b signalsPlace 0 n in
     let f : allFrom (signalAtGood image b) 0 n ≡ (allFrom (signalAtTidy b) 0 n && every (pendingOk image table) (treeFrom b .pending)) =
     all-both (signalAtTidy b) (λ j. pendingAt image (num16 (drop (signalsPlace + signalSize * j) b))) 0 n ∙ rw (← e) in
     rw f (go (leb n pendingCount) (allFrom (signalAtTidy b) 0 n) z o (every (pendingOk image table) (treeFrom b .pending)))
@@ -68,9 +72,21 @@ module _ (image s : List ℕ) (at : ℕ) where
     unfolding treeGood
     tree-many h = rw (getD-drop at s pendingCountPlace 0, ← e, lt-leb n pendingCount h)
 
-    pub tree-few : n ≤ pendingCount → treeGood image (drop at s) ≡ (ltb (getD s at 0) threadCount && isZeros (part s (at + signalsPlace + signalSize * n) (signalSize * (pendingCount - n))) && allFrom (signalAtGood image (drop at s)) 0 n)
+    pub tree-few : n ≤ pendingCount
+        → treeGood image (drop at s) ≡ (ltb (getD s at 0) threadCount
+        && isZeros (part s (at + signalsPlace + signalSize * n) (signalSize * (pendingCount - n)))
+        && allFrom (signalAtGood image (drop at s)) 0 n)
     unfolding treeGood
-    tree-few h = rw (getD-drop at s pendingCountPlace 0, ← e, le-leb n pendingCount h, part-drop, ← add-assoc at signalsPlace (signalSize * n), getD-drop at s 0 0, add-zero)
+    tree-few h = rw (
+      getD-drop at s pendingCountPlace 0,
+      ← e,
+      le-leb n pendingCount h,
+      part-drop,
+      ← add-assoc at signalsPlace
+          (signalSize * n),
+      getD-drop at s 0 0,
+      add-zero,
+    )
 
   pub signal-at : (j : ℕ) → signalAtGood image (drop at s) j ≡ signalGood image (drop (at + signalsPlace + signalSize * j) s)
   signal-at j = rw (drop-drop (signalsPlace + signalSize * j) at s, ← add-assoc at signalsPlace (signalSize * j))

@@ -43,7 +43,8 @@ arrived t g s = withTrees s (s .trees ++ record { thread = t; pending = g ∷ []
 
 module _ (s : Machine) (z : Sized s) where
   pub sized-append : (x : Tree) → SizedTree x → length (s .trees) < treeCount → Sized (withTrees s (s .trees ++ x ∷ []))
-  sized-append x h l = sized-trees s (s .trees ++ x ∷ []) (simp length-append (omega arith)) (each-append SizedTree (s .trees) (x ∷ []) (z .eachTree) (h, tt)) z
+  sized-append x h l = sized-trees s (s .trees ++ x ∷ []) (simp length-append (omega arith))
+      (each-append SizedTree (s .trees) (x ∷ []) (z .eachTree) (h, tt)) z
 
   module _ (i : ℕ) (h : i < length (s .trees)) where
     pub sized-at : SizedTree (treeAt s i)
@@ -54,7 +55,8 @@ module _ (s : Machine) (z : Sized s) where
 
     pub sized-remove : Sized (withTrees s (removeAt i (s .trees)))
     unfolding removeAt
-    sized-remove = sized-trees s (removeAt i (s .trees)) (rw (length-removeAt i (s .trees) h) (omega (arith, z .trees))) (go (s .trees) i (z .eachTree)) z
+    sized-remove = sized-trees s (removeAt i (s .trees)) (rw (length-removeAt i (s .trees) h) (omega (arith, z .trees)))
+        (go (s .trees) i (z .eachTree)) z
       where
         go : (l : List Tree) (i : ℕ) → Each SizedTree l → Each SizedTree (take i l ++ drop (suc i) l)
         go [] zero e = tt
@@ -63,7 +65,11 @@ module _ (s : Machine) (z : Sized s) where
         go (x ∷ l) (suc i) e = (e .0, go l i (e .1))
 
 pub sized-pushed : (x : Tree) (g : Signal) → SizedTree x → SizedSignal g → length (x .pending) < pendingCount → SizedTree (pushed x g)
-sized-pushed x g h k l = record { count = simp length-append (omega arith); each = each-append SizedSignal (x .pending) (g ∷ []) (h .each) (k, tt) }
+sized-pushed x g h k l = record {
+  count = simp length-append (omega arith);
+  each =
+      each-append SizedSignal (x .pending) (g ∷ []) (h .each) (k, tt);
+}
 
 pub sized-rest : (x : Tree) → SizedTree x → SizedTree (rest x)
 sized-rest x h = record { count = rw length-drop (omega (arith, h .count)); each = each-tail SizedSignal (x .pending) (h .each) }
@@ -88,7 +94,8 @@ module _ (s : Machine) (i u : ℕ) (e : i ≡ firstTree u (s .trees)) (h : i < l
   pub first-is : first u (s .trees) ≡ some (pendingAt s i)
   first-is = rw e (first-some u (s .trees) (rw e at h))
 
-  pub set-first : (p : List Signal) → withTrees s (set (s .trees) i (record { thread = treeAt s i .thread; pending = p })) ≡ withTrees s (put u (some p) (s .trees))
+  pub set-first : (p : List Signal) → withTrees s (set (s .trees) i (record { thread = treeAt s i .thread; pending = p }))
+      ≡ withTrees s (put u (some p) (s .trees))
   set-first p =
       let k : firstTree u (s .trees) < length (s .trees) = rw e at h in
       let f : treeAt s i .thread ≡ u = rw e (first-thread u (s .trees) k) in
@@ -109,7 +116,8 @@ module _ (s : Machine) (i u : ℕ) (e : i ≡ firstTree u (s .trees)) (h : i < l
   pub ended-empty : (t : ℕ) → length (pendingAt s i) ≡ 0 → withTrees s (removeAt i (s .trees)) ≡ ended u t i s
   ended-empty t l = rw (none-requeued t (pendingAt s i) l, append-nil, remove-first)
 
-  pub ended-pending : (t : ℕ) → 0 < length (pendingAt s i) → withTrees s (removeAt i (s .trees) ++ moved (treeAt s i) t ∷ []) ≡ ended u t i s
+  pub ended-pending : (t : ℕ) → 0 < length (pendingAt s i) → withTrees s (removeAt i (s .trees) ++ moved (treeAt s i) t ∷ [])
+      ≡ ended u t i s
   ended-pending t l = rw (some-requeued t (pendingAt s i) l, remove-first)
 
 -- ---- the last tree

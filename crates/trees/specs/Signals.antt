@@ -39,19 +39,30 @@ signalRead b = record { label = label (num16 b); count = getD b 2 0; values = ch
 value-back : (g : law.Signal) (q : List ℕ) → signalRead (signalBytes g ++ q) ≡ signalFor g
 unfolding signalRead signalBytes
 value-back g q =
-    let v : chunks num16 2 registerCount (blocks le16 (pad 0 registerCount (g .values)) ++ q) ≡ pad 0 registerCount (g .values) = nums-back registerCount (pad 0 registerCount (g .values)) q (length-pad 0 registerCount (g .values)) in
-    let a : num16 (le16 (g .label) ++ (length (g .values) ∷ (blocks le16 (pad 0 registerCount (g .values)) ++ q))) ≡ g .label = num16-le16 _ _ in
+    let v : chunks num16 2 registerCount (blocks le16 (pad 0 registerCount (g .values)) ++ q) ≡ pad 0 registerCount (g .values) =
+    nums-back registerCount (pad 0 registerCount (g .values)) q (length-pad 0 registerCount (g .values)) in
+    let a : num16 (le16 (g .label) ++ (length (g .values) ∷ (blocks le16 (pad 0 registerCount (g .values)) ++ q))) ≡ g .label =
+    num16-le16 _ _ in
     λ i. record { label = label (a i); count = length (g .values); values = v i }
 
 counted : (g : law.Signal) → SizedSignal g → take (length (g .values)) (pad 0 registerCount (g .values)) ≡ g .values
 counted g z = rw (pad-split 0 registerCount (g .values) z) (take-at (g .values) _ (length (g .values)) refl)
 
 -- what is read means the signal that was written, and is tidy
-pub read-back : (g : law.Signal) → SizedSignal g → (q : List ℕ) {r : Signal} → r ≡ signalRead (signalBytes g ++ q) → (signalOf r ≡ g) × TidySignal r
-read-back g z q e = rw (e, value-back g q) (λ i. record { label = g .label; values = counted g z i }, record { few = z; zeros = rw (counted g z) })
+pub read-back : (g : law.Signal) → SizedSignal g → (q : List ℕ) {r : Signal} → r ≡ signalRead (signalBytes g ++ q)
+    → (signalOf r ≡ g) × TidySignal r
+read-back g z q e = rw (e, value-back g q) (
+  λ i. record { label = g .label; values = counted g z i },
+  record {
+    few = z;
+    zeros =
+        rw (counted g z);
+  },
+)
 
 -- the same of bytes that pass the test
-pub read-tidy : (b : List ℕ) → AreBytes b → signalSize ≤ length b → signalTidy b ≡ true → {r : Signal} → r ≡ signalRead b → (signalOf r ≡ signalFrom b) × TidySignal r
+pub read-tidy : (b : List ℕ) → AreBytes b → signalSize ≤ length b → signalTidy b ≡ true → {r : Signal} → r ≡ signalRead b
+    → (signalOf r ≡ signalFrom b) × TidySignal r
 read-tidy b h l t e =
     let f : b ≡ signalBytes (signalFrom b) ++ drop signalSize b = sym (rw (signal-forth b h l t) (take-append-drop signalSize b)) in
     read-back (signalFrom b) (signal-sized b l t) (drop signalSize b) (e ∙ ap signalRead f)

@@ -15,16 +15,19 @@ use Rattle.fields.specs.Filled.{removeAt, length-removeAt}
 use Rattle.encoding.specs.Sized.{SizedSignal, SizedTree}
 use Rattle.encoding.specs.Lengths.{length-tree}
 use Rattle.encoding.specs.TreeStores.{withTrees, tree-remove, tree-append, signal-append}
-use Rattle.encoding.specs.SignalStores.{pushed, rest, moved, signal-push, signal-take, tree-move, pending-is, signal-on, signal-is, tree-bytes-are}
+use Rattle.encoding.specs.SignalStores.{pushed, rest, moved, signal-push, signal-take, tree-move, pending-is, signal-on, signal-is}
+use Rattle.encoding.specs.SignalStores.{tree-bytes-are}
 use Rattle.encoding.specs.FirstTree.{firstTree, elsewhere, first-found}
 use Rattle.trees.specs.Canon.{Canon, treeAt, pendingAt, says, canon}
 use Rattle.trees.specs.Signals.{signalOf, TidySignal, signalRead, read-back}
 use Rattle.trees.specs.declared.signals.Signal as Value
-use Rattle.trees.specs.Changes.{taken, sent, arrived, sized-append, sized-at, sized-set, sized-remove, sized-pushed, sized-rest, sized-moved, sized-one, set-first}
+use Rattle.trees.specs.Changes.{taken, sent, arrived, sized-append, sized-at, sized-set, sized-remove, sized-pushed, sized-rest}
+use Rattle.trees.specs.Changes.{sized-moved, sized-one, set-first}
 
 -- ---- what is read
 
-pub found : {b : List ℕ} (k : Canon b) (t thread n : ℕ) {i : ℕ} → thread ≡ t → n ≡ getD b treeCountPlace 0 → i ≡ firstBad (elsewhere b thread) 0 n → i ≡ firstTree t (machineFrom b .trees)
+pub found : {b : List ℕ} (k : Canon b) (t thread n : ℕ) {i : ℕ} → thread ≡ t → n ≡ getD b treeCountPlace 0
+    → i ≡ firstBad (elsewhere b thread) 0 n → i ≡ firstTree t (machineFrom b .trees)
 found k t thread n et en e = e ∙ rw (et, en ∙ k .count) (first-found _ t (k .same) (k .sized .trees))
 
 module _ {b : List ℕ} (k : Canon b) (i : ℕ) (h : i < length (machineFrom b .trees)) (at : ℕ) (ea : at ≡ treesPlace + treeSize * i) where
@@ -39,7 +42,8 @@ module _ {b : List ℕ} (k : Canon b) (i : ℕ) (h : i < length (machineFrom b .
     unfolding signalFrom
     label-read = ap (λ (g : Signal). g .label) (signal-is (machineFrom b) i (k .same) (k .sized .trees) h at ea (k .sized .eachTree) 0 some)
 
-    pub oldest-read : {r : Value.Signal} → r ≡ signalRead (drop (at + 2) b) → (signalOf r ≡ getD (pendingAt (machineFrom b) i) 0 noSignal) × TidySignal r
+    pub oldest-read : {r : Value.Signal} → r ≡ signalRead (drop (at + 2) b)
+        → (signalOf r ≡ getD (pendingAt (machineFrom b) i) 0 noSignal) × TidySignal r
     oldest-read e =
         let s = machineFrom b in
         let g = getD (pendingAt s i) 0 noSignal in
@@ -51,8 +55,10 @@ module _ {b : List ℕ} (k : Canon b) (i : ℕ) (h : i < length (machineFrom b .
 -- ---- tree i
 
 module _ {b : List ℕ} (k : Canon b) (i : ℕ) (h : i < length (machineFrom b .trees)) where
-  pub oldest-taken : {b₁ b₂ : List ℕ} (n at : ℕ) → n ≡ length (pendingAt (machineFrom b) i) → 0 < length (pendingAt (machineFrom b) i) → at ≡ treesPlace + treeSize * i
-      → b₁ ≡ put b (at + 2) (part b (at + 2 + signalSize) (signalSize * (n - 1)) ++ replicate signalSize 0) → b₂ ≡ put b₁ (at + 1) ((n - 1) ∷ [])
+  pub oldest-taken : {b₁ b₂ : List ℕ} (n at : ℕ) → n ≡ length (pendingAt (machineFrom b) i) → 0 < length (pendingAt (machineFrom b) i)
+      → at ≡ treesPlace + treeSize * i
+      → b₁ ≡ put b (at + 2) (part b (at + 2 + signalSize) (signalSize * (n - 1)) ++ replicate signalSize 0)
+      → b₂ ≡ put b₁ (at + 1) ((n - 1) ∷ [])
       → Canon b₂ × ((u : ℕ) → i ≡ firstTree u (machineFrom b .trees) → machineFrom b₂ ≡ taken u i (machineFrom b))
   oldest-taken n at en some ea e₁ e₂ =
       let s = machineFrom b in
@@ -60,7 +66,8 @@ module _ {b : List ℕ} (k : Canon b) (i : ℕ) (h : i < length (machineFrom b .
       let z = sized-set s (k .sized) i h (rest (treeAt s i)) (sized-rest (treeAt s i) (sized-at s (k .sized) i h)) in
       (canon _ z q, λ u e. says _ z q ∙ set-first s i u e h (drop 1 (pendingAt s i)))
 
-  pub signal-pushed : {b₁ b₂ : List ℕ} (n at : ℕ) (g : Signal) → SizedSignal g → n ≡ length (pendingAt (machineFrom b) i) → length (pendingAt (machineFrom b) i) < pendingCount
+  pub signal-pushed : {b₁ b₂ : List ℕ} (n at : ℕ) (g : Signal) → SizedSignal g → n ≡ length (pendingAt (machineFrom b) i)
+      → length (pendingAt (machineFrom b) i) < pendingCount
       → at ≡ treesPlace + treeSize * i → b₁ ≡ put b (at + 2 + signalSize * n) (signalBytes g) → b₂ ≡ put b₁ (at + 1) ((n + 1) ∷ [])
       → Canon b₂ × ((u : ℕ) → i ≡ firstTree u (machineFrom b .trees) → machineFrom b₂ ≡ sent u i g (machineFrom b))
   signal-pushed n at g zg en few ea e₁ e₂ =
@@ -81,7 +88,8 @@ module _ {b : List ℕ} (k : Canon b) (i : ℕ) (h : i < length (machineFrom b .
 -- ---- the list's end
 
 module _ {b : List ℕ} (k : Canon b) where
-  pub signal-arrived : {b₁ b₂ : List ℕ} (t n at : ℕ) (g : Signal) → SizedSignal g → length (machineFrom b .trees) < treeCount → n ≡ length (machineFrom b .trees)
+  pub signal-arrived : {b₁ b₂ : List ℕ} (t n at : ℕ) (g : Signal) → SizedSignal g → length (machineFrom b .trees) < treeCount
+      → n ≡ length (machineFrom b .trees)
       → at ≡ treesPlace + treeSize * n → b₁ ≡ put b at (t ∷ 1 ∷ signalBytes g) → b₂ ≡ put b₁ treeCountPlace ((n + 1) ∷ [])
       → Canon b₂ × (machineFrom b₂ ≡ arrived t g (machineFrom b))
   signal-arrived t n at g zg room en ea e₁ e₂ =
@@ -90,7 +98,8 @@ module _ {b : List ℕ} (k : Canon b) where
       let z = sized-append s (k .sized) _ (sized-one t g zg) room in
       (canon _ z q, says _ z q)
 
-  pub tree-appended : {b₁ b₂ : List ℕ} (n at : ℕ) (x : Tree) → SizedTree x → length (machineFrom b .trees) < treeCount → n ≡ length (machineFrom b .trees)
+  pub tree-appended : {b₁ b₂ : List ℕ} (n at : ℕ) (x : Tree) → SizedTree x → length (machineFrom b .trees) < treeCount
+      → n ≡ length (machineFrom b .trees)
       → at ≡ treesPlace + treeSize * n → b₁ ≡ put b at (treeBytes x) → b₂ ≡ put b₁ treeCountPlace ((n + 1) ∷ [])
       → Canon b₂ × (machineFrom b₂ ≡ withTrees (machineFrom b) (machineFrom b .trees ++ x ∷ []))
   tree-appended n at x zx room en ea e₁ e₂ =
@@ -100,24 +109,29 @@ module _ {b : List ℕ} (k : Canon b) where
       (canon _ z q, says _ z q)
 
 -- tree i, whose bytes stand in another buffer, has left the list and comes to its end
-pub tree-moved : {b b₁ b₂ b₃ : List ℕ} (k : Canon b) (i n : ℕ) (tree : List ℕ) → i < length (machineFrom b .trees) → n ≡ length (machineFrom b .trees)
-    → tree ≡ put (replicate treeSize 0) 0 (part b (treesPlace + treeSize * i) treeSize) → Canon b₁ → machineFrom b₁ ≡ withTrees (machineFrom b) (removeAt i (machineFrom b .trees))
+pub tree-moved : {b b₁ b₂ b₃ : List ℕ} (k : Canon b) (i n : ℕ) (tree : List ℕ) → i < length (machineFrom b .trees)
+    → n ≡ length (machineFrom b .trees)
+    → tree ≡ put (replicate treeSize 0) 0 (part b (treesPlace + treeSize * i) treeSize) → Canon b₁
+    → machineFrom b₁ ≡ withTrees (machineFrom b) (removeAt i (machineFrom b .trees))
     → b₂ ≡ put b₁ (treesPlace + treeSize * (n - 1)) (part tree 0 treeSize) → b₃ ≡ put b₂ treeCountPlace (n ∷ [])
     → Canon b₃ × (machineFrom b₃ ≡ withTrees (machineFrom b) (removeAt i (machineFrom b .trees) ++ treeAt (machineFrom b) i ∷ []))
 unfolding part
 tree-moved {b} {b₁} {b₂} {b₃} k i n tree h en et k₁ m e₂ e₃ =
     let s = machineFrom b in
     let x = treeAt s i in
-    let f : part b (treesPlace + treeSize * i) treeSize ≡ treeBytes x = tree-bytes-are s i (k .same) (k .sized .trees) h (treesPlace + treeSize * i) refl in
+    let f : part b (treesPlace + treeSize * i) treeSize ≡ treeBytes x =
+    tree-bytes-are s i (k .same) (k .sized .trees) h (treesPlace + treeSize * i) refl in
     let g : tree ≡ treeBytes x = et ∙ rw f (put-whole (replicate treeSize 0) (treeBytes x) (sym (length-tree x))) in
     let w : part tree 0 treeSize ≡ treeBytes x = rw g (take-all treeSize (treeBytes x) (omega (arith, length-tree x))) in
     let l : length (machineFrom b₁ .trees) ≡ length (s .trees) - 1 = rw m (length-removeAt i (s .trees) h) in
     let o : n ≡ n - 1 + 1 = omega arith in
-    let r = tree-appended k₁ (n - 1) (treesPlace + treeSize * (n - 1)) x (sized-at s (k .sized) i h) (omega (arith, k .sized .trees)) (omega arith) refl (rw w at e₂) (rw o at e₃) in
+    let r = tree-appended k₁ (n - 1) (treesPlace + treeSize * (n - 1)) x (sized-at s (k .sized) i h) (omega (arith, k .sized .trees))
+    (omega arith) refl (rw w at e₂) (rw o at e₃) in
     (r .0, r .1 ∙ rw m)
 
 -- the last tree gets another thread
-pub last-moved : {b b′ : List ℕ} (k : Canon b) (s : Machine) (a : List Tree) (x : Tree) (t n : ℕ) → machineFrom b ≡ withTrees s (a ++ x ∷ []) → n ≡ length (machineFrom b .trees)
+pub last-moved : {b b′ : List ℕ} (k : Canon b) (s : Machine) (a : List Tree) (x : Tree) (t n : ℕ)
+    → machineFrom b ≡ withTrees s (a ++ x ∷ []) → n ≡ length (machineFrom b .trees)
     → b′ ≡ put b (treesPlace + treeSize * (n - 1)) (t ∷ []) → Canon b′ × (machineFrom b′ ≡ withTrees s (a ++ moved x t ∷ []))
 last-moved {b} {b′} k s a x t n m en e =
     let l : length (machineFrom b .trees) ≡ length a + 1 = rw m (length-append a (x ∷ [])) in

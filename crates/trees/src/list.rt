@@ -54,9 +54,11 @@ pub fn first_tree(state: &[u8], t: Thread) -> usize
 
 // An arrival: a tree on thread t with the one signal whose bytes stand at a place of another buffer.
 pub fn append(state: &mut [u8], t: Thread, bytes: &[u8], at: usize)
-    requires { ⌜ Canon (now state) × (length (machineFrom (now state) .trees) < treeCount) × (at + signalSize ≤ length (now bytes)) × (signalTidy (drop at (now bytes)) ≡ true) ⌝ }
+    requires { ⌜ Canon (now state) × (length (machineFrom (now state) .trees) < treeCount) × (at + signalSize ≤ length (now bytes))
+        × (signalTidy (drop at (now bytes)) ≡ true) ⌝ }
     ensures { λ _. ⌜ Canon (now (state .exit)) ⌝ }
-    ensures { λ _. ⌜ machineFrom (now (state .exit)) ≡ arrived (t .0) (signalFrom (drop at (now (bytes .entry)))) (machineFrom (now (state .entry))) ⌝ }
+    ensures { λ _. ⌜ machineFrom (now (state .exit)) ≡ arrived (t .0) (signalFrom (drop at (now (bytes .entry))))
+        (machineFrom (now (state .entry))) ⌝ }
 {
     let n = get8(state, TREE_COUNT_PLACE);
     let to = TREES_PLACE + TREE_SIZE * n;
@@ -71,7 +73,8 @@ pub fn append(state: &mut [u8], t: Thread, bytes: &[u8], at: usize)
 fn remove_tree(state: &mut [u8], i: usize)
     requires { ⌜ Canon (now state) × (i < length (machineFrom (now state) .trees)) ⌝ }
     ensures { λ _. ⌜ Canon (now (state .exit)) ⌝ }
-    ensures { λ _. ⌜ machineFrom (now (state .exit)) ≡ withTrees (machineFrom (now (state .entry))) (removeAt i (machineFrom (now (state .entry)) .trees)) ⌝ }
+    ensures { λ _. ⌜ machineFrom (now (state .exit)) ≡ withTrees (machineFrom (now (state .entry)))
+        (removeAt i (machineFrom (now (state .entry)) .trees)) ⌝ }
 {
     let n = get8(state, TREE_COUNT_PLACE);
     remove(
@@ -87,7 +90,8 @@ fn remove_tree(state: &mut [u8], i: usize)
 fn move_to_end(state: &mut [u8], i: usize)
     requires { ⌜ Canon (now state) × (i < length (machineFrom (now state) .trees)) ⌝ }
     ensures { λ _. ⌜ Canon (now (state .exit)) ⌝ }
-    ensures { λ _. ⌜ machineFrom (now (state .exit)) ≡ withTrees (machineFrom (now (state .entry))) (removeAt i (machineFrom (now (state .entry)) .trees) ++ treeAt (machineFrom (now (state .entry))) i ∷ []) ⌝ }
+    ensures { λ _. ⌜ machineFrom (now (state .exit)) ≡ withTrees (machineFrom (now (state .entry)))
+        (removeAt i (machineFrom (now (state .entry)) .trees) ++ treeAt (machineFrom (now (state .entry))) i ∷ []) ⌝ }
 {
     let n = get8(state, TREE_COUNT_PLACE);
     if i + 1 < n {
@@ -109,7 +113,8 @@ fn move_to_end(state: &mut [u8], i: usize)
 fn requeue(state: &mut [u8], i: usize, t: Thread)
     requires { ⌜ Canon (now state) × (i < length (machineFrom (now state) .trees)) ⌝ }
     ensures { λ _. ⌜ Canon (now (state .exit)) ⌝ }
-    ensures { λ _. ⌜ machineFrom (now (state .exit)) ≡ withTrees (machineFrom (now (state .entry))) (removeAt i (machineFrom (now (state .entry)) .trees) ++ moved (treeAt (machineFrom (now (state .entry))) i) (t .0) ∷ []) ⌝ }
+    ensures { λ _. ⌜ machineFrom (now (state .exit)) ≡ withTrees (machineFrom (now (state .entry)))
+        (removeAt i (machineFrom (now (state .entry)) .trees) ++ moved (treeAt (machineFrom (now (state .entry))) i) (t .0) ∷ []) ⌝ }
 {
     move_to_end(state, i);
     let n = get8(state, TREE_COUNT_PLACE);
@@ -120,7 +125,8 @@ fn requeue(state: &mut [u8], i: usize, t: Thread)
 pub fn end_tree(state: &mut [u8], i: usize, t: Thread)
     requires { ⌜ Canon (now state) × (i < length (machineFrom (now state) .trees)) ⌝ }
     ensures { λ _. ⌜ Canon (now (state .exit)) ⌝ }
-    ensures { λ _. ⌜ ((u : ℕ) → i ≡ firstTree u (machineFrom (now (state .entry)) .trees) → machineFrom (now (state .exit)) ≡ ended u (t .0) i (machineFrom (now (state .entry)))) ⌝ }
+    ensures { λ _. ⌜ ((u : ℕ) → i ≡ firstTree u (machineFrom (now (state .entry)) .trees)
+        → machineFrom (now (state .exit)) ≡ ended u (t .0) i (machineFrom (now (state .entry)))) ⌝ }
 {
     if pending(state, i) == 0 {
         remove_tree(state, i);

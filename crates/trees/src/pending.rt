@@ -33,14 +33,16 @@ pub fn pending(state: &[u8], i: usize) -> usize
 }
 
 pub fn oldest_label(state: &[u8], i: usize) -> Label
-    requires { ⌜ Canon (now state) × (i < length (machineFrom (now state) .trees)) × (0 < length (pendingAt (machineFrom (now state)) i)) ⌝ }
+    requires { ⌜ Canon (now state) × (i < length (machineFrom (now state) .trees))
+        × (0 < length (pendingAt (machineFrom (now state)) i)) ⌝ }
     ensures { λ r. ⌜ r ≡ label (getD (pendingAt (machineFrom (now (state .entry))) i) 0 noSignal .label) ⌝ }
 {
     label_of(get16(state, TREES_PLACE + TREE_SIZE * i + SIGNALS_PLACE))
 }
 
 pub fn oldest(state: &[u8], i: usize) -> Signal
-    requires { ⌜ Canon (now state) × (i < length (machineFrom (now state) .trees)) × (0 < length (pendingAt (machineFrom (now state)) i)) ⌝ }
+    requires { ⌜ Canon (now state) × (i < length (machineFrom (now state) .trees))
+        × (0 < length (pendingAt (machineFrom (now state)) i)) ⌝ }
     ensures { λ r. ⌜ (signalOf r ≡ getD (pendingAt (machineFrom (now (state .entry))) i) 0 noSignal) × TidySignal r ⌝ }
 {
     read_signal(state, TREES_PLACE + TREE_SIZE * i + SIGNALS_PLACE)
@@ -48,9 +50,11 @@ pub fn oldest(state: &[u8], i: usize) -> Signal
 
 // The oldest leaves the tree: the others move down, and zeros fill the last one's place.
 pub fn take_oldest(state: &mut [u8], i: usize)
-    requires { ⌜ Canon (now state) × (i < length (machineFrom (now state) .trees)) × (0 < length (pendingAt (machineFrom (now state)) i)) ⌝ }
+    requires { ⌜ Canon (now state) × (i < length (machineFrom (now state) .trees))
+        × (0 < length (pendingAt (machineFrom (now state)) i)) ⌝ }
     ensures { λ _. ⌜ Canon (now (state .exit)) ⌝ }
-    ensures { λ _. ⌜ ((u : ℕ) → i ≡ firstTree u (machineFrom (now (state .entry)) .trees) → machineFrom (now (state .exit)) ≡ taken u i (machineFrom (now (state .entry)))) ⌝ }
+    ensures { λ _. ⌜ ((u : ℕ) → i ≡ firstTree u (machineFrom (now (state .entry)) .trees)
+        → machineFrom (now (state .exit)) ≡ taken u i (machineFrom (now (state .entry)))) ⌝ }
 {
     let at = TREES_PLACE + TREE_SIZE * i;
     let k = get8(state, at + PENDING_COUNT_PLACE);
@@ -65,9 +69,11 @@ pub fn take_oldest(state: &mut [u8], i: usize)
 
 // A signal comes to the tree's end.
 pub fn push(state: &mut [u8], i: usize, g: Signal)
-    requires { ⌜ Canon (now state) × (i < length (machineFrom (now state) .trees)) × (length (pendingAt (machineFrom (now state)) i) < pendingCount) × TidySignal g ⌝ }
+    requires { ⌜ Canon (now state) × (i < length (machineFrom (now state) .trees))
+        × (length (pendingAt (machineFrom (now state)) i) < pendingCount) × TidySignal g ⌝ }
     ensures { λ _. ⌜ Canon (now (state .exit)) ⌝ }
-    ensures { λ _. ⌜ ((u : ℕ) → i ≡ firstTree u (machineFrom (now (state .entry)) .trees) → machineFrom (now (state .exit)) ≡ sent u i (signalOf g) (machineFrom (now (state .entry)))) ⌝ }
+    ensures { λ _. ⌜ ((u : ℕ) → i ≡ firstTree u (machineFrom (now (state .entry)) .trees)
+        → machineFrom (now (state .exit)) ≡ sent u i (signalOf g) (machineFrom (now (state .entry)))) ⌝ }
 {
     let at = TREES_PLACE + TREE_SIZE * i;
     let k = get8(state, at + PENDING_COUNT_PLACE);

@@ -14,12 +14,14 @@ returns c =
 fresh-requires : tie.Need-fresh-requires
 fresh-requires c κs =
     let a = c .before .before .before .before .before .before .before .before .args in
-    fresh-lengths (a .image .now) (a .table .now) (a .words .now) (a .state .now) (sym (c .before .before .fresh-fault .ensures) ∙ c .before .if1 .left)
+    fresh-lengths (a .image .now) (a .table .now) (a .words .now) (a .state .now) (sym (c .before .before .fresh-fault .ensures)
+    ∙ c .before .if1 .left)
 
 returns-2 : tie.Need-returns-2
 returns-2 c =
     let a = c .before .before .before .before .before .before .before .before .before .before .before .args in
-    let h : freshReturn (a .image .now) (a .table .now) (a .words .now) (a .state .now) ≡ 0 = sym (c .before .before .before .before .before .fresh-fault .ensures) ∙ c .before .before .before .before .if1 .left in
+    let h : freshReturn (a .image .now) (a .table .now) (a .words .now) (a .state .now) ≡ 0 =
+    sym (c .before .before .before .before .before .fresh-fault .ensures) ∙ c .before .before .before .before .if1 .left in
     (sym h, c .before .before .fresh .ensures ∙ sym (fresh-state (a .image .now) (a .table .now) (a .words .now) (a .state .now) h))
 
 pub plex-fresh-spec : {M : Type 1} → statement M

@@ -12,13 +12,19 @@ use Rattle.event_check.proofs.event.arrival_ok.Tie as tie
 returns : tie.Need-returns
 returns c =
     let a = c .before .before .before .before .before .before .args in
-    let e : c .before .index-of .result ≡ num16 (drop (a .at + 2) (now (a .s))) = c .before .index-of .ensures ∙ rw (c .before .before .label-of .ensures) (c .before .before .before .get16 .ensures) in
+    let e : c .before .index-of .result ≡ num16 (drop (a .at + 2) (now (a .s))) =
+    c .before .index-of .ensures ∙ rw (c .before .before .label-of .ensures) (c .before .before .before .get16 .ensures) in
     sym (arrival-past (now (a .image)) (now (a .s)) (a .at) (omega arith))
 
 returns-2 : tie.Need-returns-2
 returns-2 c =
     let a = c .before .before .before .before .before .before .before .before .before .args in
-    simp (c .signal-tidy .ensures, c .before .entry-at .ensures, c .before .before .before .before .before .label-of .ensures, c .before .before .before .before .before .before .get16 .ensures) (sym (arrival-at (now (a .image)) (now (a .s)) (a .at)))
+    simp (
+      c .signal-tidy .ensures,
+      c .before .entry-at .ensures,
+      c .before .before .before .before .before .label-of .ensures,
+      c .before .before .before .before .before .before .get16 .ensures,
+    ) (sym (arrival-at (now (a .image)) (now (a .s)) (a .at)))
 
 pub arrival-ok-spec : {M : Type 1} → statement M
 arrival-ok-spec =

@@ -24,13 +24,15 @@ returns : tie.Need-returns Inv-loop μ-loop
 returns c =
     let a = c .before .before .before .before .before .before .before .args in
     let l = c .before .before .before .loop in
-    here (eventAtOk (now (a .image)) (now (a .events))) (a .m) (l .i) (l .inv) (c .before .event-ok .result) (c .before .before .loop-test .taken) (c .before .event-ok .ensures) (c .if1 .taken)
+    here (eventAtOk (now (a .image)) (now (a .events))) (a .m) (l .i) (l .inv) (c .before .event-ok .result)
+    (c .before .before .loop-test .taken) (c .before .event-ok .ensures) (c .if1 .taken)
 
 loop-again : tie.Need-loop-again Inv-loop μ-loop
 loop-again c =
     let a = c .before .before .before .before .before .before .before .args in
     let l = c .before .before .before .loop in
-    next (eventAtOk (now (a .image)) (now (a .events))) (a .m) (l .i) (l .inv) (c .before .event-ok .result) (c .before .before .loop-test .taken) (c .before .event-ok .ensures) (c .if1 .left)
+    next (eventAtOk (now (a .image)) (now (a .events))) (a .m) (l .i) (l .inv) (c .before .event-ok .result)
+    (c .before .before .loop-test .taken) (c .before .event-ok .ensures) (c .if1 .left)
 
 returns-2 : tie.Need-returns-2 Inv-loop μ-loop
 returns-2 c =

@@ -24,7 +24,8 @@ returns-2 c =
     let a = c .before .before .before .before .before .before .before .before .args in
     let xs : List ℕ = machineFaults (now (a .image)) (now (a .table)) (now (a .state)) in
     let e : c .before .before .machine-fault .result ≡ firstOf xs = c .before .before .machine-fault .ensures in
-    c .events-fault .ensures ∙ sym (after xs (eventsFaults (now (a .image)) (now (a .events)) (now (a .answers))) (sym e ∙ c .before .if1 .left))
+    c .events-fault .ensures ∙ sym (after xs (eventsFaults (now (a .image)) (now (a .events)) (now (a .answers)))
+    (sym e ∙ c .before .if1 .left))
 
 pub run-fault-spec : {M : Type 1} → statement M
 run-fault-spec =

@@ -20,14 +20,16 @@ loop-holds : tie.Need-loop-holds Inv-loop μ-loop
 loop-holds c =
     let a = c .before .before .before .before .args in
     let s = now (a .s) in
-    halved-none s (a .at) (a .n / 16 * 8) (lastSixteen s (a .at) (a .n)) (bitOr (c .before .get64 .result) (c .get642 .result)) (last-none s (a .at) (a .n) (omega arith) (c .before .get64 .ensures) (c .get642 .ensures))
+    halved-none s (a .at) (a .n / 16 * 8) (lastSixteen s (a .at) (a .n)) (bitOr (c .before .get64 .result) (c .get642 .result))
+    (last-none s (a .at) (a .n) (omega arith) (c .before .get64 .ensures) (c .get642 .ensures))
 
 loop-again : tie.Need-loop-again Inv-loop μ-loop
 loop-again c =
     let a = c .before .before .before .before .before .before .before .before .args in
     let s = now (a .s) in
     let l = c .before .before .before .loop in
-    halved-eight s (a .at) (a .n / 16 * 8) (lastSixteen s (a .at) (a .n)) (l .set) (l .k) (c .before .get643 .result) (c .get644 .result) (l .inv) (omega (arith, l .inv .1)) (c .before .get643 .ensures) (c .get644 .ensures)
+    halved-eight s (a .at) (a .n / 16 * 8) (lastSixteen s (a .at) (a .n)) (l .set) (l .k) (c .before .get643 .result) (c .get644 .result)
+    (l .inv) (omega (arith, l .inv .1)) (c .before .get643 .ensures) (c .get644 .ensures)
 
 returns-2 : tie.Need-returns-2 Inv-loop μ-loop
 returns-2 c =

@@ -25,8 +25,13 @@ loop-less c = simp length-set (omega arith)
 loop-again : tie.Need-loop-again Inv-loop μ-loop
 loop-again c =
     let a = c .before .before .before .before .before .args in
-    let l = c .before .before .loop in
-    (simp length-set (omega arith), simp length-set (omega arith), fill-step num16 2 (l .out) (l .k) (c .get16 .result) (drop (a .at) (now (a .s))) (c .before .loop-test .taken) (l .inv .2) (c .get16 .ensures ∙ ap num16 (sym (drop-drop (2 * l .k) (a .at) (now (a .s))))))
+    let l = c .before .before .loop in (
+      simp length-set (omega arith),
+      simp length-set (omega arith),
+      fill-step num16 2 (l .out) (l .k) (c .get16 .result)
+          (drop (a .at) (now (a .s))) (c .before .loop-test .taken) (l .inv .2) (c .get16 .ensures
+          ∙ ap num16 (sym (drop-drop (2 * l .k) (a .at) (now (a .s))))),
+    )
 
 same-length : tie.Need-same-length Inv-loop μ-loop
 same-length c = c .before .loop .inv .1

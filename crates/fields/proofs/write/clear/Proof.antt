@@ -19,8 +19,12 @@ loop-holds c = (omega arith, refl, refl)
 
 loop-again : tie.Need-loop-again Inv-loop μ-loop
 loop-again c =
-    let l = c .before .loop in
-    (omega arith, simp length-set (omega arith), set-then _ _ (replicate (l .k) 0) _ _ (l .inv .2) (simp length-replicate) ∙ rw (replicate-append-replicate {A = ℕ} (l .k) 1 0))
+    let l = c .before .loop in (
+      omega arith,
+      simp length-set (omega arith),
+      set-then _ _ (replicate (l .k) 0) _ _ (l .inv .2) (simp length-replicate)
+          ∙ rw (replicate-append-replicate {A = ℕ} (l .k) 1 0),
+    )
 
 same-length : tie.Need-same-length Inv-loop μ-loop
 same-length c = c .before .loop .inv .1

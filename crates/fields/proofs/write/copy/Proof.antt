@@ -22,8 +22,12 @@ loop-again : tie.Need-loop-again Inv-loop μ-loop
 loop-again c =
     let a = c .before .before .before .args in
     let l = c .before .before .loop in
-    let f = now (a .from) in
-    (omega arith, simp length-set (omega arith), set-then _ _ (part f (a .start) (l .k)) _ _ (l .inv .2) (rw (length-part f (a .start) (l .k) (omega arith))) ∙ rw (part-suc f (a .start) (l .k) 0 (omega arith)))
+    let f = now (a .from) in (
+      omega arith,
+      simp length-set (omega arith),
+      set-then _ _ (part f (a .start) (l .k)) _ _ (l .inv .2)
+          (rw (length-part f (a .start) (l .k) (omega arith))) ∙ rw (part-suc f (a .start) (l .k) 0 (omega arith)),
+    )
 
 same-length : tie.Need-same-length Inv-loop μ-loop
 same-length c = c .before .loop .inv .1

@@ -24,8 +24,13 @@ loop-again : tie.Need-loop-again Inv-loop μ-loop
 loop-again c =
     let a = c .before .before .before .before .before .before .before .before .before .args in
     let l = c .before .before .before .before .before .before .loop in
-    let h : l .k < length (now (a .vs)) = omega arith in
-    (omega arith, omega arith, rw (blocks-take le16 (now (a .vs)) (l .k) 0 h) (put-then _ _ _ _ _ (l .inv .2) (c .before .before .put16 .ensures) (simp (length-blocks le16 2 (λ x. refl), length-take-le (l .k) (now (a .vs)) (l .inv .0)))))
+    let h : l .k < length (now (a .vs)) = omega arith in (
+      omega arith,
+      omega arith,
+      rw (blocks-take le16 (now (a .vs)) (l .k) 0 h)
+          (put-then _ _ _ _ _ (l .inv .2) (c .before .before .put16 .ensures)
+          (simp (length-blocks le16 2 (λ x. refl), length-take-le (l .k) (now (a .vs)) (l .inv .0)))),
+    )
 
 same-length : tie.Need-same-length Inv-loop μ-loop
 same-length c = c .before .loop .inv .1

@@ -29,7 +29,8 @@ returns c =
     let l = c .before .before .before .before .before .loop in
     let a = c .before .before .before .before .before .before .before .args in
     let e : l .k ≡ a .more = omega arith in
-    put-then _ _ _ _ _ (rw e at (l .inv .2)) (c .before .before .clear .ensures) (rw (length-part (now (a .s)) (a .at + a .n) (a .more) (c .before .before .before .before .before .before .before .pre)))
+    put-then _ _ _ _ _ (rw e at (l .inv .2)) (c .before .before .clear .ensures)
+    (rw (length-part (now (a .s)) (a .at + a .n) (a .more) (c .before .before .before .before .before .before .before .pre)))
 
 pub remove-spec : {M : Type 1} → statement M
 remove-spec =

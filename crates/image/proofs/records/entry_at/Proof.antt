@@ -6,7 +6,11 @@ use Rattle.image.proofs.records.entry_at.Statement.{statement}
 use Rattle.image.proofs.records.entry_at.Tie as tie
 
 shared-slice-read-result : tie.Need-shared-slice-read-result
-shared-slice-read-result c = omega (arith, record-fits (c .before .before .before .args .image .now) (c .before .before .before .args .at .0) (c .before .before .before .pre))
+shared-slice-read-result c = omega (
+  arith,
+  record-fits (c .before .before .before .args .image .now)
+      (c .before .before .before .args .at .0) (c .before .before .before .pre),
+)
 
 returns : tie.Need-returns
 returns c =

@@ -22,27 +22,40 @@ shared-slice-read-wide : tie.Need-shared-slice-read-wide Inv-loop μ-loop
 shared-slice-read-wide c = omega (arith, c .before .record-of .ensures .1)
 
 first-bad-slots-requires : tie.Need-first-bad-slots-requires Inv-loop μ-loop
-first-bad-slots-requires c κs = (c .before .before .before .before .before .loop .inv .0, c .before .before .before .before .before .before .before .pre .0, c .before .before .before .before .before .before .before .pre .1)
+first-bad-slots-requires c κs = (
+  c .before .before .before .before .before .loop .inv .0,
+  c .before .before .before .before .before .before .before .pre .0,
+  c .before .before .before .before .before .before .before .pre .1,
+)
 
 returns : tie.Need-returns Inv-loop μ-loop
 returns c = c .first-bad-slots .ensures ∙ sym (c .before .before .before .before .before .before .loop .inv .1)
 
 few-ok-requires : tie.Need-few-ok-requires Inv-loop μ-loop
-few-ok-requires c κs = (c .before .before .before .before .record-of .ensures .1, c .before .before .wide .ensures .0, omega (arith, c .before .if1 .left), refl)
+few-ok-requires c κs = (
+  c .before .before .before .before .record-of .ensures .1,
+  c .before .before .wide .ensures .0,
+  omega (arith, c .before .if1 .left),
+  refl,
+)
 
 returns-2 : tie.Need-returns-2 Inv-loop μ-loop
 returns-2 c =
     let s = c .before .before .before .before .before .before .before .before .before .before in
     let l = c .before .before .before .before .before .before .before .before .loop in
-    let e : c .before .few-ok .result ≡ slotsAt (s .args .image .now) (l .l) = c .before .few-ok .ensures ∙ rw (c .before .before .before .before .before .before .record-of .ensures .0) refl in
-    here (slotsAt (s .args .image .now)) (s .args .m) (l .l) (l .inv) _ (c .before .before .before .before .before .before .before .loop-test .taken) e (c .if2 .taken)
+    let e : c .before .few-ok .result ≡ slotsAt (s .args .image .now) (l .l) =
+    c .before .few-ok .ensures ∙ rw (c .before .before .before .before .before .before .record-of .ensures .0) refl in
+    here (slotsAt (s .args .image .now)) (s .args .m) (l .l) (l .inv) _
+    (c .before .before .before .before .before .before .before .loop-test .taken) e (c .if2 .taken)
 
 loop-again : tie.Need-loop-again Inv-loop μ-loop
 loop-again c =
     let s = c .before .before .before .before .before .before .before .before .before .before in
     let l = c .before .before .before .before .before .before .before .before .loop in
-    let e : c .before .few-ok .result ≡ slotsAt (s .args .image .now) (l .l) = c .before .few-ok .ensures ∙ rw (c .before .before .before .before .before .before .record-of .ensures .0) refl in
-    next (slotsAt (s .args .image .now)) (s .args .m) (l .l) (l .inv) _ (c .before .before .before .before .before .before .before .loop-test .taken) e (c .if2 .left)
+    let e : c .before .few-ok .result ≡ slotsAt (s .args .image .now) (l .l) =
+    c .before .few-ok .ensures ∙ rw (c .before .before .before .before .before .before .record-of .ensures .0) refl in
+    next (slotsAt (s .args .image .now)) (s .args .m) (l .l) (l .inv) _
+    (c .before .before .before .before .before .before .before .loop-test .taken) e (c .if2 .left)
 
 returns-3 : tie.Need-returns-3 Inv-loop μ-loop
 returns-3 c =

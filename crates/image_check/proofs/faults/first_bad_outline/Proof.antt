@@ -22,14 +22,16 @@ returns : tie.Need-returns Inv-loop μ-loop
 returns c =
     let s = c .before .before .before .before .before .before in
     let l = c .before .before .before .before .loop in
-    let e : c .before .outline-ok .result ≡ outlineAt (s .args .image .now) (l .l) = c .before .outline-ok .ensures ∙ rw (c .before .before .record-of .ensures .0) in
+    let e : c .before .outline-ok .result ≡ outlineAt (s .args .image .now) (l .l) = c .before .outline-ok .ensures
+    ∙ rw (c .before .before .record-of .ensures .0) in
     here (outlineAt (s .args .image .now)) (s .args .n) (l .l) (l .inv) _ (c .before .before .before .loop-test .taken) e (c .if1 .taken)
 
 loop-again : tie.Need-loop-again Inv-loop μ-loop
 loop-again c =
     let s = c .before .before .before .before .before .before in
     let l = c .before .before .before .before .loop in
-    let e : c .before .outline-ok .result ≡ outlineAt (s .args .image .now) (l .l) = c .before .outline-ok .ensures ∙ rw (c .before .before .record-of .ensures .0) in
+    let e : c .before .outline-ok .result ≡ outlineAt (s .args .image .now) (l .l) = c .before .outline-ok .ensures
+    ∙ rw (c .before .before .record-of .ensures .0) in
     next (outlineAt (s .args .image .now)) (s .args .n) (l .l) (l .inv) _ (c .before .before .before .loop-test .taken) e (c .if1 .left)
 
 returns-2 : tie.Need-returns-2 Inv-loop μ-loop

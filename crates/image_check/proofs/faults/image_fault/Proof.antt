@@ -23,7 +23,8 @@ returns-3 c =
     let length = c .before .before .before .before .before .before .image-length-fault in
     let table-length = c .before .before .before .before .table-length-fault in
     rw (← length .ensures, ← table-length .ensures, ← c .before .before .table-fault .ensures, ← c .before .record-fault .ensures)
-    (c .first-of .ensures ∙ sym (passed _ _ (c .before .before .before .before .before .if1 .left) ∙ passed _ _ (c .before .before .before .if2 .left)))
+    (c .first-of .ensures ∙ sym (passed _ _ (c .before .before .before .before .before .if1 .left)
+    ∙ passed _ _ (c .before .before .before .if2 .left)))
 
 pub image-fault-spec : {M : Type 1} → statement M
 image-fault-spec =

@@ -23,7 +23,9 @@ first-bad-operand-requires c κs =
     (inside, λ l h. few image (recordAt image l) (good-before (outlineAt image) 0 n l (omega arith) (omega arith)))
 
 -- the first record of which one part is bad is the first bad one
-found : (c : tie.After-first-bad-operand) → c .first-bad-operand .result ≡ firstBad (recordOk (c .before .before .before .args .image .now)) 0 (labels (c .before .before .before .args .image .now))
+found : (c : tie.After-first-bad-operand)
+    → c .first-bad-operand .result ≡ firstBad (recordOk (c .before .before .before .args .image .now)) 0
+    (labels (c .before .before .before .args .image .now))
 unfolding recordOk
 found c =
     let image = c .before .before .before .args .image .now in

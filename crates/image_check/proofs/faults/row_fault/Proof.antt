@@ -1,4 +1,5 @@
 use native.Mathlib.Omega.{arith}
+use Rattle.rules.specs.Sizes.{blockCount}
 use Rattle.rules.specs.Check.{rowOk, tableFault}
 use Rattle.fields.specs.Tests.{within}
 use borrow.Author.Needs.{needs}
@@ -6,7 +7,7 @@ use Rattle.image_check.proofs.faults.row_fault.Statement.{statement}
 use Rattle.image_check.proofs.faults.row_fault.Tie as tie
 
 refuse-requires : tie.Need-refuse-requires
-refuse-requires c κs = omega (arith, within (rowOk (c .before .before .args .table .now)) 0 16)
+refuse-requires c κs = omega (arith, within (rowOk (c .before .before .args .table .now)) 0 blockCount)
 
 returns : tie.Need-returns
 unfolding tableFault

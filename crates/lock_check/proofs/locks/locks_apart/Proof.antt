@@ -19,7 +19,8 @@ loop-again : tie.Need-loop-again Inv-loop μ-loop
 loop-again c =
     let l = c .before .before .before .loop in
     rw (c .none-in-both .ensures)
-    (scanned-next (now (c .before .before .before .before .before .args .state)) (l .taken) (l .ok) (l .t) (l .inv) (c .before .locks-at .result) (c .before .before .loop-test .taken) (c .before .locks-at .ensures))
+    (scanned-next (now (c .before .before .before .before .before .args .state)) (l .taken) (l .ok) (l .t) (l .inv)
+    (c .before .locks-at .result) (c .before .before .loop-test .taken) (c .before .locks-at .ensures))
 
 returns : tie.Need-returns Inv-loop μ-loop
 returns c =

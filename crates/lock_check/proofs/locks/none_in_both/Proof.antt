@@ -17,7 +17,8 @@ returns-2 : tie.Need-returns-2
 returns-2 c =
     let a = c .before .before .before .args in
     let e = c .before .before .lowest-held .ensures in
-    sym (eq-eqb (bitAnd (a .a) (a .b)) 0 (lowest-none (bitAnd (a .a) (a .b)) (omega (arith, and-le-l (a .a) (a .b))) (sym e ∙ c .enum-told2 .given .1)))
+    sym (eq-eqb (bitAnd (a .a) (a .b)) 0 (lowest-none (bitAnd (a .a) (a .b)) (omega (arith, and-le-l (a .a) (a .b)))
+    (sym e ∙ c .enum-told2 .given .1)))
 
 pub none-in-both-spec : {M : Type 1} → statement M
 none-in-both-spec = tie.close (tie.spec (λ c κs. search needs) (λ c. search needs) (λ c. search needs) returns returns-2)

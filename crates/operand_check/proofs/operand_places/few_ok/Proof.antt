@@ -12,7 +12,8 @@ few-values-ok-requires c κs =
 returns : tie.Need-returns
 returns c =
     let s = c .before .before .before in
-    rw (c .before .few-values-ok .ensures, c .rest-zero .ensures) (few-slots (s .args .r .now) (s .args .c) (s .pre .0) (s .pre .1) (omega (arith, s .pre .2)))
+    rw (c .before .few-values-ok .ensures, c .rest-zero .ensures) (few-slots (s .args .r .now) (s .args .c) (s .pre .0) (s .pre .1)
+    (omega (arith, s .pre .2)))
 
 pub few-ok-spec : {M : Type 1} → statement M
 few-ok-spec = tie.close (tie.spec few-values-ok-requires (λ c κs. search needs) returns)

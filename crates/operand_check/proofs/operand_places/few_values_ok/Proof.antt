@@ -15,7 +15,8 @@ use Rattle.operand_check.proofs.operand_places.few_values_ok.Tie as tie
 
 -- what is gathered before k passes, and the operands from k on are good, exactly where all are
 abbrev Inv-loop : tie.InvT-loop
-Inv-loop r room c kinds₀ seen₀ k₀ kinds seen k = (k ≤ c) × (allFrom (valueOk r) 0 c ≡ ((ltb kinds 4 && ltb seen 65536) && allFrom (valueOk r) k (c - k)))
+Inv-loop r room c kinds₀ seen₀ k₀ kinds seen k =
+    (k ≤ c) × (allFrom (valueOk r) 0 c ≡ ((ltb kinds 4 && ltb seen 65536) && allFrom (valueOk r) k (c - k)))
 
 abbrev μ-loop : tie.MeasureT-loop
 μ-loop r room c kinds₀ seen₀ k₀ kinds seen k = c - k
@@ -40,14 +41,20 @@ loop-again c =
     let kd : ℕ = getD r (operandsPlace + operandSize * l .k) 0 in
     let v = c .before .before .get16 in
     let x = v .result + getD (s .args .room .now) (c .before .wide .result) 0 in
-    let ok : (ltb kd 4 && ltb x 65536) ≡ valueOk r (l .k) = rw (c .before .wide .ensures .0) (value-few r (s .args .room .now) (l .k) kd (v .result) refl (v .ensures) (s .pre .2) (omega arith)) in
-    (omega arith, l .inv .1 ∙ rw (all-step (valueOk r) (s .args .c) (l .k) h, few-next (l .kinds) (l .seen) kd x (valueOk r (l .k)) ok) (sym (and-assoc (ltb (l .kinds) 4 && ltb (l .seen) 65536) (valueOk r (l .k)) _)))
+    let ok : (ltb kd 4 && ltb x 65536) ≡ valueOk r (l .k) =
+    rw (c .before .wide .ensures .0)
+    (value-few r (s .args .room .now) (l .k) kd (v .result) refl (v .ensures) (s .pre .2) (omega arith)) in (
+      omega arith,
+      l .inv .1 ∙ rw (all-step (valueOk r) (s .args .c) (l .k) h, few-next (l .kinds) (l .seen) kd x (valueOk r (l .k)) ok)
+          (sym (and-assoc (ltb (l .kinds) 4 && ltb (l .seen) 65536) (valueOk r (l .k)) _)),
+    )
 
 returns : tie.Need-returns Inv-loop μ-loop
 returns c =
     let a = c .before .before .before .args in
     let l = c .before .loop in
-    sym (l .inv .1 ∙ rw (all-done (valueOk (a .r .now)) (a .c) (l .k) (omega (arith, c .loop-test .left))) (and-true (ltb (l .kinds) 4 && ltb (l .seen) 65536)))
+    sym (l .inv .1 ∙ rw (all-done (valueOk (a .r .now)) (a .c) (l .k) (omega (arith, c .loop-test .left)))
+    (and-true (ltb (l .kinds) 4 && ltb (l .seen) 65536)))
 
 pub few-values-ok-spec : {M : Type 1} → statement M
 few-values-ok-spec =

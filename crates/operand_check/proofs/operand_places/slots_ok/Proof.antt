@@ -12,7 +12,8 @@ values-ok-requires c κs =
 returns : tie.Need-returns
 returns c =
     let s = c .before .before .before .before in
-    rw (slots (s .args .r .now) (s .args .c) (s .pre .2) (s .pre .1), ← c .before .before .places-ok .ensures, c .before .if1 .taken) (c .values-ok .ensures)
+    rw (slots (s .args .r .now) (s .args .c) (s .pre .2) (s .pre .1), ← c .before .before .places-ok .ensures, c .before .if1 .taken)
+    (c .values-ok .ensures)
 
 returns-2 : tie.Need-returns-2
 returns-2 c =

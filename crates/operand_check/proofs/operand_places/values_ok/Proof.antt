@@ -27,12 +27,17 @@ loop-holds c = begin short (valueOk (c .before .args .r .now)) (c .before .args 
 element-copy-out-seen : tie.Need-element-copy-out-seen Inv-loop μ-loop
 element-copy-out-seen c =
     let s = c .before .before .before .before .before .before in
-    omega (arith, kind-below (s .args .r .now) (s .args .c) (s .pre .1) (s .pre .3) (c .before .before .before .before .loop .k) (c .before .before .before .loop-test .taken))
+    omega (
+      arith,
+      kind-below (s .args .r .now) (s .args .c) (s .pre .1) (s .pre .3) (c .before .before .before .before .loop .k)
+          (c .before .before .before .loop-test .taken),
+    )
 
 add-seen : tie.Need-add-seen Inv-loop μ-loop
 add-seen c =
     let s = c .before .before .before .before .before .before .before in
-    let small = kind-below (s .args .r .now) (s .args .c) (s .pre .1) (s .pre .3) (c .before .before .before .before .before .loop .k) (c .before .before .before .before .loop-test .taken) in
+    let small = kind-below (s .args .r .now) (s .args .c) (s .pre .1) (s .pre .3) (c .before .before .before .before .before .loop .k)
+    (c .before .before .before .before .loop-test .taken) in
     omega (arith, room-most (s .args .room .now) (c .before .before .wide .result) (s .pre .2) (omega arith))
 
 loop-again : tie.Need-loop-again Inv-loop μ-loop
@@ -45,7 +50,8 @@ loop-again c =
     let x = v .result + getD (s .args .room .now) (kd .result) 0 in
     let small = kind-below (s .args .r .now) (s .args .c) (s .pre .1) (s .pre .3) (l .k) h in
     next short (valueOk (s .args .r .now)) (s .args .c) (l .seen) (l .k) (l .inv) x h (or-below 16 (l .seen) x)
-    (value-fits (s .args .r .now) (s .args .room .now) (l .k) (kd .result) (v .result) (kd .ensures .0) (v .ensures) (s .pre .2) (omega arith) (omega arith))
+    (value-fits (s .args .r .now) (s .args .room .now) (l .k) (kd .result) (v .result) (kd .ensures .0) (v .ensures) (s .pre .2)
+    (omega arith) (omega arith))
 
 returns : tie.Need-returns Inv-loop μ-loop
 returns c =

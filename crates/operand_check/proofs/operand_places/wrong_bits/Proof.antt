@@ -11,7 +11,8 @@ use Rattle.operand_check.proofs.operand_places.wrong_bits.Statement.{st
 use Rattle.operand_check.proofs.operand_places.wrong_bits.Tie as tie
 
 abbrev Inv-loop : tie.InvT-loop
-Inv-loop r marks c from to first wrong₀ i₀ wrong i = (from ≤ i) × (i ≤ to) × (first ≡ placesSize - operandSize * c) × ((eqb wrong 0 && allFrom (bitsOk marks r c) i (to - i)) ≡ allFrom (bitsOk marks r c) from (to - from))
+Inv-loop r marks c from to first wrong₀ i₀ wrong i = (from ≤ i) × (i ≤ to) × (first ≡ placesSize - operandSize * c)
+    × ((eqb wrong 0 && allFrom (bitsOk marks r c) i (to - i)) ≡ allFrom (bitsOk marks r c) from (to - from))
 
 abbrev μ-loop : tie.MeasureT-loop
 μ-loop r marks c from to first wrong₀ i₀ wrong i = to - i
@@ -23,8 +24,13 @@ loop-again : tie.Need-loop-again Inv-loop μ-loop
 unfolding bitsOk
 loop-again c =
     let a = c .before .before .before .before .args in
-    let l = c .before .before .before .loop in
-    (omega arith, omega arith, refl, rw (or-none, and-assoc) (rw (all-step (bitsOk (a .marks .now) (a .r .now) (a .c)) (a .to) (l .i) (omega arith)) at (l .inv .3)))
+    let l = c .before .before .before .loop in (
+      omega arith,
+      omega arith,
+      refl,
+      rw (or-none, and-assoc)
+          (rw (all-step (bitsOk (a .marks .now) (a .r .now) (a .c)) (a .to) (l .i) (omega arith)) at (l .inv .3)),
+    )
 
 returns : tie.Need-returns Inv-loop μ-loop
 returns c =

@@ -18,7 +18,8 @@ use Rattle.queue_check.proofs.queues.flag_running.Statement.{statement}
 use Rattle.queue_check.proofs.queues.flag_running.Tie as tie
 
 abbrev Inv-loop : tie.InvT-loop
-Inv-loop state flags₀ t₀ flags t = (t ≤ threadCount) × (length flags ≡ threadCount) × (take t flags ≡ chunks (λ b. flag (threadFrom b)) threadSize t (drop threadsPlace state))
+Inv-loop state flags₀ t₀ flags t = (t ≤ threadCount) × (length flags ≡ threadCount)
+    × (take t flags ≡ chunks (λ b. flag (threadFrom b)) threadSize t (drop threadsPlace state))
 
 abbrev μ-loop : tie.MeasureT-loop
 μ-loop state flags₀ t₀ flags t = threadCount - t
@@ -33,8 +34,10 @@ loop-again c =
     let l = c .before .before .loop in (
       omega arith,
       simp length-set (omega arith),
-      fill-step (λ b. flag (threadFrom b)) threadSize (l .flags) (l .t) (boolByte (not (eqb (c .get16 .result) idleLabel))) (drop threadsPlace s) (omega arith)
-          (l .inv .2) (rw (c .get16 .ensures) (flag-at s (threadsPlace + threadSize * l .t) ∙ ap (λ b. flag (threadFrom b)) (sym (drop-drop (threadSize * l .t) threadsPlace s)))),
+      fill-step (λ b. flag (threadFrom b)) threadSize (l .flags) (l .t) (boolByte (not (eqb (c .get16 .result) idleLabel)))
+          (drop threadsPlace s) (omega arith)
+          (l .inv .2) (rw (c .get16 .ensures) (flag-at s (threadsPlace + threadSize * l .t)
+          ∙ ap (λ b. flag (threadFrom b)) (sym (drop-drop (threadSize * l .t) threadsPlace s)))),
     )
 
 same-length : tie.Need-same-length Inv-loop μ-loop
@@ -45,7 +48,8 @@ returns c =
     let s = now (c .before .before .before .before .args .state) in
     let l = c .before .loop in
     let e : l .t ≡ threadCount = omega arith in
-    sym (take-all (l .t) (l .flags) (omega arith)) ∙ l .inv .2 ∙ rw e (sym (map-chunks threadFrom threadSize flag threadCount (drop threadsPlace s)))
+    sym (take-all (l .t) (l .flags) (omega arith)) ∙ l .inv .2
+    ∙ rw e (sym (map-chunks threadFrom threadSize flag threadCount (drop threadsPlace s)))
 
 pub flag-running-spec : {M : Type 1} → statement M
 flag-running-spec =

@@ -20,7 +20,9 @@ returns c = c .thread-at .ensures ∙ rw (c .before .block-at .ensures)
 returns-2 : tie.Need-returns-2
 returns-2 c =
     let a = c .before .before .before .before .before .args in
-    c .thread-of .ensures ∙ ap thread (sym (no-thread (now (a .image)) (now (a .table)) (a .l .0) (c .before .before .before .before .before .pre .0 .wholeTable) (omega arith)))
+    c .thread-of .ensures ∙ ap thread
+    (sym (no-thread (now (a .image)) (now (a .table)) (a .l .0) (c .before .before .before .before .before .pre .0 .wholeTable)
+    (omega arith)))
 
 pub home-spec : {M : Type 1} → statement M
 home-spec =

@@ -13,7 +13,13 @@ returns c =
 returns-2 : tie.Need-returns-2
 returns-2 c =
     let a = c .before .before .before .before .before .before .before .before .before .before .args in
-    simp (c .thread-number .ensures, c .before .home .ensures, c .before .before .label-of .ensures, c .before .before .before .get16 .ensures)
+    simp (
+      c .thread-number .ensures,
+      c .before .home .ensures,
+      c .before .before .label-of .ensures,
+      c .before .before .before .get16
+          .ensures,
+    )
     (sym (homed-some (now (a .image)) (now (a .table)) (now (a .s)) (a .at) (c .before .before .before .before .before .if1 .left)))
 
 pub is-homed-spec : {M : Type 1} → statement M

@@ -9,7 +9,8 @@ use denote.Ref.{now}
 use Rattle.rules.specs.Sizes.{treeSize, treesPlace}
 use Rattle.rules.specs.Encoding.{treeFrom}
 use Rattle.tree_check.specs.Trees.{good-below}
-use Rattle.queue_check.specs.Passing.{treeAtGood, tree-thread, Passing, passing-none, passing-all, passing-bad, passing-lost, passing-next}
+use Rattle.queue_check.specs.Passing.{treeAtGood, tree-thread, Passing, passing-none, passing-all, passing-bad, passing-lost}
+use Rattle.queue_check.specs.Passing.{passing-next}
 use Rattle.queue_check.proofs.queues.trees_good.Statement.{statement}
 use Rattle.queue_check.proofs.queues.trees_good.Tie as tie
 
@@ -37,41 +38,60 @@ returns : tie.Need-returns Inv-loop μ-loop
 returns c =
     let a = c .before .before .before .before .before .before .before .before .before .before .args in
     let l = c .before .before .before .loop in
-    passing-bad (now (a .image)) (now (a .table)) (now (a .state)) (a .count) (l .unmet) (l .i) (l .inv) (c .before .before .loop-test .taken) (sym (c .before .tree-good .ensures) ∙ not-true _ (c .if1 .taken))
+    passing-bad (now (a .image)) (now (a .table)) (now (a .state)) (a .count) (l .unmet) (l .i) (l .inv)
+    (c .before .before .loop-test .taken) (sym (c .before .tree-good .ensures) ∙ not-true _ (c .if1 .taken))
 
 array-read-if2 : tie.Need-array-read-if2 Inv-loop μ-loop
 array-read-if2 c =
     let a = c .before .before .before .before .before .before .before .before .before .before .before .args in
     let l = c .before .before .before .before .loop in
-    omega (arith, good-below (now (a .image)) (now (a .state)) (treesPlace + treeSize * l .i) (sym (c .before .before .tree-good .ensures) ∙ not-false _ (c .before .if1 .left)))
+    omega (
+      arith,
+      good-below (now (a .image)) (now (a .state)) (treesPlace + treeSize * l .i)
+          (sym (c .before .before .tree-good .ensures) ∙ not-false _ (c .before .if1 .left)),
+    )
 
 is-homed-requires : tie.Need-is-homed-requires Inv-loop μ-loop
-is-homed-requires c κs = (c .before .before .before .before .before .before .before .before .before .before .before .pre .0, c .before .before .before .before .before .before .before .before .before .before .before .pre .1, omega arith)
+is-homed-requires c κs = (
+  c .before .before .before .before .before .before .before .before .before .before .before .pre .0,
+  c .before .before .before .before .before .before .before .before .before .before .before .pre .1,
+  omega arith,
+)
 
 returns-2 : tie.Need-returns-2 Inv-loop μ-loop
 returns-2 c =
     let a = c .before .before .before .before .before .before .before .before .before .before .before .before .before .args in
     let l = c .before .before .before .before .before .before .loop in
     let at = treesPlace + treeSize * l .i in
-    let e : c .before .before .get8 .result ≡ treeFrom (drop at (now (a .state))) .thread = c .before .before .get8 .ensures .0 ∙ tree-thread (now (a .state)) at in
-    let good : treeAtGood (now (a .image)) (now (a .state)) (l .i) ≡ true = sym (c .before .before .before .before .tree-good .ensures) ∙ not-false _ (c .before .before .before .if1 .left) in
-    passing-lost (now (a .image)) (now (a .table)) (now (a .state)) (a .count) (l .unmet) (l .i) (l .inv) (c .before .before .before .before .before .loop-test .taken) (c .before .before .get8 .result) e good
+    let e : c .before .before .get8 .result ≡ treeFrom (drop at (now (a .state))) .thread = c .before .before .get8 .ensures .0
+    ∙ tree-thread (now (a .state)) at in
+    let good : treeAtGood (now (a .image)) (now (a .state)) (l .i) ≡ true = sym (c .before .before .before .before .tree-good .ensures)
+    ∙ not-false _ (c .before .before .before .if1 .left) in
+    passing-lost (now (a .image)) (now (a .table)) (now (a .state)) (a .count) (l .unmet) (l .i) (l .inv)
+    (c .before .before .before .before .before .loop-test .taken) (c .before .before .get8 .result) e good
     (rw (← c .before .is-homed .ensures) (not-true _ (c .if2 .taken)))
 
 array-write-unmet : tie.Need-array-write-unmet Inv-loop μ-loop
 array-write-unmet c =
     let a = c .before .before .before .before .before .before .before .before .before .before .before .before .before .args in
     let l = c .before .before .before .before .before .before .loop in
-    omega (arith, good-below (now (a .image)) (now (a .state)) (treesPlace + treeSize * l .i) (sym (c .before .before .before .before .tree-good .ensures) ∙ not-false _ (c .before .before .before .if1 .left)))
+    omega (
+      arith,
+      good-below (now (a .image)) (now (a .state)) (treesPlace + treeSize * l .i)
+          (sym (c .before .before .before .before .tree-good .ensures) ∙ not-false _ (c .before .before .before .if1 .left)),
+    )
 
 loop-again : tie.Need-loop-again Inv-loop μ-loop
 loop-again c =
     let a = c .before .before .before .before .before .before .before .before .before .before .before .before .before .args in
     let l = c .before .before .before .before .before .before .loop in
     let at = treesPlace + treeSize * l .i in
-    let e : c .before .before .get8 .result ≡ treeFrom (drop at (now (a .state))) .thread = c .before .before .get8 .ensures .0 ∙ tree-thread (now (a .state)) at in
-    let good : treeAtGood (now (a .image)) (now (a .state)) (l .i) ≡ true = sym (c .before .before .before .before .tree-good .ensures) ∙ not-false _ (c .before .before .before .if1 .left) in
-    passing-next (now (a .image)) (now (a .table)) (now (a .state)) (a .count) (l .unmet) (l .i) (l .inv) (c .before .before .before .before .before .loop-test .taken) (c .before .before .get8 .result) e good
+    let e : c .before .before .get8 .result ≡ treeFrom (drop at (now (a .state))) .thread = c .before .before .get8 .ensures .0
+    ∙ tree-thread (now (a .state)) at in
+    let good : treeAtGood (now (a .image)) (now (a .state)) (l .i) ≡ true = sym (c .before .before .before .before .tree-good .ensures)
+    ∙ not-false _ (c .before .before .before .if1 .left) in
+    passing-next (now (a .image)) (now (a .table)) (now (a .state)) (a .count) (l .unmet) (l .i) (l .inv)
+    (c .before .before .before .before .before .loop-test .taken) (c .before .before .get8 .result) e good
     (rw (← c .before .is-homed .ensures) (not-false _ (c .if2 .left)))
 
 slice-aggregate-all-zero : tie.Need-slice-aggregate-all-zero Inv-loop μ-loop
@@ -81,7 +101,8 @@ returns-3 : tie.Need-returns-3 Inv-loop μ-loop
 returns-3 c =
     let a = c .before .before .before .before .before .before .before .before .before .before .args in
     let l = c .before .before .before .loop in
-    c .all-zero .ensures ∙ passing-all (now (a .image)) (now (a .table)) (now (a .state)) (a .count) (l .unmet) (l .i) (l .inv) (c .before .before .loop-test .left)
+    c .all-zero .ensures ∙ passing-all (now (a .image)) (now (a .table)) (now (a .state)) (a .count) (l .unmet) (l .i) (l .inv)
+    (c .before .before .loop-test .left)
 
 pub trees-good-spec : {M : Type 1} → statement M
 trees-good-spec =

@@ -23,7 +23,8 @@ returns-2 c =
     let a = c .before .before .before .before .before .before .before .before .before .args in
     let xs : List ℕ = imageFaults (now (a .image)) (now (a .table)) [] in
     rw (← c .before .before .state-length-fault .ensures, ← c .before .words-length-fault .ensures)
-    (c .first-of .ensures ∙ sym (after xs (c .before .before .state-length-fault .result ∷ c .before .words-length-fault .result ∷ []) (sym (c .before .before .before .before .image-fault .ensures) ∙ c .before .before .before .if1 .left)))
+    (c .first-of .ensures ∙ sym (after xs (c .before .before .state-length-fault .result ∷ c .before .words-length-fault .result ∷ [])
+    (sym (c .before .before .before .before .image-fault .ensures) ∙ c .before .before .before .if1 .left)))
 
 pub fresh-fault-spec : {M : Type 1} → statement M
 fresh-fault-spec =

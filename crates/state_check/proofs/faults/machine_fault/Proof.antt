@@ -25,12 +25,17 @@ returns-2 c =
     let ys : List ℕ = stateLengthFault (now (a .state)) ∷ stateFault (now (a .image)) (now (a .table)) (now (a .state)) ∷ [] in
     let e : c .before .before .before .image-fault .result ≡ firstOf xs = c .before .before .before .image-fault .ensures in
     let f : c .before .state-length-fault .result ≡ stateLengthFault (now (a .state)) = c .before .state-length-fault .ensures in
-    f ∙ sym (after xs ys (sym e ∙ c .before .before .if1 .left) ∙ found (stateLengthFault (now (a .state))) (stateFault (now (a .image)) (now (a .table)) (now (a .state)) ∷ []) (λ z. c .if2 .taken (f ∙ z)))
+    f ∙ sym (after xs ys (sym e ∙ c .before .before .if1 .left)
+    ∙ found (stateLengthFault (now (a .state))) (stateFault (now (a .image)) (now (a .table)) (now (a .state)) ∷ [])
+    (λ z. c .if2 .taken (f ∙ z)))
 
 state-fault-requires : tie.Need-state-fault-requires
 state-fault-requires c κs =
-    let a = c .before .before .before .before .before .before .before .args in
-    (sym (c .before .before .before .image-fault .ensures) ∙ c .before .before .if1 .left, state-length (now (a .state)) (sym (c .before .state-length-fault .ensures) ∙ c .if2 .left))
+    let a = c .before .before .before .before .before .before .before .args in (
+      sym (c .before .before .before .image-fault .ensures) ∙ c .before .before .if1 .left,
+      state-length (now (a .state))
+          (sym (c .before .state-length-fault .ensures) ∙ c .if2 .left),
+    )
 
 returns-3 : tie.Need-returns-3
 returns-3 c =
@@ -38,8 +43,11 @@ returns-3 c =
     let xs : List ℕ = imageFaults (now (a .image)) (now (a .table)) [] in
     let ys : List ℕ = stateLengthFault (now (a .state)) ∷ stateFault (now (a .image)) (now (a .table)) (now (a .state)) ∷ [] in
     let e : c .before .before .before .before .image-fault .result ≡ firstOf xs = c .before .before .before .before .image-fault .ensures in
-    let f : c .before .before .state-length-fault .result ≡ stateLengthFault (now (a .state)) = c .before .before .state-length-fault .ensures in
-    c .state-fault .ensures ∙ sym (after xs ys (sym e ∙ c .before .before .before .if1 .left) ∙ passed (stateLengthFault (now (a .state))) (stateFault (now (a .image)) (now (a .table)) (now (a .state)) ∷ []) (sym f ∙ c .before .if2 .left) ∙ last (stateFault (now (a .image)) (now (a .table)) (now (a .state))))
+    let f : c .before .before .state-length-fault .result ≡ stateLengthFault (now (a .state)) =
+    c .before .before .state-length-fault .ensures in
+    c .state-fault .ensures ∙ sym (after xs ys (sym e ∙ c .before .before .before .if1 .left)
+    ∙ passed (stateLengthFault (now (a .state))) (stateFault (now (a .image)) (now (a .table)) (now (a .state)) ∷ [])
+    (sym f ∙ c .before .if2 .left) ∙ last (stateFault (now (a .image)) (now (a .table)) (now (a .state))))
 
 pub machine-fault-spec : {M : Type 1} → statement M
 machine-fault-spec =

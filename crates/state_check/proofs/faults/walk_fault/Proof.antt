@@ -23,7 +23,8 @@ returns-2 c =
     let a = c .before .before .before .before .before .before .before .before .before .args in
     let xs : List ℕ = machineFaults (now (a .image)) (now (a .table)) (now (a .state)) in
     rw (← c .before .before .thread-fault .ensures, ← c .before .met-length-fault .ensures)
-    (c .first-of .ensures ∙ sym (after xs (c .before .before .thread-fault .result ∷ c .before .met-length-fault .result ∷ []) (sym (c .before .before .before .before .machine-fault .ensures) ∙ c .before .before .before .if1 .left)))
+    (c .first-of .ensures ∙ sym (after xs (c .before .before .thread-fault .result ∷ c .before .met-length-fault .result ∷ [])
+    (sym (c .before .before .before .before .machine-fault .ensures) ∙ c .before .before .before .if1 .left)))
 
 pub walk-fault-spec : {M : Type 1} → statement M
 walk-fault-spec =

@@ -10,7 +10,8 @@ use Rattle.state_check.proofs.form.well_formed.Tie as tie
 returns : tie.Need-returns
 returns c =
     let a = c .before .before .before .before .before .args in
-    sym (state-many (now (a .image)) (now (a .table)) (now (a .state)) (c .before .get8 .result) (c .before .get8 .ensures .0) (c .if1 .taken))
+    sym (state-many (now (a .image)) (now (a .table)) (now (a .state)) (c .before .get8 .result) (c .before .get8 .ensures .0)
+    (c .if1 .taken))
 
 threads-good-requires : tie.Need-threads-good-requires
 threads-good-requires c κs =
@@ -21,14 +22,25 @@ threads-good-requires c κs =
 trees-good-requires : tie.Need-trees-good-requires
 trees-good-requires c κs =
     let a = c .before .before .before .before .before .before .before .before .before .args in
-    let p = c .before .before .before .before .before .before .before .before .before .pre in
-    (passed (now (a .image)) (now (a .table)) [] (p .0) .0, c .before .before .before .count-labels .ensures, p .1, c .before .before .before .before .if1 .left)
+    let p = c .before .before .before .before .before .before .before .before .before .pre in (
+      passed (now (a .image)) (now (a .table)) [] (p .0) .0,
+      c .before .before .before .count-labels .ensures,
+      p .1,
+      c .before .before .before .before .if1 .left,
+    )
 
 returns-2 : tie.Need-returns-2
 returns-2 c =
     let a = c .before .before .before .before .before .before .before .before .before .before .args in
-    simp (c .trees-good .ensures, c .before .all-zero .ensures, c .before .before .locks-apart .ensures, c .before .before .before .threads-good .ensures)
-    (sym (state-few (now (a .image)) (now (a .table)) (now (a .state)) (c .before .before .before .before .before .before .get8 .result) (c .before .before .before .before .before .before .get8 .ensures .0) (c .before .before .before .before .before .if1 .left)))
+    simp (
+      c .trees-good .ensures,
+      c .before .all-zero .ensures,
+      c .before .before .locks-apart .ensures,
+      c .before .before .before
+          .threads-good .ensures,
+    )
+    (sym (state-few (now (a .image)) (now (a .table)) (now (a .state)) (c .before .before .before .before .before .before .get8 .result)
+    (c .before .before .before .before .before .before .get8 .ensures .0) (c .before .before .before .before .before .if1 .left)))
 
 pub well-formed-spec : {M : Type 1} → statement M
 well-formed-spec =

@@ -21,25 +21,39 @@ thread-at-requires c κs =
 lock-at-requires : tie.Need-lock-at-requires
 lock-at-requires c κs =
     let a = c .before .before .before .before .before .before .before .args in
-    let p = c .before .before .before .before .before .before .before .pre in
-    (rw (c .before .before .block-at .ensures) (block-below (now (a .image)) (now (a .table)) (p .0) (a .l .0) (omega arith)), p .0 .wholeTable)
+    let p = c .before .before .before .before .before .before .before .pre in (
+      rw (c .before .before .block-at .ensures) (block-below (now (a .image)) (now (a .table)) (p .0) (a .l .0) (omega arith)),
+      p .0 .wholeTable,
+    )
 
 holds-requires : tie.Need-holds-requires
 holds-requires c κs =
     let a = c .before .before .before .before .before .before .before .before .args in
     let p = c .before .before .before .before .before .before .before .before .pre in
-    rw (c .lock-at .ensures, c .before .before .before .block-at .ensures) (lock-below (now (a .image)) (now (a .table)) (p .0) (a .l .0) (omega arith))
+    rw (c .lock-at .ensures, c .before .before .before .block-at .ensures) (lock-below (now (a .image)) (now (a .table)) (p .0) (a .l .0)
+    (omega arith))
 
 kind-at-requires : tie.Need-kind-at-requires
 kind-at-requires c κs =
     let a = c .before .before .before .before .before .before .before .before .before .args in
-    let p = c .before .before .before .before .before .before .before .before .before .pre in
-    (rw (c .before .before .before .before .block-at .ensures) (block-below (now (a .image)) (now (a .table)) (p .0) (a .l .0) (omega arith)), p .0 .wholeTable)
+    let p = c .before .before .before .before .before .before .before .before .before .pre in (
+      rw (c .before .before .before .before .block-at .ensures) (block-below (now (a .image)) (now (a .table)) (p .0) (a .l .0)
+          (omega arith)),
+      p .0 .wholeTable,
+    )
 
 returns-2 : tie.Need-returns-2
 returns-2 c =
     let a = c .before .before .before .before .before .before .before .before .before .before .args in
-    simp (c .kind-at .ensures, c .before .holds .ensures, c .before .before .lock-at .ensures, c .before .before .before .same-thread .ensures, c .before .before .before .before .thread-at .ensures, c .before .before .before .before .before .block-at .ensures)
+    simp (
+      c .kind-at .ensures,
+      c .before .holds .ensures,
+      c .before .before .lock-at .ensures,
+      c .before .before .before .same-thread
+          .ensures,
+      c .before .before .before .before .thread-at .ensures,
+      c .before .before .before .before .before .block-at .ensures,
+    )
     (sym (place-is (now (a .image)) (now (a .table)) (a .t .0) (a .locks) (a .l .0) (omega arith)))
 
 pub place-ok-spec : {M : Type 1} → statement M

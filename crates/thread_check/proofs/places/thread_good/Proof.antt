@@ -11,19 +11,23 @@ use Rattle.thread_check.proofs.places.thread_good.Tie as tie
 returns : tie.Need-returns
 returns c =
     let a = c .before .before .before .before .before .before .args in
-    c .all-zero .ensures ∙ sym (thread-idle (now (a .image)) (now (a .table)) (a .t .0) (now (a .s)) (a .at) (sym (c .before .before .get16 .ensures) ∙ c .before .if1 .taken))
+    c .all-zero .ensures ∙ sym (thread-idle (now (a .image)) (now (a .table)) (a .t .0) (now (a .s)) (a .at)
+    (sym (c .before .before .get16 .ensures) ∙ c .before .if1 .taken))
 
 returns-2 : tie.Need-returns-2
 returns-2 c =
     let a = c .before .before .before .before .before .before .before .before .args in
     let own = c .before .before .get162 in
     let e : own .result ≡ 0 = none-held (own .result) (omega arith) (sym (c .before .number-held .ensures) ∙ c .if2 .taken) in
-    sym (thread-lockless (now (a .image)) (now (a .table)) (a .t .0) (now (a .s)) (a .at) (λ z. c .before .before .before .if1 .left (c .before .before .before .before .get16 .ensures ∙ z)) (sym (own .ensures) ∙ e))
+    sym (thread-lockless (now (a .image)) (now (a .table)) (a .t .0) (now (a .s)) (a .at)
+    (λ z. c .before .before .before .if1 .left (c .before .before .before .before .get16 .ensures ∙ z)) (sym (own .ensures) ∙ e))
 
 returns-3 : tie.Need-returns-3
 returns-3 c =
     let a = c .before .before .before .before .before .before .before .before .before .before .args in
-    sym (thread-untidy (now (a .image)) (now (a .table)) (a .t .0) (now (a .s)) (a .at) (λ e. c .before .before .before .before .before .if1 .left (c .before .before .before .before .before .before .get16 .ensures ∙ e)) (sym (c .before .running-tidy .ensures) ∙ not-true _ (c .if3 .taken)))
+    sym (thread-untidy (now (a .image)) (now (a .table)) (a .t .0) (now (a .s)) (a .at)
+    (λ e. c .before .before .before .before .before .if1 .left (c .before .before .before .before .before .before .get16 .ensures ∙ e))
+    (sym (c .before .running-tidy .ensures) ∙ not-true _ (c .if3 .taken)))
 
 places-ok-requires : tie.Need-places-ok-requires
 places-ok-requires c κs =
@@ -35,7 +39,10 @@ returns-4 : tie.Need-returns-4
 returns-4 c =
     let a = c .before .before .before .before .before .before .before .before .before .before .before .args in
     c .places-ok .ensures
-    ∙ sym (thread-runs (now (a .image)) (now (a .table)) (a .t .0) (now (a .s)) (a .at) (λ e. c .before .before .before .before .before .before .if1 .left (c .before .before .before .before .before .before .before .get16 .ensures ∙ e)) (sym (c .before .before .running-tidy .ensures) ∙ not-false _ (c .before .if3 .left)))
+    ∙ sym (thread-runs (now (a .image)) (now (a .table)) (a .t .0) (now (a .s)) (a .at)
+    (λ e. c .before .before .before .before .before .before .if1 .left
+    (c .before .before .before .before .before .before .before .get16 .ensures ∙ e)) (sym (c .before .before .running-tidy .ensures)
+    ∙ not-false _ (c .before .if3 .left)))
 
 pub thread-good-spec : {M : Type 1} → statement M
 thread-good-spec =

@@ -24,19 +24,26 @@ thread-of-requires : tie.Need-thread-of-requires Inv-loop μ-loop
 thread-of-requires c κs = tt
 
 thread-good-requires : tie.Need-thread-good-requires Inv-loop μ-loop
-thread-good-requires c κs = (c .before .before .before .before .before .before .pre .0, c .before .before .before .before .before .before .pre .1, omega arith)
+thread-good-requires c κs = (
+  c .before .before .before .before .before .before .pre .0,
+  c .before .before .before .before .before .before
+      .pre .1,
+  omega arith,
+)
 
 loop-again : tie.Need-loop-again Inv-loop μ-loop
 loop-again c =
     let a = c .before .before .before .before .before .before .before .args in
     let l = c .before .before .before .loop in
-    tested-next true (threadAtGood (now (a .image)) (now (a .table)) (now (a .state))) threadCount (l .t) (l .ok) (l .inv) (c .thread-good .result) (c .before .before .loop-test .taken) (c .thread-good .ensures ∙ rw (c .before .thread-of .ensures))
+    tested-next true (threadAtGood (now (a .image)) (now (a .table)) (now (a .state))) threadCount (l .t) (l .ok) (l .inv)
+    (c .thread-good .result) (c .before .before .loop-test .taken) (c .thread-good .ensures ∙ rw (c .before .thread-of .ensures))
 
 returns : tie.Need-returns Inv-loop μ-loop
 returns c =
     let a = c .before .before .before .before .before .args in
     let l = c .before .loop in
-    tested-all true (threadAtGood (now (a .image)) (now (a .table)) (now (a .state))) threadCount (l .t) (l .ok) (l .inv) (c .loop-test .left)
+    tested-all true (threadAtGood (now (a .image)) (now (a .table)) (now (a .state))) threadCount (l .t) (l .ok) (l .inv)
+    (c .loop-test .left)
 
 pub threads-good-spec : {M : Type 1} → statement M
 threads-good-spec =

@@ -26,8 +26,10 @@ loop-again c =
     let a = c .before .before .before .before .before .before .args in
     let l = c .before .before .before .loop in
     let here = c .before .is-present .result || eqb (c .get16 .result) 0 in
-    tested-next true (absentZero (drop (a .at) (now (a .s)))) registerCount (l .r) (l .ok) (l .inv) here (c .before .before .loop-test .taken)
-    (simp (c .get16 .ensures, c .before .is-present .ensures, c .before .before .before .before .get32 .ensures) (sym (absent-at (now (a .s)) (a .at) (l .r))))
+    tested-next true (absentZero (drop (a .at) (now (a .s)))) registerCount (l .r) (l .ok) (l .inv) here
+    (c .before .before .loop-test .taken)
+    (simp (c .get16 .ensures, c .before .is-present .ensures, c .before .before .before .before .get32 .ensures)
+    (sym (absent-at (now (a .s)) (a .at) (l .r))))
 
 returns : tie.Need-returns Inv-loop μ-loop
 returns c =

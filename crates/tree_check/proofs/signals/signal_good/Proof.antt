@@ -11,13 +11,19 @@ use Rattle.tree_check.proofs.signals.signal_good.Tie as tie
 returns : tie.Need-returns
 returns c =
     let a = c .before .before .before .before .before .before .args in
-    let e : c .before .index-of .result ≡ num16 (drop (a .at) (now (a .s))) = c .before .index-of .ensures ∙ rw (c .before .before .label-of .ensures) (c .before .before .before .get16 .ensures) in
+    let e : c .before .index-of .result ≡ num16 (drop (a .at) (now (a .s))) =
+    c .before .index-of .ensures ∙ rw (c .before .before .label-of .ensures) (c .before .before .before .get16 .ensures) in
     sym (signal-past (now (a .image)) (now (a .s)) (a .at) (omega arith))
 
 returns-2 : tie.Need-returns-2
 returns-2 c =
     let a = c .before .before .before .before .before .before .before .before .args in
-    simp (c .signal-tidy .ensures, c .before .entry-at .ensures, c .before .before .before .before .label-of .ensures, c .before .before .before .before .before .get16 .ensures) (sym (signal-at-label (now (a .image)) (now (a .s)) (a .at)))
+    simp (
+      c .signal-tidy .ensures,
+      c .before .entry-at .ensures,
+      c .before .before .before .before .label-of .ensures,
+      c .before .before .before .before .before .get16 .ensures,
+    ) (sym (signal-at-label (now (a .image)) (now (a .s)) (a .at)))
 
 pub signal-good-spec : {M : Type 1} → statement M
 signal-good-spec =

@@ -26,13 +26,16 @@ returns c =
 loop-holds : tie.Need-loop-holds Inv-loop μ-loop
 loop-holds c =
     let a = c .before .before .before .before .before .before .args in
-    tested-none (ltb (c .get82 .result) threadCount && c .before .all-zero .result) (signalAtGood (now (a .image)) (drop (a .at) (now (a .s)))) (c .before .before .before .get8 .result)
+    tested-none (ltb (c .get82 .result) threadCount && c .before .all-zero .result)
+    (signalAtGood (now (a .image)) (drop (a .at) (now (a .s)))) (c .before .before .before .get8 .result)
 
 loop-again : tie.Need-loop-again Inv-loop μ-loop
 loop-again c =
     let a = c .before .before .before .before .before .before .before .before .before .args in
     let l = c .before .before .loop in
-    tested-next (ltb (c .before .before .before .get82 .result) threadCount && c .before .before .before .before .all-zero .result) (signalAtGood (now (a .image)) (drop (a .at) (now (a .s)))) (c .before .before .before .before .before .before .get8 .result) (l .j) (l .ok) (l .inv) (c .signal-good .result) (c .before .loop-test .taken)
+    tested-next (ltb (c .before .before .before .get82 .result) threadCount && c .before .before .before .before .all-zero .result)
+    (signalAtGood (now (a .image)) (drop (a .at) (now (a .s)))) (c .before .before .before .before .before .before .get8 .result) (l .j)
+    (l .ok) (l .inv) (c .signal-good .result) (c .before .loop-test .taken)
     (c .signal-good .ensures ∙ sym (signal-at (now (a .image)) (now (a .s)) (a .at) (l .j)))
 
 returns-2 : tie.Need-returns-2 Inv-loop μ-loop
@@ -40,8 +43,10 @@ returns-2 c =
     let a = c .before .before .before .before .before .before .before .before .args in
     let l = c .before .loop in
     let n = c .before .before .before .before .before .get8 in
-    tested-all (ltb (c .before .before .get82 .result) threadCount && c .before .before .before .all-zero .result) (signalAtGood (now (a .image)) (drop (a .at) (now (a .s)))) (n .result) (l .j) (l .ok) (l .inv) (c .loop-test .left)
-    ∙ simp (c .before .before .before .all-zero .ensures, c .before .before .get82 .ensures .0) (sym (tree-few (now (a .image)) (now (a .s)) (a .at) (n .result) (n .ensures .0) (c .before .before .before .before .if1 .left)))
+    tested-all (ltb (c .before .before .get82 .result) threadCount && c .before .before .before .all-zero .result)
+    (signalAtGood (now (a .image)) (drop (a .at) (now (a .s)))) (n .result) (l .j) (l .ok) (l .inv) (c .loop-test .left)
+    ∙ simp (c .before .before .before .all-zero .ensures, c .before .before .get82 .ensures .0)
+    (sym (tree-few (now (a .image)) (now (a .s)) (a .at) (n .result) (n .ensures .0) (c .before .before .before .before .if1 .left)))
 
 pub tree-good-spec : {M : Type 1} → statement M
 tree-good-spec =

@@ -25,8 +25,10 @@ returns c =
     let b = now (c .before .before .before .before .before .before .before .args .state) in
     let l = c .before .before .before .loop in
     let t = c .before .before .before .before .before .thread-number .result in
-    found (c .before .before .before .before .before .before .before .pre) _ t _ (c .before .before .before .before .before .thread-number .ensures) (c .before .before .before .before .get8 .ensures .0)
-    (here (elsewhere b t) (c .before .before .before .before .get8 .result) (l .i) (l .inv) false (c .before .before .loop-test .taken) (rw (eq-eqb _ _ (c .if1 .taken))) refl)
+    found (c .before .before .before .before .before .before .before .pre) _ t _
+    (c .before .before .before .before .before .thread-number .ensures) (c .before .before .before .before .get8 .ensures .0)
+    (here (elsewhere b t) (c .before .before .before .before .get8 .result) (l .i) (l .inv) false (c .before .before .loop-test .taken)
+    (rw (eq-eqb _ _ (c .if1 .taken))) refl)
 
 loop-again : tie.Need-loop-again Inv-loop μ-loop
 unfolding elsewhere
@@ -34,14 +36,16 @@ loop-again c =
     let b = now (c .before .before .before .before .before .before .before .args .state) in
     let l = c .before .before .before .loop in
     let t = c .before .before .before .before .before .thread-number .result in
-    next (elsewhere b t) (c .before .before .before .before .get8 .result) (l .i) (l .inv) true (c .before .before .loop-test .taken) (rw (ne-eqb _ _ (c .if1 .left))) refl
+    next (elsewhere b t) (c .before .before .before .before .get8 .result) (l .i) (l .inv) true (c .before .before .loop-test .taken)
+    (rw (ne-eqb _ _ (c .if1 .left))) refl
 
 returns-2 : tie.Need-returns-2 Inv-loop μ-loop
 returns-2 c =
     let b = now (c .before .before .before .before .before .args .state) in
     let l = c .before .loop in
     let t = c .before .before .before .thread-number .result in
-    found (c .before .before .before .before .before .pre) _ t _ (c .before .before .before .thread-number .ensures) (c .before .before .get8 .ensures .0) (none (elsewhere b t) (c .before .before .get8 .result) (l .i) (l .inv) (c .loop-test .left))
+    found (c .before .before .before .before .before .pre) _ t _ (c .before .before .before .thread-number .ensures)
+    (c .before .before .get8 .ensures .0) (none (elsewhere b t) (c .before .before .get8 .result) (l .i) (l .inv) (c .loop-test .left))
 
 pub first-tree-spec : {M : Type 1} → statement M
 first-tree-spec =

@@ -13,8 +13,14 @@ use Rattle.trees.proofs.list.move_to_end.Tie as tie
 
 returns : tie.Need-returns
 returns c =
-    let p = c .before .before .before .before .before .before .before .before .before .before .before .before .before .before .before .before .before .before .before .before .before .pre in
-    tree-moved (p .0) _ _ _ (p .1) (c .before .before .before .before .before .before .before .before .before .before .before .before .before .before .before .before .before .before .get8 .ensures .0 ∙ p .0 .count) (c .before .before .before .before .before .before .before .before .before .before .before .before .before .before .copy .ensures) (c .before .before .before .before .before .before .before .before .before .before .before .remove-tree .ensures .0) (c .before .before .before .before .before .before .before .before .before .before .before .remove-tree .ensures .1) (c .before .before .before .before .before .before .copy2 .ensures) (c .before .before .put8 .ensures)
+    let p = c .before .before .before .before .before .before .before .before .before .before .before .before .before .before .before
+    .before .before .before .before .before .before .pre in
+    tree-moved (p .0) _ _ _ (p .1) (c .before .before .before .before .before .before .before .before .before .before .before .before
+    .before .before .before .before .before .before .get8 .ensures .0 ∙ p .0 .count)
+    (c .before .before .before .before .before .before .before .before .before .before .before .before .before .before .copy .ensures)
+    (c .before .before .before .before .before .before .before .before .before .before .before .remove-tree .ensures .0)
+    (c .before .before .before .before .before .before .before .before .before .before .before .remove-tree .ensures .1)
+    (c .before .before .before .before .before .before .copy2 .ensures) (c .before .before .put8 .ensures)
 
 returns-2 : tie.Need-returns-2
 returns-2 c =

@@ -7,7 +7,9 @@ use Rattle.trees.proofs.list.remove_tree.Tie as tie
 returns : tie.Need-returns
 returns c =
     let k = c .before .before .before .before .before .before .before .before .before .before .before .pre .0 in
-    tree-removed k _ (c .before .before .before .before .before .before .before .before .before .before .before .pre .1) _ _ (c .before .before .before .before .before .before .before .before .get8 .ensures .0 ∙ k .count) refl (c .before .before .before .before .before .before .remove .ensures) (c .before .before .put8 .ensures)
+    tree-removed k _ (c .before .before .before .before .before .before .before .before .before .before .before .pre .1) _ _
+    (c .before .before .before .before .before .before .before .before .get8 .ensures .0 ∙ k .count) refl
+    (c .before .before .before .before .before .before .remove .ensures) (c .before .before .put8 .ensures)
 
 pub remove-tree-spec : {M : Type 1} → statement M
 remove-tree-spec =

@@ -16,7 +16,8 @@ long : (c : tie.Start) → length (c .args .g .values) ≡ registerCount
 long c = search needs
 
 -- the tree's pending count
-counted : (c : tie.Start) → getD (now (c .args .state)) (treesPlace + treeSize * c .args .i + pendingCountPlace) 0 ≡ length (pendingAt (machineFrom (now (c .args .state))) (c .args .i))
+counted : (c : tie.Start) → getD (now (c .args .state)) (treesPlace + treeSize * c .args .i + pendingCountPlace) 0
+    ≡ length (pendingAt (machineFrom (now (c .args .state))) (c .args .i))
 counted c = pending-byte (c .pre .0) _ (c .pre .1) _ refl
 
 write-signal-requires : tie.Need-write-signal-requires
@@ -29,7 +30,11 @@ returns : tie.Need-returns
 returns c =
     let p = c .before .before .before .before .before .before .before .before .before .before .before .pre in
     let g = c .before .before .before .before .before .before .before .before .before .before .before .args .g in
-    signal-pushed (p .0) _ (p .1) _ _ (signalOf g) (value-sized g (long (c .before .before .before .before .before .before .before .before .before .before .before)) (p .3)) (c .before .before .before .before .before .before .before .before .get8 .ensures .0 ∙ counted (c .before .before .before .before .before .before .before .before .before .before .before)) (p .2) refl (c .before .before .before .before .before .before .write-signal .ensures) (c .before .before .put8 .ensures)
+    signal-pushed (p .0) _ (p .1) _ _ (signalOf g)
+    (value-sized g (long (c .before .before .before .before .before .before .before .before .before .before .before)) (p .3))
+    (c .before .before .before .before .before .before .before .before .get8 .ensures .0
+    ∙ counted (c .before .before .before .before .before .before .before .before .before .before .before)) (p .2) refl
+    (c .before .before .before .before .before .before .write-signal .ensures) (c .before .before .put8 .ensures)
 
 pub push-spec : {M : Type 1} → statement M
 push-spec =

@@ -11,7 +11,9 @@ use Rattle.trees.proofs.pending.take_oldest.Statement.{statement}
 use Rattle.trees.proofs.pending.take_oldest.Tie as tie
 
 -- the tree's pending count, and its limit
-counted : (c : tie.Start) → (getD (now (c .args .state)) (treesPlace + treeSize * c .args .i + pendingCountPlace) 0 ≡ length (pendingAt (machineFrom (now (c .args .state))) (c .args .i))) × (length (pendingAt (machineFrom (now (c .args .state))) (c .args .i)) ≤ 8)
+counted : (c : tie.Start) → (getD (now (c .args .state)) (treesPlace + treeSize * c .args .i + pendingCountPlace) 0
+    ≡ length (pendingAt (machineFrom (now (c .args .state))) (c .args .i)))
+    × (length (pendingAt (machineFrom (now (c .args .state))) (c .args .i)) ≤ 8)
 counted c = (pending-byte (c .pre .0) _ (c .pre .1) _ refl, pending-few (c .pre .0) _ (c .pre .1) _ refl)
 
 sub-remove : tie.Need-sub-remove
@@ -26,7 +28,9 @@ sub-put8 c = omega (arith, counted (c .before .before .before .before .before .b
 returns : tie.Need-returns
 returns c =
     let p = c .before .before .before .before .before .before .before .before .before .before .before .pre in
-    oldest-taken (p .0) _ (p .1) _ _ (c .before .before .before .before .before .before .before .before .get8 .ensures .0 ∙ counted (c .before .before .before .before .before .before .before .before .before .before .before) .0) (p .2) refl (c .before .before .before .before .before .before .remove .ensures) (c .before .before .put8 .ensures)
+    oldest-taken (p .0) _ (p .1) _ _ (c .before .before .before .before .before .before .before .before .get8 .ensures .0
+    ∙ counted (c .before .before .before .before .before .before .before .before .before .before .before) .0) (p .2) refl
+    (c .before .before .before .before .before .before .remove .ensures) (c .before .before .put8 .ensures)
 
 pub take-oldest-spec : {M : Type 1} → statement M
 take-oldest-spec =
