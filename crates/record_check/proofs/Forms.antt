@@ -1,22 +1,21 @@
 -- What the opcode of a record asks for, opcode by opcode.
 use mathlib.Core.Path.{_≡_, refl, ap, _∙_}
-use mathlib.Core.Bool.{Bool, true, false, cond, _&&_, and-true, and-false}
+use mathlib.Core.Bool.{Bool, true, false, _&&_, and-true, and-false}
 use mathlib.Core.Option.{Option, none, some}
-use mathlib.Core.List.{List, [], _∷_, _++_}
+use mathlib.Core.List.{List, []}
 use Prim.Native.Nat.{ℕ, _≤_, _<_}
 use native.Mathlib.Omega.{arith}
 use lib.Dec.{eqb, ltb}
-use lib.ListN.{take, drop}
-use borrow.Author.Tests.{le-leb, ne-eqb}
+use borrow.Author.Tests.{le-leb}
 use Rattle.rules.specs.Sizes.{operandCount}
-use Rattle.rules.specs.Codes.{exitCode}
 use Rattle.rules.specs.Image.{opcode, blockField, entry, operator, operands}
-use Rattle.rules.specs.Statements.{operationAt, assignmentOf, Other, others, otherIn, otherAt, otherOr, otherOf, statementOf, carried, usage}
+use Rattle.rules.specs.Statements.{operationAt, assignmentOf, others, otherAt, otherOf, statementOf, carried, usage}
 use Rattle.rules.specs.declared.statement.Operation.{Operation}
 use Rattle.rules.specs.declared.statement.Statement.{Statement}
-use Rattle.rules.specs.declared.statement.Statement.the-variants.{Assign, Exit}
+use Rattle.rules.specs.declared.statement.Statement.the-variants.{Assign}
 use Rattle.rules.specs.Check.{usageOk, otherOk, shapeOk}
 use Rattle.laws.specs.Heads.{few-by}
+use Rattle.image.specs.OtherRows.{NoRow, no-row}
 use Rattle.record_check.specs.Forms.{labelsOk, formOk, outlineOk}
 
 -- below n, in the block and of the entry
@@ -24,27 +23,9 @@ pub within : (below same direct : Bool) → (below && same && (below && direct))
 within true same direct = refl
 within false same direct = refl
 
--- none of these opcodes
-abbrev pub NoRow : ℕ → List Other → Type 0
-NoRow op [] = Unit {0}
-NoRow op (x ∷ xs) = (op ≡ x .opcode → ⊥) × NoRow op xs
-
-no-row : (r : List ℕ) (op : ℕ) (xs ys : List Other) → NoRow op xs → otherIn (xs ++ ys) op r ≡ otherIn ys op r
-no-row r op [] ys h = refl
-no-row r op (x ∷ xs) ys h = rw (ne-eqb op (x .opcode) (h .0)) (no-row r op xs ys (h .1))
-
 pub no-other : (r : List ℕ) → NoRow (opcode r) others → otherOk r ≡ false
 unfolding otherOk otherAt
 no-other r h = ap (λ (s : Option Statement). usageOk s (operator r) (operands r)) (no-row r (opcode r) others [] h)
-
--- what is not one of the first eight rows reads as EXIT
-pub else-exits : (r : List ℕ) → NoRow (opcode r) (take 8 others) → otherOf r ≡ Exit
-unfolding otherAt
-else-exits r h = ap otherOr (no-row r (opcode r) (take 8 others) (drop 8 others) h) ∙ last (eqb (opcode r) exitCode)
-  where
-    last : (b : Bool) → otherOr (cond b (some Exit) none) ≡ Exit
-    last true = refl
-    last false = refl
 
 module _ (image r : List ℕ) where
   abbrev found : Option Operation

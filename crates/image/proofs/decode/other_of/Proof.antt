@@ -2,7 +2,7 @@ use Rattle.rules.specs.Statements.{otherAt}
 use mathlib.Core.Path.{sym}
 use mathlib.Core.Logic.{⊎-elim, inl, inr}
 use borrow.Author.Needs.{needs}
-use Rattle.image.proofs.Forms.{else-exits}
+use Rattle.image.specs.OtherRows.{else-exits}
 use Rattle.image.proofs.decode.other_of.Statement.{statement}
 use Rattle.image.proofs.decode.other_of.Tie as tie
 
