@@ -14,12 +14,13 @@ use Rattle.rules.specs.Bytes.{num16, le16, part, isZeros, blocks, pad, chunks, 
 use Rattle.rules.specs.Machine.{Machine, idle, threadAt}
 use Rattle.rules.specs.Encoding.{noTree, threadBytes, threadFrom, treeBytes, treeFrom, encode, wordsFrom, machineFrom}
 use Rattle.rules.specs.WellFormed.{threadTidy, treeTidy, threadAtTidy, treeAtTidy, stateTidy}
+use Rattle.fields.specs.Runs.{all-at, all-holds}
 use Rattle.fields.specs.Each.{each-at}
 use Rattle.fields.specs.Put.{part-drop}
 use Rattle.fields.specs.Blocks.{blocks-append, chunks-blocks, pad-full, pad-split}
 use Rattle.encoding.specs.Sized.{SizedThread, SizedTree, Sized}
 use Rattle.encoding.specs.Lengths.{length-thread, length-tree, length-words}
-use Rattle.encoding.specs.Tests.{both, both-hold, all-at, all-hold, zeros-part}
+use Rattle.encoding.specs.Tests.{both, both-hold, zeros-part}
 use Rattle.encoding.specs.Runs.{length-chunks, each-chunks, blocks-chunks, padded-forth, padded-tail, byte-forth, glue}
 use Rattle.encoding.specs.Numbers.{nums-back, AreBytes, bytes-drop, nums-forth}
 use Rattle.encoding.specs.Layout.{header, slots, encode-slots, length-before, count-back, thread-on, tree-on}
@@ -77,9 +78,9 @@ state-read state l e =
     let v = both threads count (u .0) in
     let h : n ≤ treeCount = leb-true n treeCount (v .1) in
     record {
-      threads = λ i li. rw drop-drop (all-at (threadAtTidy state) 0 threadCount (v .0) i (omega arith) (omega arith));
+      threads = λ i li. rw drop-drop (all-at (threadAtTidy state) 0 threadCount i (v .0) (omega arith) (omega arith));
       few = h;
-      each = λ i li. rw drop-drop (all-at (treeAtTidy state) 0 n (u .1) i (omega arith) (omega arith));
+      each = λ i li. rw drop-drop (all-at (treeAtTidy state) 0 n i (u .1) (omega arith) (omega arith));
       zeros = rw part-drop (zeros-part state (treesPlace + treeSize * n) (treeSize * (treeCount - n)) (omega arith) (t .1));
     }
 
@@ -150,6 +151,6 @@ module _ (s : Machine) (z : Sized s) where
   unfolding stateTidy
   machine-tidy =
       let n = length (s .trees) in
-      let threads = all-hold (threadAtTidy (encode s)) 0 threadCount (λ t l h. thread-at-tidy t (omega arith)) in
-      let trees = all-hold (treeAtTidy (encode s)) 0 n (λ i l h. tree-at-tidy i (omega arith)) in
+      let threads = all-holds (threadAtTidy (encode s)) 0 threadCount (λ t l h. thread-at-tidy t (omega arith)) in
+      let trees = all-holds (treeAtTidy (encode s)) 0 n (λ i l h. tree-at-tidy i (omega arith)) in
       rw count-back (both-hold _ _ (both-hold _ _ (both-hold _ _ threads (le-leb n treeCount (z .trees))) trees) tail-zeros)

@@ -9,14 +9,14 @@ use lib.Seq.{take-at, drop-drop, getD-drop}
 use Rattle.rules.specs.Sizes.{treeCount, pendingCount, signalSize, signalsPlace, treeSize, treesPlace}
 use Rattle.rules.specs.Bytes.{part, blocks, pad}
 use Rattle.rules.specs.Machine.{Signal, Tree, Machine}
-use Rattle.rules.specs.Encoding.{noSignal, noTree, signalBytes, signalFrom, treeBytes, treeFrom, encode}
+use Rattle.rules.specs.Encoding.{noSignal, noTree, signalBytes, signalFrom, treeBytes, encode}
 use Rattle.fields.specs.Each.{Each, each-at}
 use Rattle.fields.specs.Put.{put, length-put, put-whole, put-after, part-after, length-part}
 use Rattle.fields.specs.Filled.{removeAt, blocks-push, blocks-remove}
 use Rattle.encoding.specs.Sized.{SizedSignal, SizedTree}
 use Rattle.encoding.specs.Lengths.{length-signal, length-tree}
 use Rattle.encoding.specs.Layout.{tree-on}
-use Rattle.encoding.specs.Trees.{no-signal, signal-back, tree-back, signal-at, tree-thread-back, pending-back}
+use Rattle.encoding.specs.Trees.{no-signal, signal-back, signal-at, tree-thread-back, pending-back}
 use Rattle.encoding.specs.TreeStores.{withTrees, tree-open, tree-close, tree-put, tree-part}
 
 -- a tree with one more signal, a tree without its oldest one, and a tree on another thread
@@ -134,11 +134,6 @@ module _ (s : Machine) (i : ℕ) {b : List ℕ} (e : b ≡ encode s) (l : length
       let x = getD (s .trees) i noTree in
       let d = tree-on s i at l h ea in
       rw (e, d .1) (take-at (treeBytes x) (d .0) treeSize (length-tree x))
-
-  pub tree-is : Each SizedTree (s .trees) → treeFrom (drop at b) ≡ getD (s .trees) i noTree
-  tree-is z =
-      let d = tree-on s i at l h ea in
-      rw (e, d .1) (tree-back (getD (s .trees) i noTree) (each-at SizedTree (s .trees) i noTree z h) (d .0))
 
   pub signal-on : Each SizedTree (s .trees) → (k : ℕ) → k < length (getD (s .trees) i noTree .pending)
       → (r : List ℕ) × (drop (at + (2 + signalSize * k)) b ≡ signalBytes (getD (getD (s .trees) i noTree .pending) k noSignal) ++ r)

@@ -3,19 +3,16 @@ use mathlib.Core.Path.{_≡_, refl, sym, _∙_}
 use mathlib.Core.List.{List, []}
 use Prim.Native.Nat.{ℕ, _+_, _*_, _≤_, _<_}
 use native.Mathlib.Omega.{arith}
-use lib.ListN.{length, getD, drop, set, length-set}
+use lib.ListN.{length, set, length-set}
 use Rattle.rules.specs.Sizes.{threadCount, blockCount, wordCount, wordTotal, threadSize, wordsSize, threadsPlace}
-use Rattle.rules.specs.Bytes.{num16, le16, blocks, pad}
+use Rattle.rules.specs.Bytes.{le16, blocks, pad}
 use Rattle.rules.specs.Machine.{ThreadState, idle, Machine, threadAt}
-use Rattle.rules.specs.Encoding.{threadBytes, threadFrom, encode}
+use Rattle.rules.specs.Encoding.{threadBytes, encode}
 use Rattle.fields.specs.Each.{each-at, each-set}
 use Rattle.fields.specs.Put.{put, put-whole}
-use Rattle.fields.specs.Blocks.{pad-full, block-put, block-drop}
+use Rattle.fields.specs.Blocks.{pad-full, block-put}
 use Rattle.encoding.specs.Sized.{SizedThread, Sized}
 use Rattle.encoding.specs.Lengths.{length-thread, length-words}
-use Rattle.encoding.specs.Numbers.{num16-le16}
-use Rattle.encoding.specs.Layout.{thread-on}
-use Rattle.encoding.specs.Threads.{thread-back}
 
 abbrev pub withWord : Machine → ℕ → ℕ → Machine
 withWord s n v = record { words = set (s .words) n v; threads = s .threads; trees = s .trees }
@@ -59,13 +56,6 @@ module _ (s : Machine) where
       rw (pad-full 0 wordTotal (s .words) l, pad-full 0 wordTotal (set (s .words) n v) l′)
       (block-put le16 2 (λ x. refl) 0 [] _ (s .words) (2 * n) n 0 (le16 v) v (omega arith) (omega arith) (omega arith) (put-whole _ _ refl))
 
-  pub word-get : (n : ℕ) → length (s .words) ≡ blockCount * wordCount → n < blockCount * wordCount
-      → num16 (drop (2 * n) (encode s)) ≡ getD (s .words) n 0
-  unfolding encode
-  word-get n l h =
-      rw (pad-full 0 wordTotal (s .words) l, block-drop le16 2 (λ x. refl) 0 [] _ (s .words) (2 * n) n (omega arith) (omega arith))
-      (num16-le16 _ _)
-
   -- a store inside thread t's record that makes it the record of w
   pub thread-inside : (t at j : ℕ) (a : List ℕ) (w : ThreadState) → length (s .threads) ≡ threadCount → t < threadCount
       → at ≡ wordsSize + threadSize * t + j
@@ -84,19 +74,8 @@ module _ (s : Machine) where
       thread-inside t (threadsPlace + threadSize * t) 0 (threadBytes w) w l h (omega arith) (omega (arith, length-thread w))
       (put-whole (threadBytes (threadAt s t)) (threadBytes w) (length-thread (threadAt s t) ∙ sym (length-thread w)))
 
-  pub thread-get : (t : ℕ) → Sized s → t < threadCount → threadFrom (drop (wordsSize + threadSize * t) (encode s)) ≡ threadAt s t
-  thread-get t z h =
-      let d = thread-on s t (threadsPlace + threadSize * t) (z .threads) h refl in
-      rw (d .1) (thread-back (threadAt s t) (thread-at-sized s t z h) (d .0))
-
 -- the same along equations: what a run of calls leaves and answers
 module _ (s : Machine) (z : Sized s) {b : List ℕ} (e : b ≡ encode s) where
-  pub word-is : (n : ℕ) {v : ℕ} → n < blockCount * wordCount → v ≡ num16 (drop (2 * n) b) → v ≡ getD (s .words) n 0
-  word-is n h k = k ∙ rw e (word-get s n (z .words) h)
-
-  pub thread-is : (t : ℕ) {w : ThreadState} → t < threadCount → w ≡ threadFrom (drop (wordsSize + threadSize * t) b) → w ≡ threadAt s t
-  thread-is t h k = k ∙ rw e (thread-get s t z h)
-
   pub word-then : (n v : ℕ) {b′ : List ℕ} → n < blockCount * wordCount → b′ ≡ put b (2 * n) (le16 v) → b′ ≡ encode (withWord s n v)
   word-then n v h k = k ∙ rw e (word-put s n v (z .words) h)
 

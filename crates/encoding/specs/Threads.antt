@@ -14,11 +14,12 @@ use Rattle.rules.specs.Bytes.{num16, num32, le16, le32, part, isZeros, blocks, 
 use Rattle.rules.specs.Machine.{Job, ThreadState, idle, running}
 use Rattle.rules.specs.Encoding.{presence, valueOr0, registersFrom, threadRaw, threadBytes, jobFrom, threadFrom}
 use Rattle.rules.specs.WellFormed.{absentZero, runningTidy, threadTidy}
+use Rattle.fields.specs.Runs.{all-at, all-holds}
 use Rattle.fields.specs.Put.{part-at, part-drop}
 use Rattle.fields.specs.Tests.{are-zeros}
 use Rattle.fields.specs.Blocks.{blocks-append, length-blocks, length-pad, pad-full, pad-split}
 use Rattle.encoding.specs.Sized.{SizedJob, SizedThread}
-use Rattle.encoding.specs.Tests.{both, both-hold, all-at, all-hold, zeros-part}
+use Rattle.encoding.specs.Tests.{both, both-hold, zeros-part}
 use Rattle.encoding.specs.Runs.{length-chunks, chunks-at, padded-forth, padded-tail, byte-forth, glue}
 use Rattle.encoding.specs.Numbers.{num16-le16, num32-le32, nums-back, AreBytes, bytes-drop, num16-forth, num-forth, num32-forth}
 use Rattle.encoding.specs.Numbers.{nums-forth}
@@ -125,7 +126,7 @@ running-read b l e =
       few = h;
       zeros = rw part-drop (zeros-part b (5 + 2 * n) (2 * (returnCount - n)) (omega arith) (v .1));
       present = ltb-true p (2 ^ registerCount) (u .1);
-      absent = λ r lr. all-at (absentZero b) 0 registerCount (t .1) r (omega arith) (omega arith);
+      absent = λ r lr. all-at (absentZero b) 0 registerCount r (t .1) (omega arith) (omega arith);
     }
 
 -- the registers of a record give its presence set and its values
@@ -242,7 +243,7 @@ module _ (locks : ℕ) (j : Job) (z : SizedJob j) (q : List ℕ) where
       rw (count-back, present-back)
       (both-hold _ _ (both-hold _ _ (both-hold _ _ (le-leb n returnCount (z .returns)) returns-tidy)
       (lt-ltb (presence (j .registers)) (2 ^ registerCount) p))
-      (all-hold (absentZero b) 0 registerCount (λ r l h. absent-tidy r (omega arith))))
+      (all-holds (absentZero b) 0 registerCount (λ r l h. absent-tidy r (omega arith))))
 
 idle-zeros : (q : List ℕ) → isZeros (part (threadBytes idle ++ q) locksPlace (threadSize - locksPlace)) ≡ true
 idle-zeros q = rw (

@@ -14,13 +14,14 @@ use Rattle.rules.specs.Bytes.{num16, le16, part, isZeros, blocks, pad, chunks, 
 use Rattle.rules.specs.Machine.{Signal, Tree}
 use Rattle.rules.specs.Encoding.{noSignal, noTree, signalBytes, signalFrom, treeBytes, treeFrom}
 use Rattle.rules.specs.WellFormed.{signalTidy, signalAtTidy, treeTidy}
+use Rattle.fields.specs.Runs.{all-at, all-holds}
 use Rattle.fields.specs.Put.{part-drop}
 use Rattle.fields.specs.Each.{each-at}
 use Rattle.fields.specs.Blocks.{blocks-append, chunks-blocks, length-pad, pad-split, block-drop}
 use Rattle.fields.specs.Filled.{pad-at}
 use Rattle.encoding.specs.Sized.{SizedSignal, SizedTree}
 use Rattle.encoding.specs.Lengths.{length-signal}
-use Rattle.encoding.specs.Tests.{both, both-hold, all-at, all-hold, zeros-part}
+use Rattle.encoding.specs.Tests.{both, both-hold, zeros-part}
 use Rattle.encoding.specs.Runs.{length-chunks, each-chunks, padded-forth, padded-tail, byte-forth, glue}
 use Rattle.encoding.specs.Numbers.{num16-le16, nums-back, AreBytes, bytes-drop, num16-forth, num-forth}
 
@@ -98,7 +99,7 @@ tree-read b l e =
     let h : n ≤ pendingCount = leb-true n pendingCount (u .0) in
     record {
       few = h;
-      each = λ j lj. rw drop-drop (all-at (signalAtTidy b) 0 n (u .1) j (omega arith) (omega arith));
+      each = λ j lj. rw drop-drop (all-at (signalAtTidy b) 0 n j (u .1) (omega arith) (omega arith));
       zeros = rw part-drop (zeros-part b (signalsPlace + signalSize * n) (signalSize * (pendingCount - n)) (omega arith) (t .1));
     }
 
@@ -176,6 +177,6 @@ unfolding treeTidy
 tree-tidy x z q =
     let n = length (x .pending) in
     let b : List ℕ = treeBytes x ++ q in
-    let signals : allFrom (signalAtTidy b) 0 n ≡ true = all-hold (signalAtTidy b) 0 n (λ j l h. signal-at-tidy x z q j (omega arith)) in
+    let signals : allFrom (signalAtTidy b) 0 n ≡ true = all-holds (signalAtTidy b) 0 n (λ j l h. signal-at-tidy x z q j (omega arith)) in
     rw pending-back (both-hold (leb n pendingCount && allFrom (signalAtTidy b) 0 n) _
     (both-hold (leb n pendingCount) _ (le-leb n pendingCount (z .count)) signals) (tail-zeros x z q))

@@ -8,7 +8,7 @@ use lib.ListN.{length}
 use borrow.Author.Tests.{eqb-true, leb-true}
 use Rattle.rules.specs.Sizes.{eventCount, eventSize}
 use Rattle.rules.specs.Calls.{eventsLengthFault, eventFault, answersLengthFault}
-use Rattle.image_check.specs.Faults.{refusal-none}
+use Rattle.laws.specs.Faults.{refusal-zero}
 use Rattle.laws.specs.Logic.{and-both}
 
 -- numbers 7 to 9
@@ -24,5 +24,5 @@ pub counted : (s : List ℕ) → eventsLengthFault s ≡ 0 → Counted s
 unfolding eventsLengthFault
 counted s e =
     let k = and-both (eqb (length s) (eventSize * (length s / eventSize))) (leb (length s / eventSize) eventCount)
-    (refusal-none _ 7 0 (omega arith) e) in
+    (refusal-zero _ 7 0 (omega arith) e) in
     record { whole = eqb-true _ _ (k .0); few = leb-true _ eventCount (k .1) }

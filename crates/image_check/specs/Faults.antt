@@ -2,14 +2,15 @@
 use mathlib.Core.Path.{_≡_, refl}
 use mathlib.Core.Bool.{Bool, true, false, cond}
 use mathlib.Core.List.{List, [], _∷_, _++_}
-use Prim.Native.Nat.{ℕ, zero, suc, _<_}
+use Prim.Native.Nat.{ℕ, zero, suc}
 use native.Mathlib.Omega.{arith}
 use lib.Dec.{eqb}
 use lib.ListN.{length}
 use borrow.Author.Tests.{eqb-true, eq-eqb, ne-eqb}
 use Rattle.rules.specs.Sizes.{blockCount, tableSize}
 use Rattle.rules.specs.Bytes.{allFrom}
-use Rattle.rules.specs.Check.{rowOk, refusal, firstOf, tableLengthFault, tableFault}
+use Rattle.rules.specs.Check.{rowOk, firstOf, tableLengthFault, tableFault}
+use Rattle.laws.specs.Faults.{refusal-zero}
 use Rattle.fields.specs.Runs.{none-bad}
 
 -- ---- the first refusal of a list
@@ -41,13 +42,9 @@ then (x ∷ xs) ys = go (eqb x 0) refl (then xs ys)
 
 -- ---- a refusal that does not apply
 
-pub refusal-none : (ok : Bool) (number place : ℕ) → 0 < number → refusal ok number place ≡ 0 → ok ≡ true
-refusal-none true number place h e = refl
-refusal-none false number place h e = absurd (omega arith)
-
 pub table-length : (table : List ℕ) → tableLengthFault table ≡ 0 → length table ≡ tableSize
 unfolding tableLengthFault
-table-length table e = eqb-true (length table) tableSize (refusal-none (eqb (length table) tableSize) 2 0 (omega arith) e)
+table-length table e = eqb-true (length table) tableSize (refusal-zero (eqb (length table) tableSize) 2 0 (omega arith) e)
 
 -- number 3 does not apply where no row is out of range
 pub rows-pass : (table : List ℕ) → allFrom (rowOk table) 0 blockCount ≡ true → tableFault table ≡ 0

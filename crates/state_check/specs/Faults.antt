@@ -9,7 +9,8 @@ use borrow.Author.Tests.{eqb-true, eq-eqb, ne-eqb}
 use Rattle.rules.specs.Sizes.{stateSize}
 use Rattle.rules.specs.Check.{firstOf, imageFaults}
 use Rattle.rules.specs.Calls.{stateLengthFault, stateFault}
-use Rattle.image_check.specs.Faults.{then, refusal-none}
+use Rattle.laws.specs.Faults.{refusal-zero}
+use Rattle.image_check.specs.Faults.{then}
 
 -- numbers 1 to 6
 abbrev pub machineFaults : List ℕ → List ℕ → List ℕ → List ℕ
@@ -17,7 +18,7 @@ machineFaults image table state = imageFaults image table (stateLengthFault stat
 
 pub state-length : (state : List ℕ) → stateLengthFault state ≡ 0 → length state ≡ stateSize
 unfolding stateLengthFault
-state-length state e = eqb-true (length state) stateSize (refusal-none (eqb (length state) stateSize) 5 0 (omega arith) e)
+state-length state e = eqb-true (length state) stateSize (refusal-zero (eqb (length state) stateSize) 5 0 (omega arith) e)
 
 -- one of the refusals xs applies, or ys decide
 module _ (xs ys : List ℕ) where

@@ -1,16 +1,12 @@
 -- Bytes that are the encoding of the machine that they say.
-use mathlib.Core.Path.{_≡_, sym}
-use mathlib.Core.Bool.{true}
+use mathlib.Core.Path.{_≡_}
 use mathlib.Core.List.{List}
 use Prim.Native.Nat.{ℕ}
-use lib.ListN.{length, getD}
-use Rattle.rules.specs.Sizes.{stateSize}
+use lib.ListN.{getD}
 use Rattle.rules.specs.Machine.{Signal, Tree, Machine}
 use Rattle.rules.specs.Encoding.{noTree, encode, machineFrom}
-use Rattle.rules.specs.WellFormed.{stateTidy}
 use Rattle.encoding.specs.Sized.{Sized}
-use Rattle.encoding.specs.Numbers.{AreBytes}
-use Rattle.encoding.specs.Machines.{machine-back, machine-forth, machine-sized}
+use Rattle.encoding.specs.Machines.{machine-back}
 use Rattle.encoding.specs.Encoded.{Canonical, encodes, encoded-canonical}
 
 abbrev pub Canon : List ℕ → Type 0
@@ -29,7 +25,3 @@ module _ (s : Machine) (z : Sized s) {b : List ℕ} (e : b ≡ encode s) where
 
   pub canon : Canon b
   canon = encoded-canonical b s (encodes b s e z)
-
--- bytes that pass the tests are those of the machine that they say
-pub canon-tidy : (b : List ℕ) → AreBytes b → length b ≡ stateSize → stateTidy b ≡ true → Canon b
-canon-tidy b h l e = canon (machineFrom b) (machine-sized b l e) (sym (machine-forth b h l e))
