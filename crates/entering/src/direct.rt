@@ -55,7 +55,9 @@ pub fn call(
         Passage::Trap(reason) => trapped(image, table, state, t, w, reason),
         Passage::Wait(lock) => Answer::Waiting(lock),
         Passage::Go(lock) => {
-            let next = w.call(label_a(r), label_b(r), values, operand_count(r));
+            let to = label_a(r);
+            let back = label_b(r);
+            let next = w.call(to, back, values, operand_count(r));
             write_thread(state, t, next.hold(lock));
             Answer::Moved
         }
