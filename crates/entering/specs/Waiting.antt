@@ -1,20 +1,18 @@
 -- Whom a thread waits for, by the lock that its step asks for.
-use mathlib.Core.Path.{_≡_, refl, ap, _∙_, subst}
+use mathlib.Core.Path.{_≡_, refl, ap, _∙_, subst, sym}
 use mathlib.Core.Bool.{Bool, true, false, cond}
 use mathlib.Core.Option.{Option, none, some}
 use mathlib.Core.List.{List, [], _∷_}
-use Prim.Native.Nat.{ℕ, suc, _≤_, _<_}
-use native.Mathlib.Omega.{arith}
+use Prim.Native.Nat.{ℕ, _<_}
 use lib.Dec.{eqb}
 use borrow.Author.Tests.{eqb-true}
-use lib.ListN.{length, set}
+use lib.ListN.{length}
 use Rattle.rules.specs.Sorts
-use Rattle.rules.specs.Sizes.{blockCount}
+use Rattle.rules.specs.Sizes.{lockCount, threadCount}
 use Rattle.rules.specs.Codes.{sendDirectCode, callCode}
-use Rattle.rules.specs.Bytes.{has}
 use Rattle.rules.specs.Image.{opcode, operator, recordAt, labelA, labelB, Row, rowAt}
 use Rattle.rules.specs.Statements.{operationAt, Other, others, otherIn, otherAt, otherOr, statementBy, statementOf, dataOf, roleA, roleB}
-use Rattle.rules.specs.Machine.{Signal, Job, ThreadState, Machine, idle, running, threadAt, locksOf, first}
+use Rattle.rules.specs.Machine.{Signal, Job, ThreadState, Machine, idle, running, threadAt, first}
 use Rattle.rules.specs.Encoding.{machineFrom}
 use Rattle.rules.specs.Events.{step}
 use Rattle.rules.specs.Effects.{Got, trap, got, Next, onA, onB, intoA, callA, back, Going, Outcome, ends, goes, outcome}
@@ -23,41 +21,52 @@ use Rattle.rules.specs.Walk.{asked, holder, awaits}
 use Rattle.rules.specs.declared.sorts.Lock as sorts
 use Rattle.rules.specs.declared.statement.Role.{Role}
 use Rattle.rules.specs.declared.statement.Role.the-variants.{Unused, Inner, Direct, Local, Buffered}
+use Rattle.rules.specs.declared.sorts.Thread as sorts-thread
 use Rattle.rules.specs.declared.statement.Operation.{Operation}
 use Rattle.rules.specs.declared.statement.Statement.{Statement}
 use Rattle.rules.specs.declared.statement.Statement.the-variants.{SendDirect, Call}
 use Rattle.rules.specs.declared.answer.Answer.{Answer}
-use Rattle.rules.specs.declared.answer.Answer.the-variants.{Waiting, Moved}
 use Rattle.laws.specs.Roles.{Leads, Refers, refers}
+use Rattle.laws.specs.Logic.{never}
 use Rattle.step_laws.specs.Events.{reply, no-tree}
 use Rattle.step_laws.specs.Running.{effect, traps-by, exits-by, moves-by}
-use Rattle.threads.specs.Whole.{whole}
 use Rattle.threads.specs.Threads.{jobOf}
 use Rattle.threads.specs.declared.thread.ThreadState as State
+use Rattle.state.specs.Locks.{holderOf, holder-held}
+use Rattle.state.specs.declared.locks.Holder.{Holder}
+use Rattle.state.specs.declared.locks.Holder.the-variants.{Held, Free}
+use Rattle.walk_laws.specs.Waits.{awaits-inside}
 use Rattle.step_ready.specs.Ready.{Ready}
 use Rattle.step_ready.specs.At.{At, tree}
-use Rattle.entering.specs.Entering.{Passes}
+use Rattle.entering.specs.Entering.{Passes, Enters}
 use Rattle.entering.specs.Starting.{FirstOf, start-waiting, start-running}
 use Rattle.entering.specs.declared.passage.Passage.{Passage}
-use Rattle.entering.specs.declared.passage.Passage.the-variants.{Trap, Ask}
+use Rattle.entering.specs.declared.passage.Passage.the-variants.{Trap, Wait, Go}
+use Rattle.entering.specs.declared.start.First.{First}
 use Rattle.entering.specs.declared.start.First.the-variants as found
 use Rattle.entering.specs.declared.waits.Wanted.{Wanted}
 use Rattle.entering.specs.declared.waits.Wanted.the-variants.{Lock, Nothing}
 use Rattle.entering.specs.declared.waits.Waits.{Waits}
 use Rattle.entering.specs.declared.waits.Waits.the-variants.{For, Nobody}
 
--- the lock that a passage asks for
+-- the lock that a passage waits for
 abbrev pub lockOf : Passage → Wanted
 lockOf (Trap k) = Nothing
-lockOf (Ask l) = Lock l
+lockOf (Wait l) = Lock l
+lockOf (Go l) = Nothing
+
+-- and the first signal of an idle thread
+abbrev pub firstLock : First → Wanted
+firstLock found.Nothing = Nothing
+firstLock (found.Wait l) = Lock l
+firstLock (found.Go i l) = Nothing
 
 -- the lock that the answer to a step of thread t says is waited for
 abbrev pub waitedFor : List ℕ → List ℕ → Machine → ℕ → Option ℕ
 waitedFor image table s t = asked (react (rulesBy image table) s (step t) .answer)
 
--- a lock that is wanted is waited for where another thread holds it
 abbrev pub Wants : List ℕ → List ℕ → Machine → ℕ → Wanted → Type 0
-Wants image table s t (Lock l) = (l .0 < blockCount) × (waitedFor image table s t ≡ cond (held (l .0) (set (s .threads) t idle)) (some (l .0)) none)
+Wants image table s t (Lock l) = (l .0 < lockCount) × (waitedFor image table s t ≡ some (l .0))
 Wants image table s t Nothing = waitedFor image table s t ≡ none
 
 abbrev pub waitsOf : Option ℕ → Waits
@@ -67,15 +76,15 @@ waitsOf (some u) = For (Sorts.thread u)
 answered : {r : Reply} (s : Machine) (a : Answer) → r ≡ reply s a → asked (r .answer) ≡ asked a
 answered s a e = ap (λ (q : Reply). asked (q .answer)) e
 
-by-held : (h : Bool) (l : sorts.Lock) → asked (cond h (Waiting l) Moved) ≡ cond h (some (l .0)) none
-by-held true l = refl
-by-held false l = refl
-
 -- ---- direct SEND and CALL
 
-pub wants-passage : (image table : List ℕ) (s : Machine) (t locks : ℕ) (k : Job) (p : Passage) → Passes image table s t locks k p → Wants image table s t (lockOf p)
-wants-passage image table s t locks k (Trap x) h = answered _ _ h
-wants-passage image table s t locks k (Ask l) h = (h .0, answered _ _ (h .1) ∙ by-held (held (l .0) (set (s .threads) t idle)) l)
+pub wants-passage : {image table b : List ℕ} {t : ℕ} {w : State.ThreadState} {r returns vs : List ℕ} {p : Passage} → Enters image table b t w r returns vs p → Wants image table (machineFrom b) t (lockOf p)
+wants-passage {image} {table} {b} {t} {w} {p = p} e = case _ p (e .passes)
+  where
+    case : (k : Job) (p : Passage) → Passes image table (machineFrom b) t (w .locks) k p → Wants image table (machineFrom b) t (lockOf p)
+    case k (Trap x) h = answered _ _ h
+    case k (Wait l) h = (h .0, answered _ _ (h .1))
+    case k (Go l) h = answered _ _ (h .1)
 
 -- ---- any other statement asks for no lock
 
@@ -168,43 +177,37 @@ module _ (R : Rules) (s : Machine) (t l : ℕ) (j : Job) (p : List Signal) (runs
 
 pub wants-nothing : {image table b : List ℕ} {t : ℕ} {w : State.ThreadState} {r : List ℕ} → At image table b t w r → Lockless (roleA (statementOf r)) → Wants image table (machineFrom b) t Nothing
 wants-nothing {image} {table} {b} {t} {w} {r} h q =
-    quiet-asks (rulesBy image table) (machineFrom b) t (w .locks) (jobOf (whole b t w)) (tree h .0) (h .runs) (tree h .1)
-    (quiet-act image table t (jobOf (whole b t w)) _ _ (subst (λ (x : List ℕ). Lockless (roleA (statementOf x))) (h .here) q))
+    quiet-asks (rulesBy image table) (machineFrom b) t (w .locks) (jobOf w) (tree h .0) (h .runs) (tree h .1)
+    (quiet-act image table t (jobOf w) _ _ (subst (λ (x : List ℕ). Lockless (roleA (statementOf x))) (h .here) q))
 
 -- ---- the start of a job
 
-pub wants-start : {image table b : List ℕ} (h : Ready image table b) (t : ℕ) → threadAt (machineFrom b) t ≡ idle → (i : ℕ) (l : sorts.Lock) → FirstOf image table (machineFrom b) t (found.Pending i l)
-    → Wants image table (machineFrom b) t (Lock l)
-wants-start {image} {table} {b} h t rests i l k = (k .small, case (held (l .0) (set (machineFrom b .threads) t idle)) refl)
-  where
-    case : (q : Bool) → held (l .0) (set (machineFrom b .threads) t idle) ≡ q → waitedFor image table (machineFrom b) t ≡ cond q (some (l .0)) none
-    case true e = answered _ _ (start-waiting h t rests k e)
-    case false e = answered _ _ (start-running h t rests k e)
-
-pub wants-rest : {image table b : List ℕ} → Ready image table b → (t : ℕ) → threadAt (machineFrom b) t ≡ idle → first t (machineFrom b .trees) ≡ none → Wants image table (machineFrom b) t Nothing
-wants-rest {image} {table} {b} h t rests e = answered _ _ (no-tree (rulesBy image table) (machineFrom b) t rests e)
+pub wants-first : {image table b : List ℕ} (h : Ready image table b) (t : ℕ) → threadAt (machineFrom b) t ≡ idle → (f : First) → FirstOf image table (machineFrom b) t f → Wants image table (machineFrom b) t (firstLock f)
+wants-first {image} {table} {b} h t rests found.Nothing k = answered _ _ (no-tree (rulesBy image table) (machineFrom b) t rests k)
+wants-first h t rests (found.Wait l) k = (k .1 .small, answered _ _ (start-waiting h t rests (k .1) (k .2)))
+wants-first h t rests (found.Go i l) k = answered _ _ (start-running h t rests (k .0) (k .1))
 
 -- ---- the holder
-
-pub holder-few : (l : ℕ) (ws : List ThreadState) → holder l ws ≤ length ws
-unfolding holder
-holder-few l [] = omega arith
-holder-few l (w ∷ ws) = case (has l (locksOf w)) (holder-few l ws)
-  where
-    case : (b : Bool) → holder l ws ≤ length ws → cond b 0 (suc (holder l ws)) ≤ suc (length ws)
-    case true h = omega arith
-    case false h = omega arith
 
 module _ (image table : List ℕ) (s : Machine) (t : ℕ) where
   pub awaits-none : Wants image table s t Nothing → Nobody ≡ waitsOf (awaits (rulesBy image table) s t)
   unfolding awaits
   awaits-none h = rw h refl
 
-  module _ (l : sorts.Lock) (h : Wants image table s t (Lock l)) where
-    pub awaits-holder : held (l .0) (set (s .threads) t idle) ≡ true → For (Sorts.thread (holder (l .0) (s .threads))) ≡ waitsOf (awaits (rulesBy image table) s t)
+  module _ (l : sorts.Lock) (h : Wants image table s t (Lock l)) (sized : length (s .threads) ≡ threadCount) where
+    awaits-some : awaits (rulesBy image table) s t ≡ some (holder (l .0) (s .threads))
     unfolding awaits
-    awaits-holder e = rw (h .1, e) refl
+    awaits-some = rw (h .1) refl
 
-    pub awaits-free : held (l .0) (set (s .threads) t idle) ≡ false → Nobody ≡ waitsOf (awaits (rulesBy image table) s t)
-    unfolding awaits
-    awaits-free e = rw (h .1, e) refl
+    holder-is : holderOf (holder (l .0) (s .threads)) ≡ Held (Sorts.thread (holder (l .0) (s .threads)))
+    holder-is = sym (holder-held _ (awaits-inside (rulesBy image table) s sized t _ awaits-some))
+
+    pub awaits-holder : (x : Holder) (u : sorts-thread.Thread) → x ≡ holderOf (holder (l .0) (s .threads)) → x ≡ Held u → For u ≡ waitsOf (awaits (rulesBy image table) s t)
+    awaits-holder x u e f =
+        let g : Held u ≡ Held (Sorts.thread (holder (l .0) (s .threads))) = sym f ∙ e ∙ holder-is in
+        let n : u ≡ Sorts.thread (holder (l .0) (s .threads)) = cc in
+        ap For n ∙ ap waitsOf (sym awaits-some)
+
+    -- a lock that is waited for is held
+    pub awaits-free : (x : Holder) → x ≡ holderOf (holder (l .0) (s .threads)) → x ≡ Free → Nobody ≡ waitsOf (awaits (rulesBy image table) s t)
+    awaits-free x e f = let g : Free ≡ Held (Sorts.thread (holder (l .0) (s .threads))) = sym f ∙ e ∙ holder-is in never (cc)

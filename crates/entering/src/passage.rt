@@ -1,83 +1,128 @@
-// What a direct SEND or a CALL comes to before its lock is looked at.
+// What a direct SEND or a CALL comes to: a trap, then its lock, and nothing is changed. The step and the walk ask the same.
+use image::record_fields::label_a;
 use image::records::block_at;
 use image::table::kind_at;
 use image::table::lock_at;
 use image::table::thread_at;
 use operands::read_data;
+use rules::codes::FD;
+use rules::codes::FOREIGN_FD_BLOCK;
+use rules::codes::RETURNS_FULL;
 use rules::sorts::Block;
 use rules::sorts::Label;
 use rules::sorts::Lock;
 use rules::sorts::Thread;
-use rules::sorts::block_of;
-use rules::sorts::thread_number;
+use rules::sorts::same_thread;
+use state::locks::held_by_other;
 use threads::thread::ThreadState;
 ghost use mathlib.Core.Path.{_≡_};
-ghost use mathlib.Core.Bool.{true};
-ghost use Prim.Native.Nat.{_<_, _≤_};
+ghost use mathlib.Core.List.{[], _∷_, _++_};
+ghost use Prim.Native.Nat.{_<_};
 ghost use lib.ListN.{length, replicate};
-ghost use Rattle.rules.specs.Sizes.{operandCount};
-ghost use Rattle.rules.specs.Bytes.{allFrom};
-ghost use Rattle.rules.specs.Image.{labels, blockField, operands, rowAt};
-ghost use Rattle.rules.specs.Statements.{dataOf};
-ghost use Rattle.rules.specs.Check.{slotOk, Checked};
-ghost use Rattle.rules.specs.Effects.{readAll};
+ghost use Rattle.rules.specs.Sizes.{blockCount, registerCount, tableSize};
+ghost use Rattle.rules.specs.Image.{labels, labelB, rowAt};
+ghost use Rattle.rules.specs.Statements.{statementOf};
+ghost use Rattle.rules.specs.declared.statement.Statement.the-variants.{SendDirect, Call};
+ghost use Rattle.rules.specs.Check.{Checked};
+ghost use Rattle.rules.specs.Encoding.{machineFrom};
 ghost use Rattle.rules.specs.Steps.{alien, blockAt};
-ghost use Rattle.encoding.specs.Slots.{registersIn};
-ghost use Rattle.operands.specs.Readings.{Reads};
-ghost use Rattle.operands.specs.Cells.{cellsFrom};
+ghost use Rattle.encoding.specs.Encoded.{Canonical};
+ghost use Rattle.threads.specs.Threads.{returnsOf};
+ghost use Rattle.step_ready.specs.At.{At};
 ghost use Rattle.entering.specs.Passages.{passageTo, callTrap};
+ghost use Rattle.entering.specs.Entering.{Enters};
 
-// A trap with its reason, or the lock that the step asks for.
+// A trap with its reason, a lock that another thread holds, or a lock that the step takes.
 pub enum Passage {
     Trap(u8),
-    Ask(Lock),
-}
-
-// The reasons of traps: a CALL with 8 return labels, and an FD block of another thread.
-const DEEP: u8 = 3;
-
-const ALIEN: u8 = 5;
-
-// The data of the statement in the record r, which thread t comes to: the values, and 0 or the reason of the trap that reading them makes.
-pub fn data_of(state: &[u8], t: Thread, w: ThreadState, r: &[u8], values: &mut [u16; 25]) -> u8
-    requires { ⌜ (length (now state) ≡ 7929) × (t .0 < 8) × (length (now r) ≡ 84) × (blockField (now r) < 16) × (operands (now r) ≤ 25) × (allFrom (slotOk (now r)) 0 operandCount ≡ true) × (now values ≡ replicate 25 0) ⌝ }
-    ensures { λ reason. ⌜ Reads (readAll (cellsFrom (now (state .entry)) (blockField (now (r .entry))) (w .present) (registersIn (now (state .entry)) (t .0))) (dataOf (now (r .entry)))) reason (operands (now (r .entry))) (now (values .exit)) ⌝ }
-{
-    read_data(state, block_of(r[1]), t, w.present, r, values)
+    Wait(Lock),
+    Go(Lock),
 }
 
 // The reason of the trap that a CALL makes before its block is looked at; 0 where it makes none.
-pub fn call_trap(unread: u8, depth: usize) -> u8
+fn call_trap(unread: u8, depth: usize) -> u8
     ensures { λ k. ⌜ k ≡ callTrap unread depth ⌝ }
 {
     if unread != 0 {
         return unread;
     }
     if Thread::RETURNS <= depth {
-        return DEEP;
+        return RETURNS_FULL;
     }
     0
 }
 
 // Whether a block is an FD block of a thread other than t.
 fn is_alien(table: &[u8], t: Thread, block: Block) -> bool
-    requires { ⌜ (block .0 < 16) × (length (now table) ≡ 32) ⌝ }
+    requires { ⌜ (block .0 < blockCount) × (length (now table) ≡ tableSize) ⌝ }
     ensures { λ r. ⌜ r ≡ alien (rowAt (now (table .entry)) (block .0)) (t .0) ⌝ }
 {
-    (kind_at(table, block) == 0) & (thread_number(thread_at(table, block)) != thread_number(t))
+    (kind_at(table, block) == FD) & !same_thread(thread_at(table, block), t)
 }
 
-// The passage of thread t into the block of a label, where no earlier test made a trap (0).
-pub fn passage_to(image: &[u8], table: &[u8], t: Thread, to: Label, earlier: u8) -> Passage
-    requires { ⌜ Checked (now image) (now table) × (to .0 < labels (now image)) ⌝ }
-    ensures { λ p. ⌜ p ≡ passageTo (rowAt (now (table .entry)) (blockAt (now (image .entry)) (to .0))) (t .0) earlier ⌝ }
+// The passage of thread t into the block of a label, where no earlier test made a trap (0): an FD block of another thread is a trap
+// whoever holds its lock.
+fn passage_to(
+    image: &[u8],
+    table: &[u8],
+    state: &[u8],
+    t: Thread,
+    to: Label,
+    earlier: u8,
+) -> Passage
+    requires { ⌜ Checked (now image) (now table) × Canonical (now state) × (to .0 < labels (now image)) ⌝ }
+    ensures { λ p. ⌜ p ≡ passageTo (machineFrom (now (state .entry)))
+        (rowAt (now (table .entry)) (blockAt (now (image .entry)) (to .0))) (t .0) earlier ⌝ }
 {
     if earlier != 0 {
         return Passage::Trap(earlier);
     }
     let block = block_at(image, to);
+    let lock = lock_at(table, block);
+    let held = held_by_other(state, lock, t);
     if is_alien(table, t, block) {
-        return Passage::Trap(ALIEN);
+        return Passage::Trap(FOREIGN_FD_BLOCK);
     }
-    Passage::Ask(lock_at(table, block))
+    if held {
+        return Passage::Wait(lock);
+    }
+    Passage::Go(lock)
+}
+
+// The passage of a direct SEND, and the values that it reads.
+pub fn send_passage(
+    image: &[u8],
+    table: &[u8],
+    state: &[u8],
+    t: Thread,
+    w: ThreadState,
+    r: &[u8],
+    values: &mut [u16; Thread::REGISTERS],
+) -> Passage
+    requires { ⌜ At (now image) (now table) (now state) (t .0) w (now r)
+        × (statementOf (now r) ≡ SendDirect) × (now values ≡ replicate registerCount 0) ⌝ }
+    ensures { λ p. ⌜ Enters (now (image .entry)) (now (table .entry)) (now (state .entry)) (t .0) w (now (r .entry))
+        (returnsOf w) (now (values .exit)) p ⌝ }
+{
+    let trap = read_data(state, w, r, values);
+    passage_to(image, table, state, t, label_a(r), trap)
+}
+
+// The same of a CALL, which needs room for its return label.
+pub fn call_passage(
+    image: &[u8],
+    table: &[u8],
+    state: &[u8],
+    t: Thread,
+    w: ThreadState,
+    r: &[u8],
+    values: &mut [u16; Thread::REGISTERS],
+) -> Passage
+    requires { ⌜ At (now image) (now table) (now state) (t .0) w (now r)
+        × (statementOf (now r) ≡ Call) × (now values ≡ replicate registerCount 0) ⌝ }
+    ensures { λ p. ⌜ Enters (now (image .entry)) (now (table .entry)) (now (state .entry)) (t .0) w (now (r .entry))
+        (returnsOf w ++ (labelB (now (r .entry)) ∷ [])) (now (values .exit)) p ⌝ }
+{
+    let trap = call_trap(read_data(state, w, r, values), w.depth);
+    passage_to(image, table, state, t, label_a(r), trap)
 }

@@ -1,127 +1,82 @@
--- What an opcode of ASSIGN's kind stores: one value or two, as the law has it.
-use mathlib.Core.Path.{_≡_, refl, sym, ap, _∙_, subst}
-use mathlib.Core.Bool.{Bool, true, false, cond, false≢true}
-use mathlib.Core.Option.{some}
-use mathlib.Core.List.{List}
-use Prim.Native.Nat.{ℕ, _+_, _*_, _<_}
-use native.Mathlib.Omega.{arith}
-use lib.Dec.{eqb}
-use lib.ListN.{length, set, drop, length-set}
-use lib.Seq.{getD-set-same, set-set}
-use Rattle.rules.specs.Sizes.{threadCount, wordCount, wordsSize, threadSize, idleLabel}
-use Rattle.rules.specs.Machine.{Machine, Job, threadAt, idle, running, cells, window, keep}
+-- A statement of ASSIGN's kind, where a running thread comes to it.
+use mathlib.Core.Path.{_≡_, refl, sym, subst}
+use mathlib.Core.List.{List, [], _∷_}
+use Prim.Native.Nat.{ℕ, _<_}
+use lib.ListN.{set}
+use Rattle.rules.specs.Sizes.{registerCount}
+use Rattle.rules.specs.Image.{recordAt}
+use Rattle.rules.specs.Statements.{statementOf, operandAt, assignmentBy}
+use Rattle.rules.specs.Effects.{trap, got, readAll, compute}
 use Rattle.rules.specs.Encoding.{machineFrom}
-use Rattle.rules.specs.Effects.{Cells, store}
+use Rattle.rules.specs.Steps.{rulesBy, finished}
+use Rattle.rules.specs.declared.answer.Answer.{Answer}
+use Rattle.rules.specs.declared.answer.Answer.the-variants.{Moved, Trapped}
+use Rattle.rules.specs.declared.statement.Assignment.{Assignment}
 use Rattle.rules.specs.declared.statement.Operand.{Operand}
 use Rattle.rules.specs.declared.statement.Operand.the-variants.{Number, Register, Word}
-use Rattle.laws.specs.Logic.{never}
-use Rattle.encoding.specs.Encoded.{Encodes, Canonical, encoded-machine}
-use Rattle.step_laws.specs.Same.{keep-window, keep-set, keep-more}
-use Rattle.threads.specs.Threads.{job, jobOf, stateOf, returnsOf, registersOf, Says, Running}
-use Rattle.threads.specs.Whole.{Whole, whole}
-use Rattle.threads.specs.Records.{headOf, rawThread, whole-read}
+use Rattle.rules.specs.declared.statement.Statement.the-variants.{Assign}
+use Rattle.encoding.specs.Encoded.{Encodes}
+use Rattle.encoding.specs.Slots.{returnsIn, registersIn}
+use Rattle.step_laws.specs.Statements as law
+use Rattle.threads.specs.Threads.{Runs, job, jobOf, returnsOf, registersOf}
 use Rattle.threads.specs.declared.thread.ThreadState.{ThreadState}
-use Rattle.state.specs.Records.{thread-read}
 use Rattle.operands.specs.Legal.{Fits}
-use Rattle.operands.specs.Statements.{Lands}
-use Rattle.moves.specs.Stored.{stored}
+use Rattle.operands.specs.Cells.{cellsOf}
+use Rattle.operands.specs.Statements.{Lands, assigns, first-lands, second-fits, left-fits, right-fits}
+use Rattle.step_ready.specs.Ready.{Stepped, Ended, done}
+use Rattle.step_ready.specs.At.{At, tree, statement-here, slots-assigned}
+use Rattle.moves.specs.Destinations.{registersAfter, landed}
+use Rattle.moves.specs.Steps.{reads-here}
 
--- the machine with these cells, and thread t on to the label l
-abbrev pub landed : Machine → ℕ → Whole → ℕ → ℕ → Cells → Machine
-landed s t w l block c = record { words = keep block (c .words) (s .words); threads = set (s .threads) t (running (w .locks) (job l (returnsOf w) (c .registers))); trees = s .trees }
+-- thread t of the bytes b, with one value stored in it: all registers but its destination are as the record has them
+abbrev pub OneChanged : List ℕ → ℕ → ThreadState → Operand → ℕ → Type 0
+OneChanged b t w (Number n) v = Unit {0}
+OneChanged b t w (Register k) v = (k < registerCount) × (w .returns ≡ returnsIn b t) × (w .registers ≡ set (registersIn b t) k v)
+OneChanged b t w (Word k) v = Unit {0}
 
-abbrev pub cellsIn : Machine → Whole → ℕ → Cells
-cellsIn s w block = record { registers = registersOf w; words = window block (s .words) }
+-- the operands of an assignment are within limits
+pub record Legal (a : Assignment) : Type 0 where
+  pub first : Fits (a .first)
+  pub second : Fits (a .second)
+  pub left : Fits (a .left)
+  pub right : Fits (a .right)
 
--- no place to store to
-abbrev pub isPlace : Operand → Bool
-isPlace (Number n) = false
-isPlace (Register k) = true
-isPlace (Word k) = true
+lands-fits : (d : Operand) → Lands d → Fits d
+lands-fits (Number n) h = tt
+lands-fits (Register k) h = h
+lands-fits (Word k) h = h
 
-pub place-lands : (d : Operand) → Fits d → isPlace d ≡ true → Lands d
-place-lands (Number n) h e = absurd (false≢true e)
-place-lands (Register k) h e = h
-place-lands (Word k) h e = h
+module _ {image table b : List ℕ} {t : ℕ} {w : ThreadState} {r : List ℕ} (h : At image table b t w r) where
+  pub one-changed : {x : ThreadState} {locks l : ℕ} (d : Operand) (u : ℕ) → Fits d
+      → Runs x locks (job l (returnsOf w) (registersAfter d u (registersOf w))) → OneChanged b t x d u
+  one-changed (Number n) u f q = tt
+  one-changed (Register k) u f q = (f, slots-assigned h k u q .0, slots-assigned h k u q .1)
+  one-changed (Word k) u f q = tt
 
--- two values at their destinations
-abbrev pub both : Machine → ℕ → Whole → ℕ → ℕ → Operand → ℕ → Operand → ℕ → Machine
-both s t w l block d u e v = landed s t w l block (store e v (store d u (cellsIn s w block)))
+  module _ (a : Assignment) (e : statementOf r ≡ Assign a) where
+    pub legal : Legal a
+    unfolding assignmentBy
+    legal =
+        let k = sym (assigns (h .parts) a e .1) in
+        record {
+          first = subst (λ (q : Assignment). Fits (q .first)) k (lands-fits (operandAt r 0) (first-lands (h .parts) a e));
+          second = subst (λ (q : Assignment). Fits (q .second)) k (second-fits (h .parts) a e);
+          left = subst (λ (q : Assignment). Fits (q .left)) k (left-fits (h .parts) a e);
+          right = subst (λ (q : Assignment). Fits (q .right)) k (right-fits (h .parts) a e);
+        }
 
-module _ (s : Machine) (t : ℕ) (w : Whole) (l block : ℕ) where
-  pub first-lands : (d : Operand) (u : ℕ) → Lands d → stored s t w l block d u ≡ landed s t w l block (store d u (cellsIn s w block))
-  first-lands (Number n) u h = absurd h
-  first-lands (Register k) u h = rw (keep-window block (s .words)) refl
-  first-lands (Word k) u h = rw (keep-set block k u (s .words) h) refl
+    module _ (x y : ℕ) (g : readAll (cellsOf b w r) (a .left ∷ a .right ∷ []) ≡ got (x ∷ y ∷ [])) where
+      pub uncomputed : {reason : ℕ} {b′ : List ℕ} {z : Answer} → compute (a .operation) x y ≡ trap reason → z ≡ Trapped reason
+          → Ended image table b t b′ → Stepped image table b t b′ z
+      uncomputed {reason} c f k =
+          done (finished (rulesBy image table) t (machineFrom b)) (Trapped reason)
+          (law.uncomputed image table (machineFrom b) t (w .locks) (jobOf w) (tree h .0) (h .runs) (tree h .1) (x ∷ y ∷ []) a
+          (statement-here h (Assign a) e) (reads-here h (Assign a) g) reason c) f k
 
-  -- the thread as it is then
-  module _ (c : Cells) (w′ : Whole) (k : w′ .locks ≡ w .locks) (r : returnsOf w′ ≡ returnsOf w) (g : registersOf w′ ≡ c .registers) (z : length (c .words) ≡ wordCount) where
-    pub second-lands : (d : Operand) (v : ℕ) → Lands d → stored (landed s t w l block c) t w′ l block d v ≡ landed s t w l block (store d v c)
-    second-lands (Number n) v h = absurd h
-    second-lands (Register n) v h = rw (k, r, g, set-set) refl
-    second-lands (Word n) v h = rw (k, r, g, set-set, keep-more block n v (c .words) (s .words) h z) refl
-
-pub length-window : (block : ℕ) (ws : List ℕ) → length (window block ws) ≡ wordCount
-unfolding window cells
-length-window block ws = refl
-
--- the thread of a machine with these cells
-pub thread-landed : (s : Machine) (t : ℕ) (w : Whole) (l block : ℕ) (c : Cells) → t < length (s .threads) → threadAt (landed s t w l block c) t ≡ running (w .locks) (job l (returnsOf w) (c .registers))
-thread-landed s t w l block c h = getD-set-same (s .threads) t (running (w .locks) (job l (returnsOf w) (c .registers))) idle h
-
-pub length-stored : (d : Operand) (v : ℕ) (c : Cells) → length (store d v c .words) ≡ length (c .words)
-length-stored (Number n) v c = refl
-length-stored (Register k) v c = refl
-length-stored (Word k) v c = length-set (c .words) k v
-
--- a running thread, read from the bytes of its machine
-pub record Reread (w : Whole) (l : ℕ) (j : Job) : Type 0 where
-  pub running : Running w
-  pub locks : w .locks ≡ l
-  pub job : jobOf w ≡ j
-
-reread : (w : Whole) (locks : ℕ) (j : Job) → Says w (running locks j) → j .label < idleLabel → Reread w locks j
-unfolding stateOf
-reread w locks j h l = case (eqb (w .label .0) idleLabel) refl (h .state)
-  where
-    case : (b : Bool) → eqb (w .label .0) idleLabel ≡ b → cond b idle (running (w .locks) (jobOf w)) ≡ running locks j → Reread w locks j
-    case true e q = never (cc)
-    case false e q =
-        let f : jobOf w ≡ j = cc in
-        let n : w .label .0 ≡ j .label = ap (λ (x : Job). x .label) f in
-        record { running = record { label = omega arith; tidy = h .tidy }; locks = cc; job = f }
-
-pub read-again : (b : List ℕ) (s : Machine) (t locks : ℕ) (j : Job) (w : ThreadState) → Encodes b s → t < threadCount → threadAt s t ≡ running locks j → j .label < idleLabel
-    → w ≡ headOf (rawThread (drop (wordsSize + threadSize * t) b)) → Reread (whole b t w) locks j
-read-again b s t locks j w h l e k f =
-    let q : Says (whole b t w) (threadAt s t) = rw (f, whole-read b t) (thread-read b s h t l) in
-    reread (whole b t w) locks j (subst (Says (whole b t w)) e q) k
-
--- the bytes after one store
-module _ (b b′ : List ℕ) (t : ℕ) (w : ThreadState) (l block : ℕ) (d : Operand) (u : ℕ) (h : Lands d) (first : Encodes b′ (stored (machineFrom b) t (whole b t w) l block d u)) where
-  pub one-stored : (e : Operand) (v : ℕ) → isPlace e ≡ false → Encodes b′ (both (machineFrom b) t (whole b t w) l block d u e v)
-  one-stored (Number n) v q = subst (Encodes b′) (first-lands (machineFrom b) t (whole b t w) l block d u h) first
-  one-stored (Register k) v q = absurd (false≢true (sym q))
-  one-stored (Word k) v q = absurd (false≢true (sym q))
-
--- the bytes between the two stores, and after them
-module _ (b b′ : List ℕ) (t : ℕ) (w w′ : ThreadState) (l block : ℕ) (d : Operand) (u : ℕ) (canonical : Canonical b) (inside : t < threadCount) (small : l < idleLabel) (h : Lands d)
-    (first : Encodes b′ (stored (machineFrom b) t (whole b t w) l block d u)) (read : w′ ≡ headOf (rawThread (drop (wordsSize + threadSize * t) b′))) where
-  abbrev then : Cells
-  then = store d u (cellsIn (machineFrom b) (whole b t w) block)
-
-  between : Encodes b′ (landed (machineFrom b) t (whole b t w) l block then)
-  between = subst (Encodes b′) (first-lands (machineFrom b) t (whole b t w) l block d u h) first
-
-  pub again : Reread (whole b′ t w′) (w .locks) (job l (returnsOf (whole b t w)) (then .registers))
-  again =
-      read-again b′ (landed (machineFrom b) t (whole b t w) l block then) t (w .locks) (job l (returnsOf (whole b t w)) (then .registers)) w′ between inside
-      (thread-landed (machineFrom b) t (whole b t w) l block then (omega (arith, canonical .sized .threads))) small read
-
-  pub both-stored : (b″ : List ℕ) (e : Operand) (v : ℕ) → Lands e → Encodes b″ (stored (machineFrom b′) t (whole b′ t w′) l block e v) → Encodes b″ (both (machineFrom b) t (whole b t w) l block d u e v)
-  both-stored b″ e v k g =
-      let m : machineFrom b′ ≡ landed (machineFrom b) t (whole b t w) l block then = encoded-machine b′ _ between in
-      let z : length (then .words) ≡ wordCount = length-stored d u (cellsIn (machineFrom b) (whole b t w) block) ∙ length-window block (machineFrom b .words) in
-      subst (Encodes b″)
-      (ap (λ (q : Machine). stored q t (whole b′ t w′) l block e v) m
-      ∙ second-lands (machineFrom b) t (whole b t w) l block then (whole b′ t w′) (again .locks) (ap (λ (q : Job). q .returns) (again .job)) (ap (λ (q : Job). q .registers) (again .job)) z e v k) g
+      pub assigned-stepped : (u v : ℕ) {b′ : List ℕ} → compute (a .operation) x y ≡ got (record { first = u; second = v })
+          → Encodes b′ (landed (machineFrom b) t w r a u v) → Stepped image table b t b′ Moved
+      assigned-stepped u v {b′} c k =
+          done (landed (machineFrom b) t w (recordAt image (w .label .0)) a u v) Moved
+          (law.assigns image table (machineFrom b) t (w .locks) (jobOf w) (tree h .0) (h .runs) (tree h .1) (x ∷ y ∷ []) a
+          (statement-here h (Assign a) e) (reads-here h (Assign a) g) (record { first = u; second = v }) c) refl
+          (subst (λ (q : List ℕ). Encodes b′ (landed (machineFrom b) t w q a u v)) (h .here) k)

@@ -1,3 +1,3 @@
-pub mod Stored
-pub mod Facts
+pub mod Steps
+pub mod Destinations
 pub mod Assigned

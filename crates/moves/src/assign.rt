@@ -1,99 +1,114 @@
 // ASSIGN and its kind: values are worked out and stored to registers or to shared words of the block.
-use crate::onward::go_on;
 use ending::trapped;
-use fields::read::get16;
+use image::record_fields::block_field;
+use image::record_fields::label_a;
 use operands::computed;
 use operands::read_pair;
 use rules::answer::Answer;
 use rules::sorts::Block;
 use rules::sorts::Thread;
-use rules::sorts::block_of;
-use rules::sorts::label_of;
 use rules::statement::Assignment;
 use rules::statement::Operand;
-use state::thread_records::read_thread;
 use state::thread_records::write_assigned;
+use state::thread_records::write_thread;
 use state::words::write_word;
 use threads::thread::ThreadState;
 ghost use mathlib.Core.Path.{_≡_};
 ghost use Prim.Native.Nat.{_<_};
-ghost use lib.ListN.{length};
-ghost use Rattle.rules.specs.Image.{labelA};
+ghost use Rattle.rules.specs.Sizes.{threadCount, blockCount};
+ghost use Rattle.rules.specs.Machine.{running};
 ghost use Rattle.rules.specs.Encoding.{machineFrom};
-ghost use Rattle.rules.specs.Events.{step};
 ghost use Rattle.rules.specs.Statements.{statementOf};
 ghost use Rattle.rules.specs.declared.statement.Statement.the-variants.{Assign};
 ghost use Rattle.encoding.specs.Encoded.{Encodes, Canonical};
-ghost use Rattle.threads.specs.Whole.{whole};
-ghost use Rattle.threads.specs.Threads.{Running};
+ghost use Rattle.encoding.specs.Stores.{withThread};
+ghost use Rattle.threads.specs.Threads.{Running, Runs, job, returnsOf, registersOf};
 ghost use Rattle.operands.specs.Legal.{Fits};
-ghost use Rattle.operands.specs.Statements.{Lands};
-ghost use Rattle.step_ready.specs.Ready.{Done, replyTo};
+ghost use Rattle.step_ready.specs.Ready.{Stepped};
 ghost use Rattle.step_ready.specs.At.{At};
-ghost use Rattle.moves.specs.Stored.{stored};
-ghost use Rattle.moves.specs.Assigned.{isPlace, both};
+ghost use Rattle.moves.specs.Destinations.{registersAfter, withWordAt, landed};
+ghost use Rattle.moves.specs.Assigned.{OneChanged};
 
-// The value goes to its destination, and the thread on to A.
-fn store(
-    state: &mut [u8],
-    t: Thread,
-    w: ThreadState,
-    r: &[u8],
-    block: Block,
-    to: Operand,
-    v: u16,
-) -> Answer
-    requires { ⌜ Canonical (now state) × (t .0 < 8) × Running (whole (now state) (t .0) w) × (length (now r) ≡ 84) × (labelA (now r) < 65535) × (block .0 < 16) × Lands to ⌝ }
-    ensures { λ a. ⌜ a ≡ Answer.Moved ⌝ }
-    ensures { λ _. ⌜ Encodes (now (state .exit)) (stored (machineFrom (now (state .entry))) (t .0) (whole (now (state .entry)) (t .0) w) (labelA (now (r .entry))) (block .0) to v) ⌝ }
+// A value whose destination is a register goes there; any other leaves the thread as it is.
+fn store_register(w: ThreadState, to: Operand, v: u16) -> ThreadState
+    requires { ⌜ Running w × Fits to ⌝ }
+    ensures { λ x. ⌜ Runs x (w .locks) (job (w .label .0) (returnsOf w) (registersAfter to v (registersOf w))) ⌝ }
 {
     match to {
-        Operand::Register(k) => {
-            let next = w.move_on(label_of(get16(r, 4)));
-            write_assigned(state, t, next.assign_register(k), k as usize, v);
-            Answer::Moved
-        }
-        Operand::Word(k) => {
-            let a = go_on(state, t, w, r, 4);
-            write_word(state, block, k, v);
-            a
-        }
-        Operand::Number(_) => Answer::Moved,
+        Operand::Number(_) => w,
+        Operand::Register(k) => w.assign_register(k, v),
+        Operand::Word(_) => w,
     }
 }
 
-pub fn is_place(o: Operand) -> bool
-    ensures { λ z. ⌜ z ≡ isPlace o ⌝ }
+// A value whose destination is a shared word of the block goes there; any other leaves the state as it is.
+fn store_word(state: &mut [u8], block: Block, to: Operand, v: u16)
+    requires { ⌜ Canonical (now state) × (block .0 < blockCount) × Fits to ⌝ }
+    ensures { λ _. ⌜ Encodes (now (state .exit)) (withWordAt (machineFrom (now (state .entry))) (block .0) to v) ⌝ }
 {
-    match o {
-        Operand::Number(_) => false,
-        Operand::Register(_) => true,
-        Operand::Word(_) => true,
+    match to {
+        Operand::Number(_) => {}
+        Operand::Register(_) => {}
+        Operand::Word(k) => write_word(state, block, k, v),
     }
 }
 
-// The values go to their destinations, and the thread on to A.
-fn store_both(
+// The record of a thread in which one value was stored, to a register or to none: one register is written, or all.
+fn write_one(state: &mut [u8], t: Thread, w: ThreadState, to: Operand, v: u16)
+    requires { ⌜ Canonical (now state) × (t .0 < threadCount) × Running w × OneChanged (now state) (t .0) w to v ⌝ }
+    ensures { λ _. ⌜ Encodes (now (state .exit)) (withThread (machineFrom (now (state .entry))) (t .0)
+        (running (w .locks) (job (w .label .0) (returnsOf w) (registersOf w)))) ⌝ }
+{
+    match to {
+        Operand::Number(_) => write_thread(state, t, w),
+        Operand::Register(k) => write_assigned(state, t, w, k, v),
+        Operand::Word(_) => write_thread(state, t, w),
+    }
+}
+
+// The thread w has the first value, if that goes to a register, and takes the second likewise. Its record is written once.
+fn write_both(
     state: &mut [u8],
     t: Thread,
     w: ThreadState,
-    r: &[u8],
-    block: Block,
     first: Operand,
     u: u16,
     second: Operand,
     v: u16,
-) -> Answer
-    requires { ⌜ Canonical (now state) × (t .0 < 8) × Running (whole (now state) (t .0) w) × (length (now r) ≡ 84) × (labelA (now r) < 65535) × (block .0 < 16) × Lands first × Fits second ⌝ }
-    ensures { λ a. ⌜ a ≡ Answer.Moved ⌝ }
-    ensures { λ _. ⌜ Encodes (now (state .exit)) (both (machineFrom (now (state .entry))) (t .0) (whole (now (state .entry)) (t .0) w) (labelA (now (r .entry))) (block .0) first u second v) ⌝ }
+)
+    requires { ⌜ Canonical (now state) × (t .0 < threadCount) × Running w × OneChanged (now state) (t .0) w first u × Fits second ⌝ }
+    ensures { λ _. ⌜ Encodes (now (state .exit)) (withThread (machineFrom (now (state .entry))) (t .0)
+        (running (w .locks) (job (w .label .0) (returnsOf w) (registersAfter second v (registersOf w))))) ⌝ }
 {
-    let a = store(state, t, w, r, block, first, u);
-    if is_place(second) {
-        let next = read_thread(state, t);
-        return store(state, t, next, r, block, second, v);
+    match second {
+        Operand::Number(_) => write_one(state, t, w, first, u),
+        Operand::Register(k) => write_thread(state, t, w.assign_register(k, v)),
+        Operand::Word(_) => write_one(state, t, w, first, u),
     }
-    a
+}
+
+// The thread goes on to A, and the values to their destinations: registers first, with the thread's record, then words.
+fn store_both(
+    image: &[u8],
+    table: &[u8],
+    state: &mut [u8],
+    t: Thread,
+    w: ThreadState,
+    r: &[u8],
+    a: Assignment,
+    u: u16,
+    v: u16,
+)
+    requires { ⌜ At (now image) (now table) (now state) (t .0) w (now r) × (statementOf (now r) ≡ Assign a) ⌝ }
+    ensures { λ _. ⌜ Encodes (now (state .exit)) (landed (machineFrom (now (state .entry))) (t .0) w (now (r .entry)) a u v) ⌝ }
+{
+    let first = a.first;
+    let second = a.second;
+    let block = block_field(r);
+    let next = store_register(w.move_on(label_a(r)), first, u);
+    write_both(state, t, next, first, u, second, v);
+    store_word(state, block, first, u);
+    store_word(state, block, second, v);
 }
 
 pub fn assign(
@@ -106,31 +121,19 @@ pub fn assign(
     a: Assignment,
 ) -> Answer
     requires { ⌜ At (now image) (now table) (now state) (t .0) w (now r) × (statementOf (now r) ≡ Assign a) ⌝ }
-    ensures { λ z. ⌜ Done (replyTo (now (image .entry)) (now (table .entry)) (now (state .entry)) (step (t .0))) (now (state .exit)) z ⌝ }
+    ensures { λ z. ⌜ Stepped (now (image .entry)) (now (table .entry)) (now (state .entry)) (t .0) (now (state .exit)) z ⌝ }
 {
-    let block = block_of(r[1]);
     let left = a.left;
     let right = a.right;
-    let pair = read_pair(state, block, t, w.present, left, right);
+    let pair = read_pair(state, w, r, left, right);
     if pair.trap != 0 {
-        return trapped(image, table, state, t, pair.trap);
+        return trapped(image, table, state, t, w, pair.trap);
     }
     let operation = a.operation;
     let worked = computed(operation, pair.left, pair.right);
     if worked.trap != 0 {
-        return trapped(image, table, state, t, worked.trap);
+        return trapped(image, table, state, t, w, worked.trap);
     }
-    let first = a.first;
-    let second = a.second;
-    store_both(
-        state,
-        t,
-        w,
-        r,
-        block,
-        first,
-        worked.first,
-        second,
-        worked.second,
-    )
+    store_both(image, table, state, t, w, r, a, worked.first, worked.second);
+    Answer::Moved
 }

@@ -1,19 +1,25 @@
 // IF: on to A if the relation holds, else to B.
 use crate::onward::go_on;
 use ending::trapped;
+use image::record_fields::label_a;
+use image::record_fields::label_b;
 use operands::read_pair;
 use rules::answer::Answer;
+use rules::sorts::Label;
 use rules::sorts::Thread;
-use rules::sorts::block_of;
 use rules::statement::Condition;
 use rules::statement::Relation;
 use threads::thread::ThreadState;
 ghost use mathlib.Core.Path.{_≡_};
+ghost use mathlib.Core.Bool.{cond};
+ghost use lib.ListN.{length};
+ghost use Rattle.rules.specs.Sorts.{label};
+ghost use Rattle.rules.specs.Sizes.{recordSize};
+ghost use Rattle.rules.specs.Image.{labelA, labelB};
 ghost use Rattle.rules.specs.Effects.{holds};
-ghost use Rattle.rules.specs.Events.{step};
 ghost use Rattle.rules.specs.Statements.{statementOf};
 ghost use Rattle.rules.specs.declared.statement.Statement.the-variants.{If};
-ghost use Rattle.step_ready.specs.Ready.{Done, replyTo};
+ghost use Rattle.step_ready.specs.Ready.{Stepped};
 ghost use Rattle.step_ready.specs.At.{At};
 
 pub fn relation_holds(relation: Relation, p: u16, q: u16) -> bool
@@ -23,6 +29,14 @@ pub fn relation_holds(relation: Relation, p: u16, q: u16) -> bool
         Relation::Equal => p == q,
         Relation::Less => p < q,
     }
+}
+
+// A where the test holds, else B.
+fn label_by(r: &[u8], test: bool) -> Label
+    requires { ⌜ length (now r) ≡ recordSize ⌝ }
+    ensures { λ l. ⌜ l ≡ label (cond test (labelA (now (r .entry))) (labelB (now (r .entry)))) ⌝ }
+{
+    if test { label_a(r) } else { label_b(r) }
 }
 
 pub fn branch(
@@ -35,17 +49,15 @@ pub fn branch(
     c: Condition,
 ) -> Answer
     requires { ⌜ At (now image) (now table) (now state) (t .0) w (now r) × (statementOf (now r) ≡ If c) ⌝ }
-    ensures { λ a. ⌜ Done (replyTo (now (image .entry)) (now (table .entry)) (now (state .entry)) (step (t .0))) (now (state .exit)) a ⌝ }
+    ensures { λ a. ⌜ Stepped (now (image .entry)) (now (table .entry)) (now (state .entry)) (t .0) (now (state .exit)) a ⌝ }
 {
     let left = c.left;
     let right = c.right;
-    let pair = read_pair(state, block_of(r[1]), t, w.present, left, right);
+    let pair = read_pair(state, w, r, left, right);
     if pair.trap != 0 {
-        return trapped(image, table, state, t, pair.trap);
+        return trapped(image, table, state, t, w, pair.trap);
     }
     let relation = c.relation;
-    if relation_holds(relation, pair.left, pair.right) {
-        return go_on(state, t, w, r, 4);
-    }
-    go_on(state, t, w, r, 6)
+    let test = relation_holds(relation, pair.left, pair.right);
+    go_on(state, t, w, label_by(r, test))
 }

@@ -1,26 +1,20 @@
 // TRANSFER and RETURN: the data values go into registers 0 upward.
 use ending::trapped;
-use fields::read::get16;
-use fields::read::wide;
+use image::record_fields::label_a;
+use image::record_fields::operand_count;
 use operands::read_data;
 use rules::answer::Answer;
+use rules::codes::NO_RETURN_LABEL;
 use rules::sorts::Thread;
-use rules::sorts::block_of;
-use rules::sorts::label_of;
-use state::thread_records::read_return;
-use state::thread_records::write_called;
-use state::thread_records::write_transferred;
+use state::thread_records::write_thread;
 use threads::thread::ThreadState;
 ghost use mathlib.Core.Path.{_≡_};
-ghost use Rattle.rules.specs.Events.{step};
 ghost use Rattle.rules.specs.Statements.{statementOf};
 ghost use Rattle.rules.specs.declared.statement.Statement.the-variants.{Transfer, Return};
-ghost use Rattle.step_ready.specs.Ready.{Done, replyTo};
+ghost use Rattle.step_ready.specs.Ready.{Stepped};
 ghost use Rattle.step_ready.specs.At.{At};
 
-// The reason of a trap: RETURN with no return label.
-pub const NO_RETURN_LABEL: u8 = 2;
-
+// The values start as the thread's registers, and reading the data stores over the first of them.
 pub fn transfer(
     image: &[u8],
     table: &[u8],
@@ -30,15 +24,14 @@ pub fn transfer(
     r: &[u8],
 ) -> Answer
     requires { ⌜ At (now image) (now table) (now state) (t .0) w (now r) × (statementOf (now r) ≡ Transfer) ⌝ }
-    ensures { λ a. ⌜ Done (replyTo (now (image .entry)) (now (table .entry)) (now (state .entry)) (step (t .0))) (now (state .exit)) a ⌝ }
+    ensures { λ a. ⌜ Stepped (now (image .entry)) (now (table .entry)) (now (state .entry)) (t .0) (now (state .exit)) a ⌝ }
 {
-    let mut values = [0u16; Thread::REGISTERS];
-    let trap = read_data(state, block_of(r[1]), t, w.present, r, &mut values);
+    let mut values = w.registers;
+    let trap = read_data(state, w, r, &mut values);
     if trap != 0 {
-        return trapped(image, table, state, t, trap);
+        return trapped(image, table, state, t, w, trap);
     }
-    let next = w.transfer(label_of(get16(r, 4)), r[8]);
-    write_transferred(state, t, next, &values, wide(r[8]));
+    write_thread(state, t, w.transfer(label_a(r), values, operand_count(r)));
     Answer::Moved
 }
 
@@ -51,19 +44,16 @@ pub fn give_back(
     r: &[u8],
 ) -> Answer
     requires { ⌜ At (now image) (now table) (now state) (t .0) w (now r) × (statementOf (now r) ≡ Return) ⌝ }
-    ensures { λ a. ⌜ Done (replyTo (now (image .entry)) (now (table .entry)) (now (state .entry)) (step (t .0))) (now (state .exit)) a ⌝ }
+    ensures { λ a. ⌜ Stepped (now (image .entry)) (now (table .entry)) (now (state .entry)) (t .0) (now (state .exit)) a ⌝ }
 {
     let mut values = [0u16; Thread::REGISTERS];
-    let trap = read_data(state, block_of(r[1]), t, w.present, r, &mut values);
+    let trap = read_data(state, w, r, &mut values);
     if trap != 0 {
-        return trapped(image, table, state, t, trap);
+        return trapped(image, table, state, t, w, trap);
     }
     if w.depth == 0 {
-        return trapped(image, table, state, t, NO_RETURN_LABEL);
+        return trapped(image, table, state, t, w, NO_RETURN_LABEL);
     }
-    let newest = w.depth - 1;
-    let label = label_of(read_return(state, t, newest));
-    let next = w.return_to_caller(label, r[8]);
-    write_called(state, t, next, newest, 0, &values, wide(r[8]));
+    write_thread(state, t, w.return_to_caller(values, operand_count(r)));
     Answer::Moved
 }

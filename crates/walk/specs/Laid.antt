@@ -8,6 +8,13 @@ use lib.ListN.{length, take, drop}
 use Rattle.rules.specs.Sizes.{threadCount}
 use Rattle.rules.specs.Walk.{Walk, walkOn}
 
+-- a byte that no thread is written to, and what a closed ring adds to the count
+abbrev pub unusedByte : ℕ
+unusedByte = 255
+
+abbrev pub ringCount : ℕ
+ringCount = 256
+
 -- t is in the list
 unfoldable pub among : ℕ → List ℕ → Bool
 among t [] = false
@@ -18,7 +25,7 @@ abbrev pub laidBehind : ℕ → List ℕ → Walk → List ℕ
 laidBehind n out w = take n out ++ (w .threads ++ drop (n + length (w .threads)) out)
 
 abbrev pub counted : ℕ → Walk → ℕ
-counted n w = n + length (w .threads) + cond (w .ring) 256 0
+counted n w = n + length (w .threads) + cond (w .ring) ringCount 0
 
 -- the rest of the walk, with n threads in the bytes
 abbrev pub walkRest : (ℕ → Option ℕ) → ℕ → List ℕ → ℕ → Walk

@@ -11,12 +11,13 @@ use lib.Dec.{eqb}
 use lib.ListN.{length, getD, set, take, drop, replicate, take-append-drop}
 use lib.Seq.{drop-cons, set-split, take-suc-set, drop-set-lt}
 use borrow.Author.Tests.{eq-eqb, eqb-true}
+use Rattle.rules.specs.Sizes.{threadCount}
 use Rattle.rules.specs.Walk.{Walk, walk, walkOn, mem?, onto, metCount, metBytes}
 use Rattle.rules.specs.declared.sorts.Thread.{Thread}
 use Rattle.entering.specs.Waiting.{waitsOf}
 use Rattle.entering.specs.declared.waits.Waits.{Waits}
 use Rattle.entering.specs.declared.waits.Waits.the-variants.{For, Nobody}
-use Rattle.walk.specs.Laid.{among, laidBehind, counted, walkRest}
+use Rattle.walk.specs.Laid.{unusedByte, ringCount, among, laidBehind, counted, walkRest}
 
 -- ---- among the bytes
 
@@ -72,32 +73,29 @@ next-none o w e h = sym (met-of o) ∙ ap metBy (sym e ∙ h)
 
 -- ---- the walk, one thread at a time
 
-module _ (next : ℕ → Option ℕ) (out : List ℕ) (n t : ℕ) (size : length out ≡ 8) where
+module _ (next : ℕ → Option ℕ) (out : List ℕ) (n t : ℕ) (size : length out ≡ threadCount) where
   abbrev pub Came : ℕ → List ℕ → Walk → Type 0
   Came r new w = (r ≡ counted n w) × (new ≡ laidBehind n out w)
 
   stays : (m : ℕ) → m ≡ n + 0 → out ≡ take n out ++ drop m out
   stays m e = let z : m ≡ n = omega arith in rw z (sym (take-append-drop n out))
 
-  unchanged : Came (n + 256) out (record { threads = []; ring = true })
+  unchanged : Came (n + ringCount) out (record { threads = []; ring = true })
   unchanged = (omega arith, stays (n + 0) refl)
 
-  pub full : 8 ≤ n → n ≤ 8 → Came 264 out (walkRest next n out t)
+  pub full : threadCount ≤ n → Came (n + ringCount) out (walkRest next n out t)
   unfolding walkOn
-  full h g =
-      let z : 8 - n ≡ 0 = omega arith in
-      let e : n ≡ 8 = omega arith in
-      rw z (omega arith, stays (n + 0) refl)
+  full h = let z : threadCount - n ≡ 0 = omega arith in rw z unchanged
 
-  module _ (short : n < 8) where
-    left : 8 - n ≡ suc (8 - (n + 1))
+  module _ (short : n < threadCount) where
+    left : threadCount - n ≡ suc (threadCount - (n + 1))
     left = omega arith
 
     ring-is : among t (take n out) ≡ true → walkRest next n out t ≡ record { threads = []; ring = true }
     unfolding walkOn
     ring-is h = rw left (if-pos (mem? t (take n out)) (mem-among t (take n out) h) _ _)
 
-    pub ring : among t (take n out) ≡ true → Came (n + 256) out (walkRest next n out t)
+    pub ring : among t (take n out) ≡ true → Came (n + ringCount) out (walkRest next n out t)
     ring h = rw (ring-is h) unchanged
 
     module _ (new : among t (take n out) ≡ false) where
@@ -106,7 +104,7 @@ module _ (next : ℕ → Option ℕ) (out : List ℕ) (n t : ℕ) (size : length
 
       abbrev on : Option ℕ → Walk
       unfolding Option·elim
-      on o = onto t (Option·elim o (record { threads = []; ring = false }) (λ u. walkOn next (8 - (n + 1)) (take n out ++ t ∷ []) u))
+      on o = onto t (Option·elim o (record { threads = []; ring = false }) (λ u. walkOn next (threadCount - (n + 1)) (take n out ++ t ∷ []) u))
 
       on-is : (o : Option ℕ) → next t ≡ o → walkRest next n out t ≡ on o
       unfolding walkOn Option·elim
@@ -124,9 +122,9 @@ module _ (next : ℕ → Option ℕ) (out : List ℕ) (n t : ℕ) (size : length
       unfolding Option·elim
       goes u r l e p q =
           let f : take (n + 1) (set out n t) ≡ take n out ++ t ∷ [] = rw add-one (take-suc-set out n t here) in
-          let w : Walk = walkOn next (8 - (n + 1)) (take n out ++ t ∷ []) u in
-          let k : walkRest next n out t ≡ onto t (walkOn next (8 - (n + 1)) (take n out ++ t ∷ []) u) = on-is (some u) e in
-          let p′ : r ≡ counted (n + 1) (walkOn next (8 - (n + 1)) (take n out ++ t ∷ []) u) = rw f at p in
+          let w : Walk = walkOn next (threadCount - (n + 1)) (take n out ++ t ∷ []) u in
+          let k : walkRest next n out t ≡ onto t (walkOn next (threadCount - (n + 1)) (take n out ++ t ∷ []) u) = on-is (some u) e in
+          let p′ : r ≡ counted (n + 1) (walkOn next (threadCount - (n + 1)) (take n out ++ t ∷ []) u) = rw f at p in
           let q′ : l ≡ (take n out ++ t ∷ []) ++ (w .threads ++ drop (n + 1 + length (w .threads)) (set out n t)) = rw f at q in
           let z : n + 1 + length (w .threads) ≡ n + suc (length (w .threads)) = omega arith in
           let d : drop (n + 1 + length (w .threads)) (set out n t) ≡ drop (n + suc (length (w .threads))) out = drop-set-lt (n + 1 + length (w .threads)) out n t (omega arith) ∙ ap (λ (i : ℕ). drop i out) z in
@@ -137,11 +135,11 @@ drop-replicate m zero v = let e : m - 0 ≡ m = omega arith in rw e refl
 drop-replicate zero (suc k) v = let e : 0 - suc k ≡ 0 = omega arith in rw e refl
 drop-replicate (suc m) (suc k) v = let e : suc m - suc k ≡ m - k = omega arith in rw e (drop-replicate m k v)
 
--- from no thread met, over 8 bytes of 255
-pub from-none : (next : ℕ → Option ℕ) (out : List ℕ) (t r : ℕ) (l : List ℕ) → out ≡ replicate 8 255 → r ≡ counted 0 (walkRest next 0 out t) → l ≡ laidBehind 0 out (walkRest next 0 out t)
-    → (r ≡ metCount (walk next 8 t)) × (l ≡ metBytes (walk next 8 t))
+-- from no thread met, over unused bytes
+pub from-none : (next : ℕ → Option ℕ) (out : List ℕ) (t r : ℕ) (l : List ℕ) → out ≡ replicate threadCount unusedByte → r ≡ counted 0 (walkRest next 0 out t) → l ≡ laidBehind 0 out (walkRest next 0 out t)
+    → (r ≡ metCount (walk next threadCount t)) × (l ≡ metBytes (walk next threadCount t))
 unfolding walk metCount metBytes
 from-none next out t r l e p q =
-    let w : Walk = walkOn next 8 [] t in
+    let w : Walk = walkOn next threadCount [] t in
     let z : 0 + length (w .threads) ≡ length (w .threads) = omega arith in
-    (p ∙ omega arith, q ∙ rw (e, z, drop-replicate 8 (length (w .threads)) 255) refl)
+    (p ∙ omega arith, q ∙ rw (e, z, drop-replicate threadCount (length (w .threads)) unusedByte) refl)

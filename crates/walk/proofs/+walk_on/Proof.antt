@@ -4,6 +4,7 @@ use borrow.Author.Needs.{needs}
 use native.Mathlib.Omega.{arith}
 use lib.ListN.{length-set}
 use Prim.Native.Nat.{ℕ, _<_, _-_}
+use Rattle.rules.specs.Sizes.{threadCount}
 use Rattle.rules.specs.Encoding.{machineFrom}
 use Rattle.rules.specs.Steps.{rulesBy}
 use Rattle.rules.specs.Walk.{awaits}
@@ -21,7 +22,7 @@ use Rattle.walk.proofs.+walk_on.{statement}
 use Rattle.walk.proofs.+walk_on.Tie.{close}
 
 abbrev μ-walk-on : Measures 4 walk-on-kinds.ps ℕ
-μ-walk-on κs a = 8 - a .1 .1 .1 .1 .0
+μ-walk-on κs a = threadCount - a .1 .1 .1 .1 .0
 
 abbrev walk-on-at : ℕ → In 4 walk-on-kinds.ps
 walk-on-at t = and 4 walk-on-kinds.ps (is 4 walk-on-kinds.ps μ-walk-on t) walk-on.Pre
@@ -31,41 +32,12 @@ walk-on-below t = and 4 walk-on-kinds.ps (falls 4 walk-on-kinds.ps _<_ μ-walk-o
 
 -- what the calls ask and give
 abbrev callees : ℕ → walk-on-lts.Claims
-callees t = (thread-number-reads.Asked, thread-number-reads.Learnt, is-met-reads.Asked, is-met-reads.Learnt, awaited-reads.Asked, awaited-reads.Learnt, walk-on-below t, walk-on.Post)
-
-walk-on-thread-number-requires : (t : ℕ) → walk-on-lts.Need-thread-number-requires (callees t) (walk-on-at t) walk-on.Post
-walk-on-thread-number-requires t c κs = search needs
-
-walk-on-is-met-requires : (t : ℕ) → walk-on-lts.Need-is-met-requires (callees t) (walk-on-at t) walk-on.Post
-walk-on-is-met-requires t c κs = search needs
-
-walk-on-cast-result : (t : ℕ) → walk-on-lts.Need-cast-result (callees t) (walk-on-at t) walk-on.Post
-walk-on-cast-result t c = search needs
-
-walk-on-add-result : (t : ℕ) → walk-on-lts.Need-add-result (callees t) (walk-on-at t) walk-on.Post
-walk-on-add-result t c = search needs
-
-walk-on-same-length : (t : ℕ) → walk-on-lts.Need-same-length (callees t) (walk-on-at t) walk-on.Post
-walk-on-same-length t c = search needs
+callees t = (is-met-reads.Asked, is-met-reads.Learnt, thread-number-reads.Asked, thread-number-reads.Learnt, awaited-reads.Asked, awaited-reads.Learnt, walk-on-below t, walk-on.Post)
 
 walk-on-returns : (t : ℕ) → walk-on-lts.Need-returns (callees t) (walk-on-at t) walk-on.Post
 walk-on-returns t c =
-    let s = c .before .before .before .before .before .before .before .before .before in
-    let a = s .args in
-    let e : c .before .before .before .thread-number .result ≡ a .t .0 = c .before .before .before .thread-number .ensures in
-    rw (← e) (ring _ (a .met .now) (a .n) _ (s .pre .1 .2) (c .before .before .before .before .if1 .taken) (sym (c .before .is-met .ensures) ∙ c .if2 .taken))
-
-walk-on-slice-write-met : (t : ℕ) → walk-on-lts.Need-slice-write-met (callees t) (walk-on-at t) walk-on.Post
-walk-on-slice-write-met t c = search needs
-
-walk-on-awaited-requires : (t : ℕ) → walk-on-lts.Need-awaited-requires (callees t) (walk-on-at t) walk-on.Post
-walk-on-awaited-requires t c κs = search needs
-
-walk-on-enum-known-next : (t : ℕ) → walk-on-lts.Need-enum-known-next (callees t) (walk-on-at t) walk-on.Post
-walk-on-enum-known-next t c = search needs
-
-walk-on-add-walk-on : (t : ℕ) → walk-on-lts.Need-add-walk-on (callees t) (walk-on-at t) walk-on.Post
-walk-on-add-walk-on t c = search needs
+    let s = c .before .before .before .before .before .before .before .before in
+    ring _ (s .args .met .now) (s .args .n) _ (s .pre .1 .2) (c .before .before .before .if1 .taken) (sym (c .before .is-met .ensures) ∙ c .if2 .taken)
 
 walk-on-walk-on-requires : (t : ℕ) → walk-on-lts.Need-walk-on-requires (callees t) (walk-on-at t) walk-on.Post
 walk-on-walk-on-requires t c κs =
@@ -85,21 +57,10 @@ walk-on-returns-2 t c =
     let a = s .args in
     let R = rulesBy (a .image .now) (a .table .now) in
     let m = machineFrom (a .state .now) in
-    let e : c .before .before .before .before .before .before .before .before .before .before .before .thread-number .result ≡ a .t .0 = c .before .before .before .before .before .before .before .before .before .before .before .thread-number .ensures in
-    let u : awaits R m (c .before .before .before .before .before .before .before .before .before .before .before .thread-number .result) ≡ some (c .before .before .before .before .before .next .given .0 .0 .0) = ap (awaits R m) e ∙ next-some _ _ _ (c .before .before .before .before .before .before .before .awaited .ensures) (c .before .before .before .before .before .next .given .1) in
-    rw (← e) (goes (awaits R m) (a .met .now) (a .n) _ (s .pre .1 .2) (c .before .before .before .before .before .before .before .before .before .before .before .before .if1 .taken) (sym (c .before .before .before .before .before .before .before .before .before .is-met .ensures) ∙ c .before .before .before .before .before .before .before .before .if2 .left) _ _ _ u (c .before .before .walk-on .ensures .0) (c .before .before .walk-on .ensures .1))
-
-walk-on-enum-told : (t : ℕ) → walk-on-lts.Need-enum-told (callees t) (walk-on-at t) walk-on.Post
-walk-on-enum-told t c = search needs
-
-walk-on-add-result-2 : (t : ℕ) → walk-on-lts.Need-add-result-2 (callees t) (walk-on-at t) walk-on.Post
-walk-on-add-result-2 t c = search needs
-
-walk-on-cast-result-2 : (t : ℕ) → walk-on-lts.Need-cast-result-2 (callees t) (walk-on-at t) walk-on.Post
-walk-on-cast-result-2 t c = search needs
-
-walk-on-same-length-3 : (t : ℕ) → walk-on-lts.Need-same-length-3 (callees t) (walk-on-at t) walk-on.Post
-walk-on-same-length-3 t c = search needs
+    let e : c .before .before .before .before .before .before .before .before .thread-number .result ≡ a .t .0 = c .before .before .before .before .before .before .before .before .thread-number .ensures in
+    let fresh = rw (← e) at (sym (c .before .before .before .before .before .before .before .before .before .before .is-met .ensures) ∙ c .before .before .before .before .before .before .before .before .before .if2 .left) in
+    let u : awaits R m (c .before .before .before .before .before .before .before .before .thread-number .result) ≡ some (c .before .before .before .before .before .next .given .0 .0 .0) = ap (awaits R m) e ∙ next-some _ _ _ (c .before .before .before .before .before .before .before .awaited .ensures) (c .before .before .before .before .before .next .given .1) in
+    rw (← e) (goes (awaits R m) (a .met .now) (a .n) _ (s .pre .1 .2) (c .before .before .before .before .before .before .before .before .before .before .before .before .if1 .taken) fresh _ _ _ u (c .before .before .walk-on .ensures .0) (c .before .before .walk-on .ensures .1))
 
 walk-on-returns-3 : (t : ℕ) → walk-on-lts.Need-returns-3 (callees t) (walk-on-at t) walk-on.Post
 walk-on-returns-3 t c =
@@ -107,39 +68,38 @@ walk-on-returns-3 t c =
     let a = s .args in
     let R = rulesBy (a .image .now) (a .table .now) in
     let m = machineFrom (a .state .now) in
-    let e : c .before .before .before .before .before .before .thread-number .result ≡ a .t .0 = c .before .before .before .before .before .before .thread-number .ensures in
-    let u : awaits R m (c .before .before .before .before .before .before .thread-number .result) ≡ none = ap (awaits R m) e ∙ next-none _ _ (c .before .before .awaited .ensures) (c .enum-told .given .1) in
-    rw (← e) (halts (awaits R m) (a .met .now) (a .n) _ (s .pre .1 .2) (c .before .before .before .before .before .before .before .if1 .taken) (sym (c .before .before .before .before .is-met .ensures) ∙ c .before .before .before .if2 .left) u)
-
-walk-on-add-result-3 : (t : ℕ) → walk-on-lts.Need-add-result-3 (callees t) (walk-on-at t) walk-on.Post
-walk-on-add-result-3 t c = search needs
+    let e : c .before .before .before .thread-number .result ≡ a .t .0 = c .before .before .before .thread-number .ensures in
+    let fresh = rw (← e) at (sym (c .before .before .before .before .before .is-met .ensures) ∙ c .before .before .before .before .if2 .left) in
+    let u : awaits R m (c .before .before .before .thread-number .result) ≡ none = ap (awaits R m) e ∙ next-none _ _ (c .before .before .awaited .ensures) (c .enum-told .given .1) in
+    rw (← e) (halts (awaits R m) (a .met .now) (a .n) _ (s .pre .1 .2) (c .before .before .before .before .before .before .before .if1 .taken) fresh u)
 
 walk-on-returns-4 : (t : ℕ) → walk-on-lts.Need-returns-4 (callees t) (walk-on-at t) walk-on.Post
 walk-on-returns-4 t c =
     let s = c .before .before .before .before .before in
-    full _ (s .args .met .now) (s .args .n) _ (s .pre .1 .2) (c .if1 .left) (s .pre .1 .1)
+    full _ (s .args .met .now) (s .args .n) _ (s .pre .1 .2) (c .if1 .left)
 
 pub +walk-on-spec : {M : Type 1} → statement M
 +walk-on-spec = close μ-walk-on λ t. walk-on-lts.spec (callees t)
     (walk-on-at t)
     walk-on.Post
-    (walk-on-thread-number-requires t)
-    (walk-on-is-met-requires t)
-    (walk-on-cast-result t)
-    (walk-on-add-result t)
-    (walk-on-same-length t)
+    (λ c κs. search needs)
+    (λ c. search needs)
+    (λ c. search needs)
+    (λ c. search needs)
     (walk-on-returns t)
-    (walk-on-slice-write-met t)
-    (walk-on-awaited-requires t)
-    (walk-on-enum-known-next t)
-    (walk-on-add-walk-on t)
+    (λ c κs. search needs)
+    (λ c. search needs)
+    (λ c κs. search needs)
+    (λ c. search needs)
+    (λ c. search needs)
     (walk-on-walk-on-requires t)
     (walk-on-same-length-2 t)
     (walk-on-returns-2 t)
-    (walk-on-enum-told t)
-    (walk-on-add-result-2 t)
-    (walk-on-cast-result-2 t)
-    (walk-on-same-length-3 t)
+    (λ c. search needs)
+    (λ c. search needs)
+    (λ c. search needs)
+    (λ c. search needs)
     (walk-on-returns-3 t)
-    (walk-on-add-result-3 t)
+    (λ c. search needs)
+    (λ c. search needs)
     (walk-on-returns-4 t)

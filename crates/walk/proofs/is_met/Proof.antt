@@ -12,42 +12,38 @@ use Rattle.walk.proofs.is_met.Statement.{statement}
 use Rattle.walk.proofs.is_met.Tie as tie
 
 abbrev Inv-loop : tie.InvT-loop
-Inv-loop out n t k₀ k = (k ≤ n) × (among t (take n out) ≡ among t (take (n - k) (drop k out)))
+Inv-loop met n number k₀ k = (k ≤ n) × (among number (take n met) ≡ among number (take (n - k) (drop k met)))
 
 abbrev μ-loop : tie.MeasureT-loop
-μ-loop out n t k₀ k = n - k
+μ-loop met n number k₀ k = n - k
 
 loop-holds : tie.Need-loop-holds Inv-loop μ-loop
-loop-holds c = let e : c .args .n - 0 ≡ c .args .n = omega arith in (omega arith, rw e refl)
-
-shared-slice-read-if1 : tie.Need-shared-slice-read-if1 Inv-loop μ-loop
-shared-slice-read-if1 c = search needs
+loop-holds c = let n = c .before .before .args .n in let e : n - 0 ≡ n = omega arith in (omega arith, rw e refl)
 
 returns : tie.Need-returns Inv-loop μ-loop
 returns c =
-    let l = c .before .before .before in
-    let a = c .before .before .before .before .args in
-    let e : eqb (getD (a .met .now) (l .loop .k) 0) (a .t) ≡ true = eq-eqb _ _ (c .if1 .taken) in
-    sym (l .loop .inv .1 ∙ among-step (a .met .now) (a .t) (a .n) (l .loop .k) (c .before .before .loop-test .taken) (c .before .before .before .before .pre) ∙ rw e refl)
-
-add-k : tie.Need-add-k Inv-loop μ-loop
-add-k c = search needs
-
-loop-less : tie.Need-loop-less Inv-loop μ-loop
-loop-less c = search needs
+    let l = c .before .before .before .loop in
+    let t = c .before .before .before .before .thread-number in
+    let s = c .before .before .before .before .before .before in
+    let a = s .args in
+    let e : eqb (getD (a .met .now) (l .k) 0) (t .result) ≡ true = eq-eqb _ _ (c .if1 .taken) in
+    rw (← t .ensures) (sym (l .inv .1 ∙ among-step (a .met .now) (t .result) (a .n) (l .k) (c .before .before .loop-test .taken) (s .pre) ∙ rw e refl))
 
 loop-again : tie.Need-loop-again Inv-loop μ-loop
 loop-again c =
-    let l = c .before .before .before in
-    let a = c .before .before .before .before .args in
-    let e : eqb (getD (a .met .now) (l .loop .k) 0) (a .t) ≡ false = ne-eqb _ _ (c .if1 .left) in
-    (omega arith, l .loop .inv .1 ∙ among-step (a .met .now) (a .t) (a .n) (l .loop .k) (c .before .before .loop-test .taken) (c .before .before .before .before .pre) ∙ rw e refl)
+    let l = c .before .before .before .loop in
+    let t = c .before .before .before .before .thread-number in
+    let s = c .before .before .before .before .before .before in
+    let a = s .args in
+    let e : eqb (getD (a .met .now) (l .k) 0) (t .result) ≡ false = ne-eqb _ _ (c .if1 .left) in
+    (omega arith, l .inv .1 ∙ among-step (a .met .now) (t .result) (a .n) (l .k) (c .before .before .loop-test .taken) (s .pre) ∙ rw e refl)
 
 returns-2 : tie.Need-returns-2 Inv-loop μ-loop
 returns-2 c =
-    let l = c .before in
-    let a = c .before .before .args in
-    sym (l .loop .inv .1 ∙ among-none (a .met .now) (a .t) (a .n) (l .loop .k) (c .loop-test .left))
+    let l = c .before .loop in
+    let t = c .before .before .thread-number in
+    let a = c .before .before .before .before .args in
+    rw (← t .ensures) (sym (l .inv .1 ∙ among-none (a .met .now) (t .result) (a .n) (l .k) (c .loop-test .left)))
 
 pub is-met-spec : {M : Type 1} → statement M
 is-met-spec =
@@ -55,10 +51,11 @@ is-met-spec =
     (tie.spec
     Inv-loop
     μ-loop
+    (λ c κs. search needs)
     loop-holds
-    shared-slice-read-if1
+    (λ c. search needs)
     returns
-    add-k
-    loop-less
+    (λ c. search needs)
+    (λ c. search needs)
     loop-again
     returns-2)

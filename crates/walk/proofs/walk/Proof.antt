@@ -1,6 +1,3 @@
-use mathlib.Core.Path.{_≡_, ap, _∙_}
-use Prim.Native.Nat.{ℕ}
-use lib.ListN.{replicate}
 use borrow.Author.Needs.{needs}
 use Rattle.rules.specs.Encoding.{machineFrom}
 use Rattle.rules.specs.Steps.{rulesBy}
@@ -25,8 +22,7 @@ returns c =
     let a = s .args in
     let R = rulesBy (a .image .now) (a .table .now) in
     let m = machineFrom (a .state .now) in
-    let e : c .before .before .before .before .before .before .blank .last .0 ≡ replicate 8 255 = c .before .before .before .before .before .before .blank .ensures ∙ ap (λ (k : ℕ). replicate k 255) (s .pre .1) in
-    from-none (awaits R m) _ (a .t .0) _ _ e (c .before .before .walk-on .ensures .0) (c .before .before .walk-on .ensures .1)
+    from-none (awaits R m) _ (a .t .0) _ _ (c .before .before .before .before .before .before .blank .ensures) (c .before .before .walk-on .ensures .0) (c .before .before .walk-on .ensures .1)
 
 pub walk-spec : {M : Type 1} → statement M
 walk-spec = tie.close (tie.spec blank-requires walk-on-requires same-length returns)

@@ -5,7 +5,7 @@ use Rattle.entering.proofs.passage.is_alien.Tie as tie
 
 returns : tie.Need-returns
 unfolding alien
-returns c = simp (c .thread-number2 .ensures, c .before .thread-number .ensures, c .before .before .thread-at .ensures, c .before .before .before .kind-at .ensures)
+returns c = simp (c .same-thread .ensures, c .before .thread-at .ensures, c .before .before .kind-at .ensures)
 
 pub is-alien-spec : {M : Type 1} → statement M
-is-alien-spec = tie.close (tie.spec (λ c κs. search needs) (λ c κs. search needs) (λ c κs. search needs) (λ c κs. search needs) returns)
+is-alien-spec = tie.close (tie.spec (λ c κs. search needs) (λ c κs. search needs) (λ c κs. search needs) returns)

@@ -1,45 +1,68 @@
-use mathlib.Core.Path.{sym, _∙_}
-use borrow.Author.Needs.{needs}
-use Rattle.rules.specs.Image.{labelA}
+use Rattle.rules.specs.Encoding.{machineFrom}
+use Rattle.rules.specs.declared.statement.Statement.the-variants.{Assign}
 use Rattle.encoding.specs.Encoded.{encoded-canonical}
-use Rattle.moves.specs.Assigned.{place-lands, again, one-stored, both-stored}
+use Rattle.step_ready.specs.At.{label-A, small}
+use Rattle.moves.specs.Destinations.{register-stored, both-stored}
+use Rattle.moves.specs.Assigned.{legal, one-changed}
+use borrow.Author.Needs.{needs}
 use Rattle.moves.proofs.assign.store_both.Statement.{statement}
 use Rattle.moves.proofs.assign.store_both.Tie as tie
 
-store-requires-2 : tie.Need-store-requires-2
-store-requires-2 c κs =
-    let s = c .before .before .before .before .before .before .before .before .before .before .before in
-    let p = s .pre in
-    let one = c .before .before .before .before .before .before .before .store in (
-      encoded-canonical _ _ (one .ensures .1),
-      p .1,
-      again (s .args .state .now) _ (s .args .t .0) (s .args .w) (c .before .read-thread .result) (labelA (s .args .r .now)) (s .args .block .0) (s .args .first) (s .args .u) (p .0) (p .1) (p .4) (p .6) (one .ensures .1) (c .before .read-thread .ensures) .running,
-      p .3,
-      p .4,
-      p .5,
-      place-lands (s .args .second) (p .7) (sym (c .before .before .before .before .is-place .ensures) ∙ c .before .before .before .if1 .taken),
-    )
+move-on-requires : tie.Need-move-on-requires
+move-on-requires c κs =
+    let s = c .before .before .before .before .before .before in
+    let h = s .pre .0 in
+    (h .thread, rw (c .label-a .ensures) (small h _ (label-A h (Assign (s .args .a)) (s .pre .1))))
+
+store-register-requires : tie.Need-store-register-requires
+store-register-requires c κs =
+    let s = c .before .before .before .before .before .before .before in
+    (c .move-on .ensures .running, legal (s .pre .0) (s .args .a) (s .pre .1) .first)
+
+write-both-requires : tie.Need-write-both-requires
+write-both-requires c κs =
+    let s = c .before .before .before .before .before .before .before .before .before in
+    let h = s .pre .0 in
+    let a = s .args .a in
+    let fits = legal h a (s .pre .1) in
+    let runs = register-stored (a .first) (s .args .u) (c .before .before .move-on .ensures) (c .before .store-register .ensures) in
+    (h .ready .canonical, h .inside, runs .running, one-changed h (a .first) (s .args .u) (fits .first) runs, fits .second)
+
+store-word-requires : tie.Need-store-word-requires
+store-word-requires c κs =
+    let write-both = c .before .before .before .write-both in
+    let block-field = c .before .before .before .before .before .before .before .before .block-field in
+    let s = c .before .before .before .before .before .before .before .before .before .before .before .before .before in
+    let h = s .pre .0 in
+    (encoded-canonical _ _ (write-both .ensures), rw (block-field .ensures) (h .readable .block), legal h (s .args .a) (s .pre .1) .first)
+
+store-word-requires-2 : tie.Need-store-word-requires-2
+store-word-requires-2 c κs =
+    let store-word = c .before .before .before .store-word in
+    let earlier = c .before .before .before .before .before .before .before .before .before .before in
+    let block-field = earlier .before .before .block-field in
+    let s = earlier .before .before .before .before .before .before .before in
+    let h = s .pre .0 in
+    (encoded-canonical _ _ (store-word .ensures), rw (block-field .ensures) (h .readable .block), legal h (s .args .a) (s .pre .1) .second)
 
 returns : tie.Need-returns
 returns c =
-    let s = c .before .before .before .before .before .before .before .before .before .before .before .before .before .before in
-    let p = s .pre in
-    let one = c .before .before .before .before .before .before .before .before .before .before .store in
-    let read = c .before .before .before .before .read-thread in
-    let two = c .before .before .store2 in
-    let place = place-lands (s .args .second) (p .7) (sym (c .before .before .before .before .before .before .before .is-place .ensures) ∙ c .before .before .before .before .before .before .if1 .taken) in (
-      two .ensures .0,
-      both-stored (s .args .state .now) _ (s .args .t .0) (s .args .w) (read .result) (labelA (s .args .r .now)) (s .args .block .0) (s .args .first) (s .args .u) (p .0) (p .1) (p .4) (p .6) (one .ensures .1) (read .ensures) _ (s .args .second) (s .args .v) place (two .ensures .1),
-    )
-
-returns-2 : tie.Need-returns-2
-returns-2 c =
-    let s = c .before .before .before .before .before .before .before .before in
-    let p = s .pre in
-    let one = c .before .before .before .before .store in (
-      one .ensures .0,
-      one-stored (s .args .state .now) _ (s .args .t .0) (s .args .w) (labelA (s .args .r .now)) (s .args .block .0) (s .args .first) (s .args .u) (p .6) (one .ensures .1) (s .args .second) (s .args .v) (sym (c .before .is-place .ensures) ∙ c .if1 .left),
-    )
+    let store-word2 = c .before .before .store-word2 in
+    let store-word = c .before .before .before .before .before .before .store-word in
+    let earlier = c .before .before .before .before .before .before .before .before .before .before in
+    let write-both = earlier .write-both in
+    let store-register = earlier .before .before .store-register in
+    let move-on = earlier .before .before .before .move-on in
+    let label-a = earlier .before .before .before .before .label-a in
+    let block-field = earlier .before .before .before .before .before .block-field in
+    let s = earlier .before .before .before .before .before .before .before .before .before .before in
+    let h = s .pre .0 in
+    let a = s .args .a in
+    let fits = legal h a (s .pre .1) in
+    let runs = register-stored (a .first) (s .args .u) (move-on .ensures) (store-register .ensures) in
+    both-stored (machineFrom (s .args .state .now)) (s .args .t .0) (s .args .w) (s .args .r .now) a (s .args .u) (s .args .v)
+    (store-register .result) (fits .first) (fits .second) (rw (label-a .ensures) at runs) (write-both .ensures)
+    (rw (block-field .ensures) at (store-word .ensures)) (rw (block-field .ensures) at (store-word2 .ensures))
 
 pub store-both-spec : {M : Type 1} → statement M
 store-both-spec =
@@ -47,9 +70,10 @@ store-both-spec =
     (tie.spec
     (λ c κs. search needs)
     (λ c κs. search needs)
-    (λ c κs. (encoded-canonical _ _ (c .before .before .before .before .before .store .ensures .1) .long, c .before .before .before .before .before .before .before .before .before .pre .1))
-    store-requires-2
+    move-on-requires
+    store-register-requires
+    write-both-requires
+    store-word-requires
+    store-word-requires-2
     (λ c. search needs)
-    returns
-    (λ c. search needs)
-    returns-2)
+    returns)

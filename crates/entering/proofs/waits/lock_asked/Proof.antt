@@ -1,9 +1,0 @@
-use borrow.Author.Needs.{needs}
-use Rattle.entering.proofs.waits.lock_asked.Statement.{statement}
-use Rattle.entering.proofs.waits.lock_asked.Tie as tie
-
-returns-2 : tie.Need-returns-2
-returns-2 c = rw (c .before .p .given .1)
-
-pub lock-asked-spec : {M : Type 1} → statement M
-lock-asked-spec = tie.close (tie.spec (λ c. search needs) (λ c. search needs) (λ c. search needs) returns-2)
