@@ -6,7 +6,7 @@ use native.Mathlib.Nat.{sub-zero}
 use native.Mathlib.Omega.{arith}
 use lib.ListN.{length, replicate, length-append, length-replicate, replicate-append-replicate}
 use lib.Seq.{take-all}
-use Rattle.rules.specs.Sizes.{blockCount, wordCount, threadCount, treeCount, wordsSize, threadSize, treeSize, stateSize, idleLabel}
+use Rattle.rules.specs.Sizes.{wordTotal, threadCount, treeCount, wordsSize, threadSize, treeSize, stateSize, idleLabel}
 use Rattle.rules.specs.Bytes.{num16, le16, part, blocks, pad}
 use Rattle.rules.specs.Machine as law
 use Rattle.rules.specs.Machine.{idle, fresh}
@@ -59,9 +59,9 @@ module _ (words : List ℕ) (l : length words ≡ wordsSize) (n : ℕ) (en : n �
       e′ ∙ rw (e, cut, stored, idle-record, more-threads k) (ap (λ (z : List ℕ). z ++ q) (append-assoc words (idleThreads k) (threadBytes idle)))
 
   module _ (bytes : AreBytes words) where
-    words-are : blocks le16 (pad 0 (blockCount * wordCount) (wordsFrom words)) ≡ words
+    words-are : blocks le16 (pad 0 wordTotal (wordsFrom words)) ≡ words
     unfolding wordsFrom part
-    words-are = ap (blocks le16) (pad-full 0 256 _ (length-chunks num16 2 256 words)) ∙ nums-forth words 0 256 512 bytes (omega arith) refl ∙ take-all 512 words (omega arith)
+    words-are = ap (blocks le16) (pad-full 0 wordTotal _ (length-chunks num16 2 wordTotal words)) ∙ nums-forth words 0 wordTotal wordsSize bytes (omega arith) refl ∙ take-all wordsSize words (omega arith)
 
     no-trees : 0 ∷ blocks treeBytes (pad noTree treeCount []) ≡ replicate (n - threadSize * threadCount) 0
     unfolding blocks

@@ -6,7 +6,8 @@ use native.Mathlib.Omega.{arith}
 use lib.ListN.{getD, drop, length-drop}
 use lib.Seq.{getD-drop}
 use borrow.Author.Tests.{ne-eqb}
-use Rattle.rules.specs.Sizes.{threadCount, eventSize}
+use Rattle.rules.specs.Sizes.{threadCount, eventKindPlace, eventThreadPlace, eventSize}
+use Rattle.rules.specs.Codes.{arrivalCode, stepCode}
 use Rattle.rules.specs.Events.{step, cut, eventFrom, eventAtOk}
 use Rattle.encoding.specs.Events.{EventRead, arrival, turned, event-read}
 use Rattle.sending.specs.Arrivals.{EventAt}
@@ -15,26 +16,30 @@ module _ {image events : List ℕ} {i : ℕ} (h : EventAt image events i) where
   abbrev bytes : List ℕ
   bytes = drop (eventSize * i) events
 
-  kind : getD bytes 0 0 ≡ getD events (eventSize * i) 0
-  kind = getD-drop (eventSize * i) events 0 0 ∙ ap (λ n. getD events n 0) (omega arith)
+  kind : getD bytes eventKindPlace 0 ≡ getD events (eventSize * i) 0
+  kind = getD-drop (eventSize * i) events eventKindPlace 0 ∙ ap (λ n. getD events n 0) (omega arith)
 
-  thread : getD bytes 1 0 ≡ getD events (eventSize * i + 1) 0
-  thread = getD-drop (eventSize * i) events 1 0
+  -- the kind is the first byte
+  pub kind-place : getD events (eventSize * i + eventKindPlace) 0 ≡ getD events (eventSize * i) 0
+  kind-place = ap (λ n. getD events n 0) (omega arith)
+
+  thread : getD bytes eventThreadPlace 0 ≡ getD events (eventSize * i + eventThreadPlace) 0
+  thread = getD-drop (eventSize * i) events eventThreadPlace 0
 
   -- a step and a cut have a thread 0 to 7
-  pub turn-thread : (getD events (eventSize * i) 0 ≡ 1 → ⊥) → getD events (eventSize * i + 1) 0 < threadCount
+  pub turn-thread : (getD events (eventSize * i) 0 ≡ arrivalCode → ⊥) → getD events (eventSize * i + eventThreadPlace) 0 < threadCount
   unfolding eventAtOk
   turn-thread n = case (event-read image bytes (simp length-drop (omega (arith, h .room))) (h .ok))
     where
-      case : EventRead bytes → getD events (eventSize * i + 1) 0 < threadCount
+      case : EventRead bytes → getD events (eventSize * i + eventThreadPlace) 0 < threadCount
       case (arrival k t e) = absurd (n (sym kind ∙ k))
       case (turned m k t e) = rw thread at t
 
-  pub step-is : getD events (eventSize * i) 0 ≡ 2 → eventFrom bytes ≡ step (getD events (eventSize * i + 1) 0)
+  pub step-is : getD events (eventSize * i) 0 ≡ stepCode → eventFrom bytes ≡ step (getD events (eventSize * i + eventThreadPlace) 0)
   unfolding eventFrom
-  step-is e = let k : getD bytes 0 0 ≡ 2 = kind ∙ e in rw (k, thread) refl
+  step-is e = let k : getD bytes eventKindPlace 0 ≡ stepCode = kind ∙ e in rw (k, thread) refl
 
-  pub cut-is : (getD events (eventSize * i) 0 ≡ 1 → ⊥) → (getD events (eventSize * i) 0 ≡ 2 → ⊥) → eventFrom bytes ≡ cut (getD events (eventSize * i + 1) 0)
+  pub cut-is : (getD events (eventSize * i) 0 ≡ arrivalCode → ⊥) → (getD events (eventSize * i) 0 ≡ stepCode → ⊥) → eventFrom bytes ≡ cut (getD events (eventSize * i + eventThreadPlace) 0)
   unfolding eventFrom
   cut-is m n =
-      rw (ne-eqb (getD bytes 0 0) 1 (λ e. m (sym kind ∙ e)), ne-eqb (getD bytes 0 0) 2 (λ e. n (sym kind ∙ e)), thread) refl
+      rw (ne-eqb (getD bytes eventKindPlace 0) arrivalCode (λ e. m (sym kind ∙ e)), ne-eqb (getD bytes eventKindPlace 0) stepCode (λ e. n (sym kind ∙ e)), thread) refl

@@ -6,7 +6,7 @@ use Prim.Native.Nat.{ℕ, suc, _+_, _*_, _<_}
 use native.Mathlib.Numerals.{add-one}
 use native.Mathlib.Omega.{arith}
 use lib.ListN.{length, drop}
-use Rattle.rules.specs.Sizes.{eventSize}
+use Rattle.rules.specs.Sizes.{answerSize, eventSize}
 use Rattle.rules.specs.Bytes.{blocks, chunks}
 use Rattle.rules.specs.Machine.{Machine}
 use Rattle.rules.specs.Encoding.{encode, machineFrom}
@@ -79,7 +79,7 @@ module _ (image table events b₀ a₀ : List ℕ) where
   ran-none h = record { ready = h; machine = refl; answered = refl }
 
   pub ran-more : {b a b′ a′ : List ℕ} {x : Answer} (i : ℕ) → Ran image table events b₀ a₀ i b a → EventAt image events i
-      → Done (replyTo image table b (eventFrom (drop (eventSize * i) events))) b′ x → a′ ≡ put a (2 * i) (answerBytes x) → Ran image table events b₀ a₀ (i + 1) b′ a′
+      → Done (replyTo image table b (eventFrom (drop (eventSize * i) events))) b′ x → a′ ≡ put a (answerSize * i) (answerBytes x) → Ran image table events b₀ a₀ (i + 1) b′ a′
   ran-more {b} {a} {b′} {a′} {x} i h k d w =
       let s₀ = machineFrom b₀ in
       let before : List Event = firstEvents events i in
@@ -87,14 +87,14 @@ module _ (image table events b₀ a₀ : List ℕ) where
       let more : firstEvents events (i + 1) ≡ before ++ e ∷ [] = rw add-one (chunks-suc eventFrom eventSize i events) in
       let m : machineFrom b′ ≡ final R s₀ (before ++ e ∷ []) = d .machine ∙ next s₀ before e (h .machine) in
       let past : List ℕ = blocks answerBytes (answers R s₀ before) in
-      let n : length past ≡ 2 * i = length-blocks answerBytes 2 length-answer (answers R s₀ before) ∙ rw (length-answers R s₀ before, length-chunks eventFrom eventSize i events) refl in
+      let n : length past ≡ answerSize * i = length-blocks answerBytes answerSize length-answer (answers R s₀ before) ∙ rw (length-answers R s₀ before, length-chunks eventFrom eventSize i events) refl in
       let last : blocks answerBytes (answers R s₀ (before ++ e ∷ [])) ≡ past ++ answerBytes x =
       ap (blocks answerBytes) (answers-append R s₀ before (e ∷ [])) ∙ blocks-append answerBytes (answers R s₀ before) _
       ∙ ap (λ (z : List ℕ). past ++ z) (last-answer (final R s₀ before) e ∙ ap answerBytes (ap (λ (z : Machine). react R z e .answer) (sym (h .machine)) ∙ sym (d .answer))) in
       record {
         ready = ready-again (h .ready) e (k .accepted) d;
         machine = rw more m;
-        answered = rw (more, last) (put-then a₀ 0 past (2 * i) (answerBytes x) (h .answered) w (omega (arith, n)));
+        answered = rw (more, last) (put-then a₀ 0 past (answerSize * i) (answerBytes x) (h .answered) w (omega (arith, n)));
       }
 
   module _ (b a : List ℕ) (h : Ran image table events b₀ a₀ (eventsIn events) b a) where
@@ -102,10 +102,10 @@ module _ (image table events b₀ a₀ : List ℕ) where
     unfolding eventsFrom
     ran-state = h .ready .canonical .same ∙ ap encode (h .machine)
 
-    pub ran-answers : length a₀ ≡ 2 * eventsIn events → a ≡ blocks answerBytes (answers R (machineFrom b₀) (eventsFrom events))
+    pub ran-answers : length a₀ ≡ answerSize * eventsIn events → a ≡ blocks answerBytes (answers R (machineFrom b₀) (eventsFrom events))
     unfolding eventsFrom
     ran-answers l =
         let all : List Event = firstEvents events (eventsIn events) in
-        let n : length (blocks answerBytes (answers R (machineFrom b₀) all)) ≡ 2 * eventsIn events =
-        length-blocks answerBytes 2 length-answer _ ∙ rw (length-answers R (machineFrom b₀) all, length-chunks eventFrom eventSize (eventsIn events) events) refl in
+        let n : length (blocks answerBytes (answers R (machineFrom b₀) all)) ≡ answerSize * eventsIn events =
+        length-blocks answerBytes answerSize length-answer _ ∙ rw (length-answers R (machineFrom b₀) all, length-chunks eventFrom eventSize (eventsIn events) events) refl in
         h .answered ∙ put-whole a₀ _ (l ∙ sym n)

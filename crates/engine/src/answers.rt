@@ -1,11 +1,22 @@
 // The two bytes of an answer: its code and its detail.
 use fields::write::put8;
 use rules::answer::Answer;
+use rules::codes::ARRIVED;
+use rules::codes::EXITED;
+use rules::codes::LIST_FULL;
+use rules::codes::MOVED_ON;
+use rules::codes::NO_WORK;
+use rules::codes::NOTHING_TO_CUT;
+use rules::codes::STARTED;
+use rules::codes::TRAPPED;
+use rules::codes::WAITING;
+use rules::codes::WAS_CUT;
 use rules::layout::ANSWER_SIZE;
 use rules::sorts::lock_number;
 ghost use mathlib.Core.Path.{_≡_};
 ghost use Prim.Native.Nat.{_+_, _*_, _≤_};
 ghost use lib.ListN.{length};
+ghost use Rattle.rules.specs.Sizes.{answerSize};
 ghost use Rattle.rules.specs.Answers.{code, detail, answerBytes};
 ghost use Rattle.fields.specs.Put.{put};
 
@@ -13,16 +24,16 @@ pub fn code_of(a: Answer) -> u8
     ensures { λ r. ⌜ r ≡ code a ⌝ }
 {
     match a {
-        Answer::Taken => 1,
-        Answer::ListFull => 2,
-        Answer::NoWork => 3,
-        Answer::Waiting(_) => 4,
-        Answer::Started => 5,
-        Answer::Moved => 6,
-        Answer::Exited => 7,
-        Answer::Trapped(_) => 8,
-        Answer::WasCut => 9,
-        Answer::NothingToCut => 10,
+        Answer::Taken => ARRIVED,
+        Answer::ListFull => LIST_FULL,
+        Answer::NoWork => NO_WORK,
+        Answer::Waiting(_) => WAITING,
+        Answer::Started => STARTED,
+        Answer::Moved => MOVED_ON,
+        Answer::Exited => EXITED,
+        Answer::Trapped(_) => TRAPPED,
+        Answer::WasCut => WAS_CUT,
+        Answer::NothingToCut => NOTHING_TO_CUT,
     }
 }
 
@@ -45,8 +56,8 @@ pub fn detail_of(a: Answer) -> u8
 
 // The answer to the event at an index.
 pub fn write_answer(answers: &mut [u8], i: usize, a: Answer)
-    requires { ⌜ 2 * i + 2 ≤ length (now answers) ⌝ }
-    ensures { λ _. ⌜ now (answers .exit) ≡ put (now (answers .entry)) (2 * i) (answerBytes a) ⌝ }
+    requires { ⌜ answerSize * i + answerSize ≤ length (now answers) ⌝ }
+    ensures { λ _. ⌜ now (answers .exit) ≡ put (now (answers .entry)) (answerSize * i) (answerBytes a) ⌝ }
 {
     let at = ANSWER_SIZE * i;
     put8(answers, at, code_of(a));

@@ -10,6 +10,7 @@ use rules::sorts::Label;
 use rules::sorts::Thread;
 ghost use mathlib.Core.Path.{_≡_};
 ghost use lib.ListN.{length};
+ghost use Rattle.rules.specs.Sizes.{wordsSize, stateSize};
 ghost use Rattle.rules.specs.Machine.{fresh};
 ghost use Rattle.rules.specs.Encoding.{encode, wordsFrom};
 
@@ -17,7 +18,7 @@ ghost use Rattle.rules.specs.Encoding.{encode, wordsFrom};
 const REST: usize = STATE_SIZE - WORDS_SIZE;
 
 pub fn fresh(words: &[u8], state: &mut [u8])
-    requires { ⌜ (length (now words) ≡ 512) × (length (now state) ≡ 7929) ⌝ }
+    requires { ⌜ (length (now words) ≡ wordsSize) × (length (now state) ≡ stateSize) ⌝ }
     ensures { λ _. ⌜ now (state .exit) ≡ encode (fresh (wordsFrom (now (words .entry)))) ⌝ }
 {
     copy(state, 0, words, 0, WORDS_SIZE);

@@ -1,12 +1,10 @@
 // A step of a thread: an idle one starts a job, a running one carries out the statement at its label.
-use ending::is_idle;
 use ending::leave;
 use entering::direct::call;
 use entering::direct::send_direct;
 use entering::start::start;
 use image::decode::statement_of;
-use image::records::index_of;
-use image::records::record_of;
+use image::records::record_at;
 use moves::assign::assign;
 use moves::branch::branch;
 use moves::data::give_back;
@@ -19,8 +17,8 @@ use sending::buffered::send_buffered;
 use state::thread_records::read_thread;
 use threads::thread::ThreadState;
 ghost use Prim.Native.Nat.{_<_};
-ghost use Rattle.rules.specs.Events.{step};
-ghost use Rattle.step_ready.specs.Ready.{Ready, Done, replyTo};
+ghost use Rattle.rules.specs.Sizes.{threadCount};
+ghost use Rattle.step_ready.specs.Ready.{Ready, Stepped};
 ghost use Rattle.step_ready.specs.At.{At};
 
 // The statement in the record at the thread's label.
@@ -33,7 +31,7 @@ fn carry_out(
     r: &[u8],
 ) -> Answer
     requires { ⌜ At (now image) (now table) (now state) (t .0) w (now r) ⌝ }
-    ensures { λ a. ⌜ Done (replyTo (now (image .entry)) (now (table .entry)) (now (state .entry)) (step (t .0))) (now (state .exit)) a ⌝ }
+    ensures { λ a. ⌜ Stepped (now (image .entry)) (now (table .entry)) (now (state .entry)) (t .0) (now (state .exit)) a ⌝ }
 {
     match statement_of(r) {
         Statement::Skip => skip(image, table, state, t, w, r),
@@ -49,14 +47,13 @@ fn carry_out(
 }
 
 pub fn step(image: &[u8], table: &[u8], state: &mut [u8], t: Thread) -> Answer
-    requires { ⌜ Ready (now image) (now table) (now state) × (t .0 < 8) ⌝ }
-    ensures { λ a. ⌜ Done (replyTo (now (image .entry)) (now (table .entry)) (now (state .entry)) (step (t .0))) (now (state .exit)) a ⌝ }
+    requires { ⌜ Ready (now image) (now table) (now state) × (t .0 < threadCount) ⌝ }
+    ensures { λ a. ⌜ Stepped (now (image .entry)) (now (table .entry)) (now (state .entry)) (t .0) (now (state .exit)) a ⌝ }
 {
     let w = read_thread(state, t);
-    if is_idle(w) {
-        return start(image, table, state, t);
+    if w.is_idle() {
+        return start(image, table, state, t, w);
     }
     let label = w.label;
-    let r = record_of(image, index_of(label));
-    carry_out(image, table, state, t, w, r)
+    carry_out(image, table, state, t, w, record_at(image, label))
 }

@@ -1,33 +1,48 @@
-// An arrival: a tree with its signal goes to the list's end, unless 16 trees are live.
+// An arrival: a tree with its signal goes to the list's end, if there is room for it.
 use fields::read::get16;
 use image::records::block_at;
 use image::table::thread_at;
 use rules::answer::Answer;
+use rules::layout::EVENT_SIGNAL_PLACE;
 use rules::layout::EVENT_SIZE;
 use rules::limits::Tree;
+use rules::sorts::Thread;
 use rules::sorts::label_of;
 use trees::list::append;
 use trees::list::tree_count;
 ghost use mathlib.Core.Path.{_≡_};
 ghost use Prim.Native.Nat.{_*_};
 ghost use lib.ListN.{getD, drop};
+ghost use Rattle.rules.specs.Sizes.{eventSize};
+ghost use Rattle.rules.specs.Codes.{arrivalCode};
+ghost use Rattle.rules.specs.Machine.{treeThreads};
+ghost use Rattle.rules.specs.Encoding.{machineFrom};
 ghost use Rattle.rules.specs.Events.{eventFrom};
+ghost use Rattle.rules.specs.Steps.{roomFor};
+ghost use Rattle.encoding.specs.Encoded.{Canonical};
 ghost use Rattle.step_ready.specs.Ready.{Ready, Done, replyTo};
 ghost use Rattle.sending.specs.Arrivals.{EventAt};
 
-// An event's signal stands after its kind and thread.
-const SIGNAL_AT: usize = 2;
+// Is there room for one more tree on a thread?
+pub fn room(state: &[u8], t: Thread) -> bool
+    requires { ⌜ Canonical (now state) ⌝ }
+    ensures { λ z. ⌜ z ≡ roomFor (treeThreads (machineFrom (now (state .entry)) .trees)) (t .0) ⌝ }
+{
+    tree_count(state) < Tree::COUNT
+}
 
 // The arrival at an index of the events.
 pub fn arrive(image: &[u8], table: &[u8], state: &mut [u8], events: &[u8], i: usize) -> Answer
-    requires { ⌜ Ready (now image) (now table) (now state) × EventAt (now image) (now events) i × (getD (now events) (55 * i) 0 ≡ 1) ⌝ }
-    ensures { λ a. ⌜ Done (replyTo (now (image .entry)) (now (table .entry)) (now (state .entry)) (eventFrom (drop (55 * i) (now (events .entry))))) (now (state .exit)) a ⌝ }
+    requires { ⌜ Ready (now image) (now table) (now state) × EventAt (now image) (now events) i
+        × (getD (now events) (eventSize * i) 0 ≡ arrivalCode) ⌝ }
+    ensures { λ a. ⌜ Done (replyTo (now (image .entry)) (now (table .entry)) (now (state .entry))
+        (eventFrom (drop (eventSize * i) (now (events .entry))))) (now (state .exit)) a ⌝ }
 {
-    if Tree::COUNT <= tree_count(state) {
-        return Answer::ListFull;
-    }
-    let at = EVENT_SIZE * i + SIGNAL_AT;
+    let at = EVENT_SIZE * i + EVENT_SIGNAL_PLACE;
     let t = thread_at(table, block_at(image, label_of(get16(events, at))));
-    append(state, t, events, at);
-    Answer::Taken
+    if room(state, t) {
+        append(state, t, events, at);
+        return Answer::Taken;
+    }
+    Answer::ListFull
 }

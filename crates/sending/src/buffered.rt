@@ -1,13 +1,14 @@
 // A buffered SEND: its signal goes to the end of the job's own tree, and the thread goes on with its registers.
 use ending::trapped;
-use fields::read::get16;
+use image::record_fields::label_a;
+use image::record_fields::label_b;
+use image::record_fields::operand_count;
 use moves::onward::go_on;
 use operands::read_data;
 use rules::answer::Answer;
+use rules::codes::PENDING_FULL;
 use rules::limits::Tree;
 use rules::sorts::Thread;
-use rules::sorts::block_of;
-use rules::sorts::label_of;
 use threads::thread::ThreadState;
 use trees::list::first_tree;
 use trees::pending::pending;
@@ -16,18 +17,15 @@ use trees::signals::Signal;
 ghost use mathlib.Core.Path.{_≡_};
 ghost use Prim.Native.Nat.{_<_};
 ghost use lib.ListN.{length};
+ghost use Rattle.rules.specs.Sizes.{pendingCount};
 ghost use Rattle.rules.specs.Encoding.{machineFrom};
-ghost use Rattle.rules.specs.Events.{step};
 ghost use Rattle.rules.specs.Statements.{statementOf};
 ghost use Rattle.rules.specs.declared.statement.Statement.the-variants.{SendBuffered};
 ghost use Rattle.encoding.specs.FirstTree.{firstTree};
 ghost use Rattle.trees.specs.Canon.{pendingAt};
-ghost use Rattle.step_ready.specs.Ready.{Done, replyTo};
+ghost use Rattle.step_ready.specs.Ready.{Stepped};
 ghost use Rattle.step_ready.specs.At.{At};
 ghost use Rattle.sending.specs.Buffered.{Given};
-
-// The reason of the trap: 8 signals are pending in the job's own tree.
-pub const FULL: u8 = 4;
 
 // The data have been read, and tree i, the job's own, has room.
 fn buffer(
@@ -40,17 +38,19 @@ fn buffer(
     i: usize,
     values: [u16; Thread::REGISTERS],
 ) -> Answer
-    requires { ⌜ At (now image) (now table) (now state) (t .0) w (now r) × (statementOf (now r) ≡ SendBuffered) × Given (now state) (t .0) w (now r) values ⌝ }
-    requires { ⌜ (i ≡ firstTree (t .0) (machineFrom (now state) .trees)) × (length (pendingAt (machineFrom (now state)) i) < 8) ⌝ }
-    ensures { λ a. ⌜ Done (replyTo (now (image .entry)) (now (table .entry)) (now (state .entry)) (step (t .0))) (now (state .exit)) a ⌝ }
+    requires { ⌜ At (now image) (now table) (now state) (t .0) w (now r) × (statementOf (now r) ≡ SendBuffered)
+        × Given (now state) w (now r) values ⌝ }
+    requires { ⌜ (i ≡ firstTree (t .0) (machineFrom (now state) .trees))
+        × (length (pendingAt (machineFrom (now state)) i) < pendingCount) ⌝ }
+    ensures { λ a. ⌜ Stepped (now (image .entry)) (now (table .entry)) (now (state .entry)) (t .0) (now (state .exit)) a ⌝ }
 {
-    let a = go_on(state, t, w, r, 6);
+    let a = go_on(state, t, w, label_b(r));
     push(
         state,
         i,
         Signal {
-            label: label_of(get16(r, 4)),
-            count: r[8],
+            label: label_a(r),
+            count: operand_count(r),
             values: values,
         },
     );
@@ -66,16 +66,16 @@ pub fn send_buffered(
     r: &[u8],
 ) -> Answer
     requires { ⌜ At (now image) (now table) (now state) (t .0) w (now r) × (statementOf (now r) ≡ SendBuffered) ⌝ }
-    ensures { λ a. ⌜ Done (replyTo (now (image .entry)) (now (table .entry)) (now (state .entry)) (step (t .0))) (now (state .exit)) a ⌝ }
+    ensures { λ a. ⌜ Stepped (now (image .entry)) (now (table .entry)) (now (state .entry)) (t .0) (now (state .exit)) a ⌝ }
 {
     let mut values = [0u16; Thread::REGISTERS];
-    let trap = read_data(state, block_of(r[1]), t, w.present, r, &mut values);
+    let trap = read_data(state, w, r, &mut values);
     if trap != 0 {
-        return trapped(image, table, state, t, trap);
+        return trapped(image, table, state, t, w, trap);
     }
     let i = first_tree(state, t);
     if Tree::PENDING <= pending(state, i) {
-        return trapped(image, table, state, t, FULL);
+        return trapped(image, table, state, t, w, PENDING_FULL);
     }
     buffer(image, table, state, t, w, r, i, values)
 }

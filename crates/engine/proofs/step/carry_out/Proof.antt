@@ -35,7 +35,7 @@ pub carry-out-spec : {M : Type 1} → statement M
 carry-out-spec =
     tie.close
     (tie.spec
-    (λ c κs. omega (arith, c .before .before .before .before .pre .long))
+    (λ c κs. omega (arith, c .before .before .before .before .pre .readable .long))
     (λ c. search needs)
     skip-requires
     (λ c. search needs)

@@ -1,63 +1,87 @@
-use mathlib.Core.Path.{_≡_, ap, _∙_}
+use mathlib.Core.Path.{_≡_, refl, sym, _∙_}
 use Prim.Native.Nat.{ℕ, _+_, _*_}
 use native.Mathlib.Omega.{arith}
-use borrow.Author.Needs.{needs}
 use lib.ListN.{drop}
+use Rattle.rules.specs.Sizes.{eventSize, eventSignalPlace}
 use Rattle.rules.specs.Bytes.{num16}
 use Rattle.rules.specs.Image.{rowAt}
+use Rattle.rules.specs.Encoding.{machineFrom}
 use Rattle.rules.specs.Steps.{blockAt}
 use Rattle.ending.specs.Home.{table-long}
-use Rattle.sending.specs.Arrivals.{arrival-tidy, arrival-below, arrival-block, full-done, arrived-done}
+use Rattle.sending.specs.Arrivals.{arrival-tidy, arrival-below, arrival-block, full-done, arrived-done, room-below}
+use borrow.Author.Needs.{needs}
 use Rattle.sending.proofs.arriving.arrive.Statement.{statement}
 use Rattle.sending.proofs.arriving.arrive.Tie as tie
 
-returns : tie.Need-returns
-returns c =
-    let s = c .before .before .before .before .before .before .before in
-    full-done (s .pre .1) (s .pre .2) (s .pre .0) (c .before .tree-count .ensures) (omega arith)
+get16-requires : tie.Need-get16-requires
+get16-requires c κs = omega (arith, c .before .before .before .before .pre .1 .room)
 
 block-at-requires : tie.Need-block-at-requires
 block-at-requires c κs =
-    let s = c .before .before .before .before .before .before .before .before .before in
-    let e : c .label-of .result .0 ≡ num16 (drop (55 * s .args .i + 2) (s .args .events .now)) = ap (λ l. l .0) (c .label-of .ensures) ∙ c .before .get16 .ensures in
-    rw e (arrival-below (s .pre .1) (s .pre .2))
+    let s = c .before .before .before .before .before .before in
+    rw (c .label-of .ensures, c .before .get16 .ensures) (arrival-below (s .pre .1) (s .pre .2))
 
 thread-at-requires : tie.Need-thread-at-requires
 thread-at-requires c κs =
-    let s = c .before .before .before .before .before .before .before .before .before .before in
-    let e : c .before .label-of .result .0 ≡ num16 (drop (55 * s .args .i + 2) (s .args .events .now)) = ap (λ l. l .0) (c .before .label-of .ensures) ∙ c .before .before .get16 .ensures in
-    let f : c .block-at .result .0 ≡ blockAt (s .args .image .now) (num16 (drop (55 * s .args .i + 2) (s .args .events .now))) = ap (λ b. b .0) (c .block-at .ensures) ∙ ap (blockAt (s .args .image .now)) e in
-    (rw f (arrival-block (s .pre .1) (s .pre .2) (s .pre .0)), table-long (s .pre .0))
+    let label-of = c .before .label-of in
+    let get16 = c .before .before .get16 in
+    let s = c .before .before .before .before .before .before .before in
+    let block = arrival-block (s .pre .1) (s .pre .2) (s .pre .0) in
+    (rw (c .block-at .ensures, label-of .ensures, get16 .ensures) block, table-long (s .pre .0))
 
 append-requires : tie.Need-append-requires
 append-requires c κs =
+    let if1 = c .before .if1 in
+    let room = c .before .before .room in
+    let thread-at = c .before .before .before .before .thread-at in
     let s = c .before .before .before .before .before .before .before .before .before .before .before .before in
-    (s .pre .0 .canonical, omega (arith, c .before .before .before .before .before .before .tree-count .ensures), omega (arith, s .pre .1 .room), arrival-tidy (s .pre .1) (s .pre .2))
+    let free = room-below (machineFrom (s .args .state .now)) (thread-at .result .0) (sym (room .ensures) ∙ if1 .taken) in
+    (s .pre .0 .canonical, free, omega (arith, s .pre .1 .room), arrival-tidy (s .pre .1) (s .pre .2))
+
+returns : tie.Need-returns
+returns c =
+    let append = c .before .before .append in
+    let if1 = c .before .before .before .before .if1 in
+    let room = c .before .before .before .before .before .room in
+    let thread-at = c .before .before .before .before .before .before .before .thread-at in
+    let block-at = c .before .before .before .before .before .before .before .before .block-at in
+    let label-of = c .before .before .before .before .before .before .before .before .before .label-of in
+    let earlier = c .before .before .before .before .before .before .before .before .before .before in
+    let get16 = earlier .get16 in
+    let s = earlier .before .before .before .before .before in
+    let t = thread-at .result .0 in
+    let l : ℕ = num16 (drop (eventSize * s .args .i + eventSignalPlace) (s .args .events .now)) in
+    let to : t ≡ rowAt (s .args .table .now) (blockAt (s .args .image .now) l) .thread =
+    rw (thread-at .ensures, block-at .ensures, label-of .ensures, get16 .ensures) refl in
+    arrived-done (s .pre .1) (s .pre .2) (s .pre .0) t to (sym (room .ensures) ∙ if1 .taken) (append .ensures .0) (append .ensures .1)
 
 returns-2 : tie.Need-returns-2
 returns-2 c =
-    let s = c .before .before .before .before .before .before .before .before .before .before .before .before .before .before .before in
-    let image = s .args .image .now in
-    let table = s .args .table .now in
-    let l : ℕ = num16 (drop (55 * s .args .i + 2) (s .args .events .now)) in
-    let e : c .before .before .before .before .before .before .label-of .result .0 ≡ l = ap (λ l. l .0) (c .before .before .before .before .before .before .label-of .ensures) ∙ c .before .before .before .before .before .before .before .get16 .ensures in
-    let f : c .before .before .before .before .before .block-at .result .0 ≡ blockAt image l = ap (λ b. b .0) (c .before .before .before .before .before .block-at .ensures) ∙ ap (blockAt image) e in
-    let g : c .before .before .before .before .thread-at .result .0 ≡ rowAt table (blockAt image l) .thread = ap (λ t. t .0) (c .before .before .before .before .thread-at .ensures) ∙ ap (λ n. rowAt table n .thread) f in
-    arrived-done (s .pre .1) (s .pre .2) (s .pre .0) (c .before .before .before .before .thread-at .result .0) (omega (arith, c .before .before .before .before .before .before .before .before .before .tree-count .ensures)) g (c .before .before .append .ensures .0) (c .before .before .append .ensures .1)
+    let room = c .before .room in
+    let thread-at = c .before .before .before .thread-at in
+    let block-at = c .before .before .before .before .block-at in
+    let label-of = c .before .before .before .before .before .label-of in
+    let get16 = c .before .before .before .before .before .before .get16 in
+    let s = c .before .before .before .before .before .before .before .before .before .before .before in
+    let t = thread-at .result .0 in
+    let l : ℕ = num16 (drop (eventSize * s .args .i + eventSignalPlace) (s .args .events .now)) in
+    let to : t ≡ rowAt (s .args .table .now) (blockAt (s .args .image .now) l) .thread =
+    rw (thread-at .ensures, block-at .ensures, label-of .ensures, get16 .ensures) refl in
+    full-done (s .pre .1) (s .pre .2) (s .pre .0) t to (sym (room .ensures) ∙ c .if1 .left)
 
 pub arrive-spec : {M : Type 1} → statement M
 arrive-spec =
     tie.close
     (tie.spec
-    (λ c κs. search needs)
-    (λ c. search needs)
-    returns
-    (λ c. omega (arith, c .before .before .before .before .before .before .before .pre .1 .room))
-    (λ c. omega (arith, c .before .before .before .before .before .before .before .pre .1 .room))
-    (λ c κs. omega (arith, c .before .before .before .before .before .before .before .pre .1 .room))
+    (λ c. omega (arith, c .before .before .before .before .pre .1 .room))
+    (λ c. omega (arith, c .before .before .before .before .pre .1 .room))
+    get16-requires
     (λ c κs. search needs)
     block-at-requires
     thread-at-requires
+    (λ c κs. search needs)
     append-requires
+    (λ c. search needs)
+    returns
     (λ c. search needs)
     returns-2)

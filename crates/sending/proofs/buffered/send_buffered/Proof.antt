@@ -1,74 +1,71 @@
-use mathlib.Core.Path.{_≡_, refl}
+use mathlib.Core.Path.{_≡_}
 use Prim.Native.Nat.{_≤_, _<_}
 use native.Mathlib.Omega.{arith}
-use borrow.Author.Needs.{needs}
 use lib.ListN.{length}
+use Rattle.rules.specs.Sizes.{pendingCount}
 use Rattle.rules.specs.Encoding.{machineFrom}
-use Rattle.threads.specs.Whole.{whole}
-use Rattle.threads.specs.Threads.{jobOf}
+use Rattle.rules.specs.declared.statement.Statement.the-variants.{SendBuffered}
 use Rattle.trees.specs.Canon.{pendingAt}
-use Rattle.moves.specs.Facts.{block-byte}
-use Rattle.sending.specs.Buffered.{readings-of, own-tree, unread-done, full-done}
+use Rattle.moves.specs.Steps.{unread-stepped}
+use Rattle.sending.specs.Buffered.{own-tree, full-stepped}
+use borrow.Author.Needs.{needs}
 use Rattle.sending.proofs.buffered.send_buffered.Statement.{statement}
 use Rattle.sending.proofs.buffered.send_buffered.Tie as tie
 
-read-data-requires : tie.Need-read-data-requires
-read-data-requires c κs =
-    let h = c .before .before .before .before .before .before .before .before .pre .0 in
-    (h .ready .canonical .long, rw (c .before .block-of .ensures) (block-byte h), h .inside, h .long, h .few, h .parts .slots, refl)
-
-trapped-requires : tie.Need-trapped-requires
-trapped-requires c κs =
-    let s = c .before .before .before .before .before .before .before .before .before .before .before in
-    (s .pre .0 .ready, s .pre .0 .inside, (s .args .w .locks, jobOf (whole (s .args .state .now) (s .args .t .0) (s .args .w)), s .pre .0 .runs))
-
 returns : tie.Need-returns
 returns c =
-    let s = c .before .before .before .before .before .before .before .before .before .before .before .before .before .before in
-    let g = readings-of (s .args .state .now) (s .args .t .0) (s .args .w) (s .args .r .now) (c .before .before .before .before .before .before .before .block-of .result) (c .before .before .before .before .before .before .before .block-of .ensures) (c .before .before .before .before .before .read-data .ensures) in
-    unread-done (s .pre .0) (s .pre .1) (c .before .before .before .before .before .read-data .result) (c .before .before .before .before .before .read-data .last .1 .1 .1 .1 .1 .0) g (λ z. absurd (omega arith)) (c .before .before .trapped .ensures .0) (c .before .before .trapped .ensures .1)
+    let trapped = c .before .before .trapped in
+    let if1 = c .before .before .before .before .if1 in
+    let read-data = c .before .before .before .before .before .read-data in
+    let s = c .before .before .before .before .before .before .before .before .before .before .before .before in
+    unread-stepped (s .pre .0) SendBuffered (s .pre .1) (read-data .ensures .trapped (if1 .taken))
+    (trapped .ensures .0) (trapped .ensures .1)
 
 pending-requires : tie.Need-pending-requires
 pending-requires c κs =
-    let s = c .before .before .before .before .before .before .before .before .before .before .before .before .before in
-    (s .pre .0 .ready .canonical, own-tree (s .pre .0) (c .before .first-tree .result) (c .before .first-tree .ensures))
-
-trapped-requires-2 : tie.Need-trapped-requires-2
-trapped-requires-2 c κs =
-    let s = c .before .before .before .before .before .before .before .before .before .before .before .before .before .before .before .before in
-    (s .pre .0 .ready, s .pre .0 .inside, (s .args .w .locks, jobOf (whole (s .args .state .now) (s .args .t .0) (s .args .w)), s .pre .0 .runs))
+    let h = c .before .before .before .before .before .before .before .before .before .before .before .pre .0 in
+    (h .ready .canonical, own-tree h (c .before .first-tree .result) (c .before .first-tree .ensures))
 
 returns-2 : tie.Need-returns-2
 returns-2 c =
-    let s = c .before .before .before .before .before .before .before .before .before .before .before .before .before .before .before .before .before .before .before in
-    let i = c .before .before .before .before .before .before .before .first-tree .result in
-    let g = readings-of (s .args .state .now) (s .args .t .0) (s .args .w) (s .args .r .now) (c .before .before .before .before .before .before .before .before .before .before .before .before .block-of .result) (c .before .before .before .before .before .before .before .before .before .before .before .before .block-of .ensures) (c .before .before .before .before .before .before .before .before .before .before .read-data .ensures) in
-    let free : c .before .before .before .before .before .before .before .before .before .before .read-data .result ≡ 0 = omega (arith, c .before .before .before .before .before .before .before .before .before .if1 .left) in
-    let l : 8 ≤ length (pendingAt (machineFrom (s .args .state .now)) i) = omega (arith, c .before .before .before .before .before .pending .ensures) in
-    full-done (s .pre .0) (s .pre .1) (c .before .before .before .before .before .before .before .before .before .before .read-data .last .1 .1 .1 .1 .1 .0) (rw free at g) i (c .before .before .before .before .before .before .before .first-tree .ensures) l (c .before .before .trapped2 .ensures .0) (c .before .before .trapped2 .ensures .1)
+    let trapped2 = c .before .before .trapped2 in
+    let if2 = c .before .before .before .before .if2 in
+    let pending = c .before .before .before .before .before .pending in
+    let first-tree = c .before .before .before .before .before .before .before .first-tree in
+    let if1 = c .before .before .before .before .before .before .before .before .before .if1 in
+    let earlier = c .before .before .before .before .before .before .before .before .before .before in
+    let read-data = earlier .read-data in
+    let s = earlier .before .before .before .before .before .before .before in
+    let free : read-data .result ≡ 0 = if1 .left in
+    let m = machineFrom (s .args .state .now) in
+    let l : pendingCount ≤ length (pendingAt m (first-tree .result)) = omega (arith, pending .ensures, if2 .taken) in
+    full-stepped (s .pre .0) (s .pre .1) (read-data .last .1 .1 .1 .0) (rw free at (read-data .ensures))
+    (first-tree .result) (first-tree .ensures) l (trapped2 .ensures .0) (trapped2 .ensures .1)
 
 buffer-requires : tie.Need-buffer-requires
 buffer-requires c κs =
-    let s = c .before .before .before .before .before .before .before .before .before .before .before .before .before .before .before .before in
-    let i = c .before .before .before .before .first-tree .result in
-    let g = readings-of (s .args .state .now) (s .args .t .0) (s .args .w) (s .args .r .now) (c .before .before .before .before .before .before .before .before .before .block-of .result) (c .before .before .before .before .before .before .before .before .before .block-of .ensures) (c .before .before .before .before .before .before .before .read-data .ensures) in
-    let free : c .before .before .before .before .before .before .before .read-data .result ≡ 0 = omega (arith, c .before .before .before .before .before .before .if1 .left) in
-    let l : length (pendingAt (machineFrom (s .args .state .now)) i) < 8 = omega (arith, c .before .before .pending .ensures) in
-    ((s .pre .0, s .pre .1, rw free at g), (c .before .before .before .before .first-tree .ensures, l))
+    let if2 = c .before .if2 in
+    let pending = c .before .before .pending in
+    let first-tree = c .before .before .before .before .first-tree in
+    let if1 = c .before .before .before .before .before .before .if1 in
+    let read-data = c .before .before .before .before .before .before .before .read-data in
+    let s = c .before .before .before .before .before .before .before .before .before .before .before .before .before .before in
+    let free : read-data .result ≡ 0 = if1 .left in
+    let m = machineFrom (s .args .state .now) in
+    let l : length (pendingAt m (first-tree .result)) < pendingCount = omega (arith, pending .ensures, if2 .left) in
+    ((s .pre .0, s .pre .1, rw free at (read-data .ensures)), (first-tree .ensures, l))
 
 pub send-buffered-spec : {M : Type 1} → statement M
 send-buffered-spec =
     tie.close
     (tie.spec
-    (λ c. search needs)
     (λ c κs. search needs)
-    read-data-requires
-    trapped-requires
+    (λ c κs. search needs)
     (λ c. search needs)
     returns
     (λ c κs. search needs)
     pending-requires
-    trapped-requires-2
+    (λ c κs. search needs)
     (λ c. search needs)
     returns-2
     buffer-requires
