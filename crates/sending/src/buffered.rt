@@ -44,12 +44,14 @@ fn buffer(
         × (length (pendingAt (machineFrom (now state)) i) < pendingCount) ⌝ }
     ensures { λ a. ⌜ Stepped (now (image .entry)) (now (table .entry)) (now (state .entry)) (t .0) (now (state .exit)) a ⌝ }
 {
-    let a = go_on(state, t, w, label_b(r));
+    let to = label_a(r);
+    let next = label_b(r);
+    let a = go_on(state, t, w, next);
     push(
         state,
         i,
         Signal {
-            label: label_a(r),
+            label: to,
             count: operand_count(r),
             values: values,
         },

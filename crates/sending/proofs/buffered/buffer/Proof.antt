@@ -12,30 +12,29 @@ use Rattle.sending.proofs.buffered.buffer.Tie as tie
 
 go-on-requires : tie.Need-go-on-requires
 go-on-requires c κs =
-    let s = c .before .before .before .before .before .before in
+    let s = c .before .before .before .before .before .before .before in
     let h = s .pre .0 .0 in
-    (h .ready .canonical, h .inside, h .thread, rw (c .label-b .ensures) (small h _ (label-B h SendBuffered (s .pre .0 .1))))
+    (h .ready .canonical, h .inside, h .thread, rw (c .before .label-b .ensures) (small h _ (label-B h SendBuffered (s .pre .0 .1))))
 
 -- going on leaves the trees alone
 push-requires : tie.Need-push-requires
 push-requires c κs =
-    let go-on = c .before .before .before .before .before .go-on in
     let s = c .before .before .before .before .before .before .before .before .before .before .before .before in
     let given = s .pre .0 .2 in
     let n = c .operand-count .ensures in
-    let m = encoded-machine _ _ (go-on .ensures .1) in
+    let m = encoded-machine _ _ (c .before .before .before .before .go-on .ensures .1) in
     let inside = own-tree (s .pre .0 .0) (s .args .i) (s .pre .1 .0) in
-    let canonical = encoded-canonical _ _ (go-on .ensures .1) in
+    let canonical = encoded-canonical _ _ (c .before .before .before .before .go-on .ensures .1) in
     (canonical, rw m inside, rw m (s .pre .1 .1), record { few = rw n (given .few); zeros = rw n (zeros-stay given refl) })
 
 returns : tie.Need-returns
 returns c =
     let push = c .before .before .push in
     let operand-count = c .before .before .before .operand-count in
-    let label-a = c .before .before .before .before .label-a in
-    let go-on = c .before .before .before .before .before .before .before .before .go-on in
+    let go-on = c .before .before .before .before .before .before .before .go-on in
     let label-b = c .before .before .before .before .before .before .before .before .before .label-b in
     let earlier = c .before .before .before .before .before .before .before .before .before .before in
+    let label-a = earlier .label-a in
     let s = earlier .before .before .before .before .before in
     let t = s .args .t .0 in
     let i = s .args .i in
@@ -50,8 +49,8 @@ buffer-spec =
     tie.close
     (tie.spec
     (λ c κs. search needs)
-    go-on-requires
     (λ c κs. search needs)
+    go-on-requires
     (λ c κs. search needs)
     push-requires
     (λ c. search needs)
