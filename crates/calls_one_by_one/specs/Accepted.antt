@@ -25,7 +25,10 @@ events-ok image table state events space h =
     let six = first-of-zero _ _ (five .1) in
     let seven = first-of-zero _ _ (six .1) in
     let eight = first-of-zero _ _ (seven .1) in
-    let size = and-both (eqb (length events) (eventSize * eventsIn events)) (leb (eventsIn events) eventCount) (refusal-zero _ 7 0 (omega arith) (seven .0)) in
+    let size =
+    and-both (eqb (length events) (eventSize * eventsIn events)) (leb (eventsIn events) eventCount)
+    (refusal-zero _ 7 0 (omega arith) (seven .0))
+    in
     record {
       whole = eqb-true (length events) (eventSize * eventsIn events) (size .0);
       each = fault-free (eventAtOk image events) (eventsIn events) 8 (omega arith) (eight .0);

@@ -39,7 +39,8 @@ accepted r = accepts (returned r)
 
 -- ---- Runs, one after the other
 
--- the state that the last accepted call left, where s is what the accepted call before this Run left. A refused Run, whatever it was handed, is
+-- the state that the last accepted call left, where s is what the accepted call before this Run left. A refused Run, whatever it was
+-- handed, is
 -- passed over
 abbrev pub next : List ℕ → Run → List ℕ
 next s r = cond (accepted r) (stateLeft r) s
@@ -90,11 +91,13 @@ eventsOf l = map (λ (n : ByteEntry). eventFrom (n .event)) l
 abbrev pub answersOf : List ByteEntry → List (List ℕ)
 answersOf l = map (λ (n : ByteEntry). n .answer) l
 
--- the second order's events, carried out by the rules from the state that Fresh left, leave the very state bytes that the last accepted call left, and
+-- the second order's events, carried out by the rules from the state that Fresh left, leave the very state bytes that the last accepted
+-- call left, and
 -- each gets the same two answer bytes as in the event list
 pub record OneByOneCalls (image table start : List ℕ) (runs : List Run) : Type 0 where
   pub state : encode (final (rulesBy image table) (machineFrom start) (eventsOf (byteOrder (eventList runs)))) ≡ lastLeft start runs
-  pub answers : map answerBytes (answers (rulesBy image table) (machineFrom start) (eventsOf (byteOrder (eventList runs)))) ≡ answersOf (byteOrder (eventList runs))
+  pub answers : map answerBytes (answers (rulesBy image table) (machineFrom start) (eventsOf (byteOrder (eventList runs))))
+      ≡ answersOf (byteOrder (eventList runs))
 
 -- without events both are Fresh's state
 pub record NoChange (image table start : List ℕ) (runs : List Run) : Type 0 where

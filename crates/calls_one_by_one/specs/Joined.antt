@@ -23,7 +23,8 @@ use Rattle.soundness.specs.Sound.{Sound}
 use Rattle.soundness.specs.StaysWellFormed.{Accepted, sound-final}
 use Rattle.soundness.specs.StaysSized.{sized-final}
 use Rattle.soundness.specs.States.{events-accepted}
-use Rattle.calls_one_by_one.specs.CallList.{Run, returned, stateLeft, answersLeft, accepted, lastLeft, GoesOn, Follow, EventsAreBytes, entriesOf, eventList}
+use Rattle.calls_one_by_one.specs.CallList.{Run, returned, stateLeft, answersLeft, accepted, lastLeft, GoesOn, Follow}
+use Rattle.calls_one_by_one.specs.CallList.{EventsAreBytes, entriesOf, eventList}
 use Rattle.calls_one_by_one.specs.Accepted.{EventsOk, events-ok}
 
 -- the events of each accepted Run
@@ -41,7 +42,10 @@ module _ (image table : List ℕ) (checked : Checked image table) where
   R = rulesBy image table
 
   good-final : (s : Machine) (l : List Event) → Good image table s → Each (Accepted image) l → Good image table (final R s l)
-  good-final s l g a = record { sound = sound-final image table checked s l (g .sound) a; sized = sized-final image table checked s l (g .sound) (g .sized) a }
+  good-final s l g a = record {
+    sound = sound-final image table checked s l (g .sound) a;
+    sized = sized-final image table checked s l (g .sound) (g .sized) a;
+  }
 
   -- ---- one accepted Run, from the bytes of a machine
 
@@ -65,7 +69,8 @@ module _ (image table : List ℕ) (checked : Checked image table) where
       state-left : stateLeft r ≡ encode (final R s (eventsFrom (r .events)))
       state-left = rw (k .sameImage, k .sameTable, k .sameState) (run-state (r .events) (r .space) handed)
 
-      entries-left : EventsAreBytes r → byteEntries (eventsIn (r .events)) (r .events) (answersLeft r) ≡ map bytesOf (log R s (eventsFrom (r .events)))
+      entries-left : EventsAreBytes r
+          → byteEntries (eventsIn (r .events)) (r .events) (answersLeft r) ≡ map bytesOf (log R s (eventsFrom (r .events)))
       entries-left b = rw (k .sameImage, k .sameTable, k .sameState) (run-logs (r .events) (r .space) b handed)
 
       run-accepted : Each (Accepted image) (eventsFrom (r .events))
@@ -80,7 +85,8 @@ module _ (image table : List ℕ) (checked : Checked image table) where
     pub state : lastLeft (encode s) runs ≡ encode (finals R s (eventLists runs))
     pub each : Each (Accepted image) (flatten (eventLists runs))
 
-  joined-accepted : (s : Machine) (r : Run) (l : List Run) → Good image table s → EventsAreBytes r → returned r ≡ 0 → GoesOn image table (encode s) r
+  joined-accepted : (s : Machine) (r : Run) (l : List Run) → Good image table s → EventsAreBytes r → returned r ≡ 0
+      → GoesOn image table (encode s) r
       → Joined (final R s (eventsFrom (r .events))) l → Joined s (r ∷ l)
   unfolding eventList entriesOf lastLeft eventLists logs finals flatten
   joined-accepted s r l g b h k j = record {
@@ -94,7 +100,8 @@ module _ (image table : List ℕ) (checked : Checked image table) where
   unfolding eventList entriesOf lastLeft eventLists
   joined-refused s r l h j = record { entries = rw h (j .entries); state = rw h (j .state); each = rw h (j .each) }
 
-  pub joined : (s : Machine) (runs : List Run) → Good image table s → Each EventsAreBytes runs → Follow image table (encode s) runs → Joined s runs
+  pub joined : (s : Machine) (runs : List Run) → Good image table s → Each EventsAreBytes runs → Follow image table (encode s) runs
+      → Joined s runs
   unfolding eventList lastLeft eventLists logs finals flatten Follow
   joined s [] g b f = record { entries = refl; state = refl; each = tt }
   joined s (r ∷ l) g b f = case (accepted r) refl (joined s l g (b .1)) (λ s′ g′ f′. joined s′ l g′ (b .1) f′)

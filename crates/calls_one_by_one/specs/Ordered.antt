@@ -52,5 +52,7 @@ answer-bytes (n ∷ l) = ap (λ (z : List (List ℕ)). answerBytes (n .answer) �
 pub answers-ordered : (R : Rules) (s : Machine) (l : List Entry) → log R s (events (order l)) ≡ order l
     → map answerBytes (answers R s (events (order l))) ≡ answersOf (byteOrder (map bytesOf l))
 answers-ordered R s l e =
-    let a : answers R s (events (order l)) ≡ map (λ (n : Entry). n .answer) (order l) = sym (log-answers R s (events (order l))) ∙ ap (map (λ (n : Entry). n .answer)) e in
+    let a : answers R s (events (order l)) ≡ map (λ (n : Entry). n .answer) (order l) =
+    sym (log-answers R s (events (order l))) ∙ ap (map (λ (n : Entry). n .answer)) e
+    in
     ap (map answerBytes) a ∙ answer-bytes (order l) ∙ ap answersOf (byte-order l)

@@ -28,7 +28,8 @@ use Rattle.soundness.specs.Members.{each-map}
 use Rattle.soundness.specs.StaysWellFormed.{Accepted, accepted-valid, sound-fresh}
 use Rattle.soundness.specs.StaysSized.{sized-fresh}
 use Rattle.soundness.specs.States.{Ready, fresh-leaves-ready, run-leaves-ready}
-use Rattle.calls_one_by_one.specs.CallList.{Run, returned, stateLeft, accepted, next, lastLeft, Follow, Calls, eventList, eventsOf, answersOf, OneByOneCalls, NoChange}
+use Rattle.calls_one_by_one.specs.CallList.{Run, returned, stateLeft, accepted, next, lastLeft, Follow, Calls, eventList, eventsOf}
+use Rattle.calls_one_by_one.specs.CallList.{answersOf, OneByOneCalls, NoChange}
 use Rattle.calls_one_by_one.specs.Joined.{eventLists, Good, Joined, joined}
 use Rattle.calls_one_by_one.specs.Ordered.{events-ordered, answers-ordered}
 
@@ -97,17 +98,20 @@ module _ (image table words state : List ℕ) (runs : List Run) (calls : Calls i
   noted-events = ap events (logs-flatten R first (eventLists runs)) ∙ log-events R first joint
 
   reading : values.OneByOneCalls R (wordsFrom words) (eventLists runs)
-  reading = values.calls-one-by-one R (checked-laws image table checked) (wordsFrom words) (eventLists runs) (all-valid image joint (all .each))
+  reading =
+      values.calls-one-by-one R (checked-laws image table checked) (wordsFrom words) (eventLists runs) (all-valid image joint (all .each))
 
   second : eventsOf (byteOrder (eventList runs)) ≡ events (order noted)
   second =
       ap (λ z. eventsOf (byteOrder z)) (all .entries)
-      ∙ events-ordered noted (subst (Each SizedEvent) (sym noted-events) (each-map (Accepted image) SizedEvent joint (accepted-sized image) (all .each)))
+      ∙ events-ordered noted
+      (subst (Each SizedEvent) (sym noted-events) (each-map (Accepted image) SizedEvent joint (accepted-sized image) (all .each)))
 
   -- DEMAND 3: the one-by-one reading of a list of calls
   pub calls-one-by-one : OneByOneCalls image table (freshState image table words state) runs
   calls-one-by-one = record {
-    state = ap encode (ap₂ (final R) start-machine second ∙ reading .state) ∙ sym (all .state) ∙ ap (λ z. lastLeft z runs) (sym start-bytes);
+    state =
+        ap encode (ap₂ (final R) start-machine second ∙ reading .state) ∙ sym (all .state) ∙ ap (λ z. lastLeft z runs) (sym start-bytes);
     answers =
         ap (map answerBytes) (ap₂ (answers R) start-machine second)
         ∙ answers-ordered R first noted (reading .answers)
@@ -128,7 +132,8 @@ module _ (image table words state : List ℕ) (runs : List Run) (calls : Calls i
 
   -- so a Run that goes on from it can be refused by its events and its answers alone
   pub next-return : (events space : List ℕ)
-      → runReturn image table (lastLeft start runs) events space ≡ firstOf (eventsLengthFault events ∷ eventFault image events ∷ answersLengthFault events space ∷ [])
+      → runReturn image table (lastLeft start runs) events space ≡ firstOf
+      (eventsLengthFault events ∷ eventFault image events ∷ answersLengthFault events space ∷ [])
   unfolding runReturn firstOf
   next-return events space =
       let own : List ℕ = eventsLengthFault events ∷ eventFault image events ∷ answersLengthFault events space ∷ [] in

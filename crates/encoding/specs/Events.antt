@@ -14,7 +14,8 @@ use Rattle.rules.specs.Bytes.{num16, part, isZeros, blocks}
 use Rattle.rules.specs.Image.{entry, recordAt}
 use Rattle.rules.specs.Encoding.{noSignal, signalBytes, signalFrom}
 use Rattle.rules.specs.WellFormed.{signalTidy}
-use Rattle.rules.specs.Events.{stepping, cutting, Event, arrive, turn, kindCode, kindOf, Valid, eventBytes, eventFrom, arrivalOk, turnOk, eventOk, eventsIn, eventAtOk, eventsFrom}
+use Rattle.rules.specs.Events.{stepping, cutting, Event, arrive, turn, kindCode, kindOf, Valid, eventBytes, eventFrom, arrivalOk, turnOk}
+use Rattle.rules.specs.Events.{eventOk, eventsIn, eventAtOk, eventsFrom}
 use Rattle.fields.specs.Each.{Each}
 use Rattle.fields.specs.Put.{part-drop}
 use Rattle.fields.specs.Blocks.{length-blocks, chunks-blocks}
@@ -39,7 +40,8 @@ event-back (turn cutting t) z q = refl
 -- ---- what the rules of an event say of its bytes
 
 pub data EventRead (b : List ℕ) : Type 0 where
-  arrival : getD b eventKindPlace 0 ≡ arrivalCode → getD b eventThreadPlace 0 ≡ 0 → signalTidy (drop eventSignalPlace b) ≡ true → EventRead b
+  arrival : getD b eventKindPlace 0 ≡ arrivalCode → getD b eventThreadPlace 0 ≡ 0 → signalTidy (drop eventSignalPlace b) ≡ true
+      → EventRead b
   turned : eqb (getD b eventKindPlace 0) arrivalCode ≡ false → getD b eventKindPlace 0 ≡ kindCode (kindOf (getD b eventKindPlace 0))
       → getD b eventThreadPlace 0 < threadCount → part b eventSignalPlace signalSize ≡ replicate signalSize 0 → EventRead b
 
@@ -55,7 +57,8 @@ arrival-read image b e =
     let f : 2 + (3 + 2 * n) ≡ 5 + 2 * n = omega arith in
     (eqb-true (getD b 1 0) 0 (v .0), rw (getD-drop, part-drop, f) (both-hold (leb n 25) _ (u .1) (t .1)))
 
-turn-read : (b : List ℕ) → eventSize ≤ length b → turnOk b ≡ true → (getD b 1 0 < threadCount) × (part b 2 signalSize ≡ replicate signalSize 0)
+turn-read : (b : List ℕ) → eventSize ≤ length b → turnOk b ≡ true
+    → (getD b 1 0 < threadCount) × (part b 2 signalSize ≡ replicate signalSize 0)
 unfolding turnOk
 turn-read b l e =
     let t = both (ltb (getD b 1 0) 8) (isZeros (part b 2 53)) e in
@@ -68,7 +71,8 @@ event-read image b l e = go (eqb kind arrivalCode) refl e
     kind : ℕ
     kind = getD b eventKindPlace 0
 
-    go : (c : Bool) → eqb kind arrivalCode ≡ c → cond c (arrivalOk image b) (eqb kind (kindCode (kindOf kind)) && turnOk b) ≡ true → EventRead b
+    go : (c : Bool) → eqb kind arrivalCode ≡ c → cond c (arrivalOk image b) (eqb kind (kindCode (kindOf kind)) && turnOk b) ≡ true
+        → EventRead b
     go true p q =
         let r = arrival-read image b q in
         arrival (eqb-true kind arrivalCode p) (r .0) (r .1)
@@ -79,14 +83,21 @@ event-read image b l e = go (eqb kind arrivalCode) refl e
 
 -- ---- an event that breaks no rule
 
-event-glue : (b : List ℕ) (k t : ℕ) (x : List ℕ) → eventSize ≤ length b → k ≡ getD b 0 0 → t ≡ getD b 1 0 → x ≡ part b 2 signalSize → k ∷ t ∷ x ≡ take eventSize b
+event-glue : (b : List ℕ) (k t : ℕ) (x : List ℕ) → eventSize ≤ length b → k ≡ getD b 0 0 → t ≡ getD b 1 0 → x ≡ part b 2 signalSize
+    → k ∷ t ∷ x ≡ take eventSize b
 unfolding part
-event-glue b k t x l ek et ex = glue b 0 1 54 (k ∷ []) (t ∷ x) (rw ek (byte-forth b 0 (omega arith))) (glue b 1 1 53 (t ∷ []) x (rw et (byte-forth b 1 (omega arith))) ex)
+event-glue b k t x l ek et ex =
+    glue b 0 1 54 (k ∷ []) (t ∷ x) (rw ek (byte-forth b 0 (omega arith)))
+    (glue b 1 1 53 (t ∷ []) x (rw et (byte-forth b 1 (omega arith))) ex)
 
 read-forth : (b : List ℕ) → AreBytes b → eventSize ≤ length b → EventRead b → eventBytes (eventFrom b) ≡ take eventSize b
 unfolding eventFrom eventBytes part
-read-forth b h l (arrival k t e) = rw k (event-glue b 1 0 (signalBytes (signalFrom (drop 2 b))) l (sym k) (sym t) (signal-forth (drop 2 b) (bytes-drop b 2 h) (simp length-drop (omega arith)) e))
-read-forth b h l (turned n k t z) = rw n (event-glue b _ (getD b eventThreadPlace 0) (signalBytes noSignal) l (sym k) refl (no-signal ∙ sym z))
+read-forth b h l (arrival k t e) =
+    rw k
+    (event-glue b 1 0 (signalBytes (signalFrom (drop 2 b))) l (sym k) (sym t)
+    (signal-forth (drop 2 b) (bytes-drop b 2 h) (simp length-drop (omega arith)) e))
+read-forth b h l (turned n k t z) =
+    rw n (event-glue b _ (getD b eventThreadPlace 0) (signalBytes noSignal) l (sym k) refl (no-signal ∙ sym z))
 
 read-sized : (b : List ℕ) → eventSize ≤ length b → EventRead b → SizedEvent (eventFrom b)
 unfolding eventFrom
@@ -122,7 +133,8 @@ unfolding eventsFrom
 length-events b = length-chunks eventFrom 55 (eventsIn b) b
 
 -- a list of whole events that break no rule
-module _ (image events : List ℕ) (l : length events ≡ eventSize * eventsIn events) (e : (i : ℕ) → i < eventsIn events → eventAtOk image events i ≡ true) where
+module _ (image events : List ℕ) (l : length events ≡ eventSize * eventsIn events)
+    (e : (i : ℕ) → i < eventsIn events → eventAtOk image events i ≡ true) where
   room : (i : ℕ) → i < eventsIn events → eventSize ≤ length (drop (eventSize * i) events)
   room i h = simp length-drop (omega arith)
 
@@ -133,13 +145,17 @@ module _ (image events : List ℕ) (l : length events ≡ eventSize * eventsIn e
   pub events-forth : AreBytes events → blocks eventBytes (eventsFrom events) ≡ events
   unfolding eventsFrom
   events-forth h =
-      blocks-chunks eventBytes eventFrom 55 (eventsIn events) events (λ i li. event-forth image (drop (55 * i) events) (room i li) (event-at i li) (bytes-drop events (55 * i) h))
+      blocks-chunks eventBytes eventFrom 55 (eventsIn events) events
+      (λ i li. event-forth image (drop (55 * i) events) (room i li) (event-at i li) (bytes-drop events (55 * i) h))
       ∙ take-all (55 * eventsIn events) events (omega arith)
 
   pub events-sized : Each SizedEvent (eventsFrom events)
   unfolding eventsFrom
-  events-sized = each-chunks SizedEvent eventFrom 55 (eventsIn events) events (λ i li. event-sized image (drop (55 * i) events) (room i li) (event-at i li))
+  events-sized =
+      each-chunks SizedEvent eventFrom 55 (eventsIn events) events
+      (λ i li. event-sized image (drop (55 * i) events) (room i li) (event-at i li))
 
   pub events-valid : Each Valid (eventsFrom events)
   unfolding eventsFrom
-  events-valid = each-chunks Valid eventFrom 55 (eventsIn events) events (λ i li. event-valid image (drop (55 * i) events) (room i li) (event-at i li))
+  events-valid =
+      each-chunks Valid eventFrom 55 (eventsIn events) events (λ i li. event-valid image (drop (55 * i) events) (room i li) (event-at i li))

@@ -17,9 +17,6 @@ use Rattle.encoding.specs.Lengths.{length-thread, length-words}
 abbrev pub withWord : Machine → ℕ → ℕ → Machine
 withWord s n v = record { words = set (s .words) n v; threads = s .threads; trees = s .trees }
 
-abbrev pub withThread : Machine → ℕ → ThreadState → Machine
-withThread s t w = record { words = s .words; threads = set (s .threads) t w; trees = s .trees }
-
 -- ---- the machines stay within limits
 
 pub sized-word : (s : Machine) (n v : ℕ) → Sized s → Sized (withWord s n v)

@@ -1,5 +1,10 @@
 // The statement in a record, and its operands.
 use fields::read::get16;
+use rules::codes::EQUAL;
+use rules::layout::OPCODE_PLACE;
+use rules::layout::OPERAND_SIZE;
+use rules::layout::OPERANDS_PLACE;
+use rules::layout::OPERATOR_PLACE;
 use rules::statement::Assignment;
 use rules::statement::Condition;
 use rules::statement::Operand;
@@ -12,8 +17,12 @@ ghost use mathlib.Core.Bool.{cond};
 ghost use Prim.Native.Nat.{_<_, _≤_};
 ghost use lib.ListN.{length};
 ghost use Rattle.rules.specs.Sizes.{recordSize, operandCount};
-ghost use Rattle.rules.specs.Statements.{operandOf, operandAt, operationAt, shape, optional, relationOf, assignmentOf, conditionOf, otherOf, statementOf};
+ghost use Rattle.rules.specs.Statements.{operandOf, operandAt, operationAt, shape, optional, relationOf, assignmentOf, conditionOf};
+ghost use Rattle.rules.specs.Statements.{otherOf, statementOf};
 ghost use Rattle.image.specs.Assigns.{assignsOf};
+
+// The value of an operand stands after its kind.
+const OPERAND_VALUES_PLACE: usize = OPERANDS_PLACE + 1;
 
 pub fn operand_of(kind: u8, value: u16) -> Operand
     ensures { λ z. ⌜ z ≡ operandOf kind value ⌝ }
@@ -30,7 +39,10 @@ pub fn operand_at(r: &[u8], k: usize) -> Operand
     requires { ⌜ (length (now r) ≡ recordSize) × (k < operandCount) ⌝ }
     ensures { λ z. ⌜ z ≡ operandAt (now (r .entry)) k ⌝ }
 {
-    operand_of(r[9 + 3 * k], get16(r, 10 + 3 * k))
+    operand_of(
+        r[OPERANDS_PLACE + OPERAND_SIZE * k],
+        get16(r, OPERAND_VALUES_PLACE + OPERAND_SIZE * k),
+    )
 }
 
 // What an opcode of ASSIGN's kind works out; nothing for any other opcode.
@@ -99,7 +111,7 @@ pub fn optional_at(r: &[u8], has: bool, k: usize) -> Operand
 pub fn relation_of(operator: u8) -> Relation
     ensures { λ z. ⌜ z ≡ relationOf operator ⌝ }
 {
-    if operator == 1 {
+    if operator == EQUAL {
         Relation::Equal
     } else {
         Relation::Less
@@ -129,7 +141,7 @@ pub fn condition_of(r: &[u8]) -> Condition
     requires { ⌜ length (now r) ≡ recordSize ⌝ }
     ensures { λ z. ⌜ z ≡ conditionOf (now (r .entry)) ⌝ }
 {
-    let relation = relation_of(r[3]);
+    let relation = relation_of(r[OPERATOR_PLACE]);
     let left = operand_at(r, 0);
     let right = operand_at(r, 1);
     Condition {
@@ -144,7 +156,7 @@ pub fn other_of(r: &[u8]) -> Statement
     requires { ⌜ length (now r) ≡ recordSize ⌝ }
     ensures { λ z. ⌜ z ≡ otherOf (now (r .entry)) ⌝ }
 {
-    match r[0] {
+    match r[OPCODE_PLACE] {
         1 | 3 => Statement::Skip,
         4 => Statement::If(condition_of(r)),
         5 => Statement::SendDirect,
@@ -161,7 +173,7 @@ pub fn statement_of(r: &[u8]) -> Statement
     requires { ⌜ length (now r) ≡ recordSize ⌝ }
     ensures { λ z. ⌜ z ≡ statementOf (now (r .entry)) ⌝ }
 {
-    match operation_at(r[0], r[3]) {
+    match operation_at(r[OPCODE_PLACE], r[OPERATOR_PLACE]) {
         Assigns::Nothing => other_of(r),
         Assigns::Work(o) => Statement::Assign(assignment_of(r, o)),
     }

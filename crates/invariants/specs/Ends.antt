@@ -36,14 +36,16 @@ module _ (R : Rules) (s : Machine) (t : ℕ) where
   ended e r (ends u l j a w c) h k = let q : u ≡ t = cc in rw q (cleared (getD-set-idle (s .threads) t))
 
   -- an answer that ends a job
-  pub every-end-is-clean : (e : Event) → threadOf e ≡ some t → sort (react R s e .answer) ≡ close → Cleared (threadAt (react R s e .state) t)
+  pub every-end-is-clean : (e : Event) → threadOf e ≡ some t → sort (react R s e .answer) ≡ close
+      → Cleared (threadAt (react R s e .state) t)
   every-end-is-clean e h k = ended e (react R s e) (happens R s e) h k
 
   -- each of the three sorts of end
   pub exit-is-clean : (e : Event) → threadOf e ≡ some t → react R s e .answer ≡ Exited → Cleared (threadAt (react R s e .state) t)
   exit-is-clean e h k = every-end-is-clean e h (ap sort k)
 
-  pub trap-is-clean : (e : Event) (reason : ℕ) → threadOf e ≡ some t → react R s e .answer ≡ Trapped reason → Cleared (threadAt (react R s e .state) t)
+  pub trap-is-clean : (e : Event) (reason : ℕ) → threadOf e ≡ some t → react R s e .answer ≡ Trapped reason
+      → Cleared (threadAt (react R s e .state) t)
   trap-is-clean e reason h k = every-end-is-clean e h (ap sort k)
 
   pub cut-is-clean : (e : Event) → threadOf e ≡ some t → react R s e .answer ≡ WasCut → Cleared (threadAt (react R s e .state) t)

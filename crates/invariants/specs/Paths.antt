@@ -10,7 +10,8 @@ use Rattle.rules.specs.Machine.{ThreadState, idle, running, Machine, threadAt, 
 use Rattle.rules.specs.Events.{Event, arrive, turn}
 use Rattle.rules.specs.Steps.{Rules, older, react}
 use Rattle.rules.specs.declared.answer.Answer.{Answer}
-use Rattle.rules.specs.declared.answer.Answer.the-variants.{Taken, ListFull, NoWork, Waiting, Started, Moved, Exited, Trapped, WasCut, NothingToCut}
+use Rattle.rules.specs.declared.answer.Answer.the-variants.{Taken, ListFull, NoWork, Waiting, Started, Moved, Exited, Trapped, WasCut}
+use Rattle.rules.specs.declared.answer.Answer.the-variants.{NothingToCut}
 
 -- ---- what a job's statements do to the calls that are open
 

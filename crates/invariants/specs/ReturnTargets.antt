@@ -2,12 +2,14 @@
 use mathlib.Core.Path.{_≡_, refl, sym, ap, _∙_, subst}
 use mathlib.Core.Bool.{Bool, true, false}
 use mathlib.Core.Logic.{_⊎_, inl, inr}
-use mathlib.Core.List.{List, [], _∷_, _++_, append-nil, append-assoc, List·Memᴰ, List·Memᴰ·head, List·Memᴰ·tail, List·Memᴰ·not-nil, List·Memᴰ·append-cases, List·Memᴰ·eq-of-singleton, Memᴰ·append-left, Memᴰ·append-right}
+use mathlib.Core.List.{List, [], _∷_, _++_, append-nil, append-assoc, List·Memᴰ, List·Memᴰ·head, List·Memᴰ·tail, List·Memᴰ·not-nil}
+use mathlib.Core.List.{List·Memᴰ·append-cases, List·Memᴰ·eq-of-singleton, Memᴰ·append-left, Memᴰ·append-right}
 use Prim.Native.Nat.{ℕ, _<_}
 use lib.Dec.{ltb}
 use borrow.Author.Tests.{ltb-true}
 use Rattle.rules.specs.Image.{labels, recordAt, blockField, labelB}
-use Rattle.rules.specs.Statements.{operationAt, otherAt, statementOf, Way, following, branching, transferring, entering, posting, calling, returning, ending, way, wayB}
+use Rattle.rules.specs.Statements.{operationAt, otherAt, statementOf, Way, following, branching, transferring, entering, posting, calling}
+use Rattle.rules.specs.Statements.{returning, ending, way, wayB}
 use Rattle.rules.specs.Check.{labelOk, Checked}
 use Rattle.rules.specs.Machine.{Job, ThreadState, running, Machine, threadAt, fresh}
 use Rattle.rules.specs.Events.{Event, step}
@@ -46,7 +48,8 @@ module _ (image : List ℕ) where
   without-of [] l m = m
   without-of (r ∷ rs) l m = older-of r rs l m
 
-  opened-called : (path rs : List ℕ) (x : ℕ) (w : Way) → wayAt image x ≡ w → AllCalled path rs → AllCalled (path ++ x ∷ []) (opened w (labelB (recordAt image x)) rs)
+  opened-called : (path rs : List ℕ) (x : ℕ) (w : Way) → wayAt image x ≡ w → AllCalled path rs
+      → AllCalled (path ++ x ∷ []) (opened w (labelB (recordAt image x)) rs)
   opened-called path rs x following e h l m = further path x l (h l m)
   opened-called path rs x branching e h l m = further path x l (h l m)
   opened-called path rs x transferring e h l m = further path x l (h l m)
@@ -56,7 +59,12 @@ module _ (image : List ℕ) where
     where
       case : List·Memᴰ l rs ⊎ List·Memᴰ l (labelB (recordAt image x) ∷ []) → CalledFrom image (path ++ x ∷ []) l
       case (inl k) = further path x l (h l k)
-      case (inr k) = record { call = x; made = Memᴰ·append-right path (List·Memᴰ·head refl); calls = e; label = List·Memᴰ·eq-of-singleton k }
+      case (inr k) = record {
+        call = x;
+        made = Memᴰ·append-right path (List·Memᴰ·head refl);
+        calls = e;
+        label = List·Memᴰ·eq-of-singleton k;
+      }
   opened-called path rs x returning e h l m = further path x l (h l (without-of rs l m))
   opened-called path rs x ending e h l m = further path x l (h l m)
 
@@ -64,8 +72,10 @@ module _ (image : List ℕ) where
   unfolding openAfter
   after-called done [] rs h = rw (append-nil done) h
   after-called done (x ∷ path) rs h =
-      subst (λ (z : List ℕ). AllCalled z (openAfter image (opened (wayAt image x) (labelB (recordAt image x)) rs) path)) (append-assoc done (x ∷ []) path)
-      (after-called (done ++ x ∷ []) path (opened (wayAt image x) (labelB (recordAt image x)) rs) (opened-called done rs x (wayAt image x) refl h))
+      subst (λ (z : List ℕ). AllCalled z (openAfter image (opened (wayAt image x) (labelB (recordAt image x)) rs) path))
+      (append-assoc done (x ∷ []) path)
+      (after-called (done ++ x ∷ []) path (opened (wayAt image x) (labelB (recordAt image x)) rs)
+      (opened-called done rs x (wayAt image x) refl h))
 
   -- every open call is a CALL of the path
   pub open-calls-are-called : (path : List ℕ) → AllCalled path (openCalls image path)
@@ -92,7 +102,8 @@ module _ (image table : List ℕ) (t : ℕ) where
       let y : k ≡ j = same (rw z at v) in
       let q : statementOf (recordAt image (k .label)) ≡ Return = rw y i in
       rw z (set-here (To (j .returns)) (s .threads) t _
-      (λ locks′ j′ x. let x′ : k′ ≡ j′ = cc in rw (x′, y) at (subst (EffectTurned _ _ (k .returns)) a (act-turned image table u k _ _) .label (ap way q)))
+      (λ locks′ j′ x. let x′ : k′ ≡ j′ = cc in rw (x′, y) at
+      (subst (EffectTurned _ _ (k .returns)) a (act-turned image table u k _ _) .label (ap way q)))
       (λ locks′ j′ x. never (cc)))
     where
       same : {l : ℕ} {k : Job} → threadAt s t ≡ running l k → k ≡ j
@@ -100,12 +111,16 @@ module _ (image table : List ℕ) (t : ℕ) where
   returned s locks j w i e r (ends u l k a v c) n m = never (let z = sym c ∙ ap sort m in cc)
 
   -- the label that RETURN leads to is label B of a CALL that the same job carried out
-  pub return-leads-to-a-call : (words : List ℕ) (l : List Event) (locks locks′ : ℕ) (j j′ : Job) → threadAt (final R (fresh words) l) t ≡ running locks j
+  pub return-leads-to-a-call : (words : List ℕ) (l : List Event) (locks locks′ : ℕ) (j j′ : Job)
+      → threadAt (final R (fresh words) l) t ≡ running locks j
       → statementOf (recordAt image (j .label)) ≡ Return → react R (final R (fresh words) l) (step t) .answer ≡ Moved
-      → threadAt (react R (final R (fresh words) l) (step t) .state) t ≡ running locks′ j′ → CalledFrom image (pathOf R t words l) (j′ .label)
+      → threadAt (react R (final R (fresh words) l) (step t) .state) t ≡ running locks′ j′
+      → CalledFrom image (pathOf R t words l) (j′ .label)
   return-leads-to-a-call words l locks locks′ j j′ w i m w′ =
       let s = final R (fresh words) l in
-      let k : List·Memᴰ (j′ .label) (j .returns) = returned s locks j w i (step t) (react R s (step t)) (happens R s (step t)) refl m locks′ j′ w′ in
+      let k : List·Memᴰ (j′ .label) (j .returns) =
+      returned s locks j w i (step t) (react R s (step t)) (happens R s (step t)) refl m locks′ j′ w′
+      in
       open-calls-are-called image (pathOf R t words l) (j′ .label)
       (subst (λ (z : List ℕ). List·Memᴰ (j′ .label) z) (returns-are-open-calls image table t words l locks j w) k)
 
@@ -125,7 +140,9 @@ module _ (image table : List ℕ) (checked : Checked image table) where
   call-block path l c =
       let r = recordAt image (c .call) in
       let h = parts image table (passed image table [] checked .0) (c .call) (call-below (c .call) (c .calls)) .b in
-      let k : labelOk image (wayB calling) (blockField r) (labelB r) ≡ true = subst (λ (w : Way). labelOk image (wayB w) (blockField r) (labelB r) ≡ true) (c .calls) h in
+      let k : labelOk image (wayB calling) (blockField r) (labelB r) ≡ true =
+      subst (λ (w : Way). labelOk image (wayB w) (blockField r) (labelB r) ≡ true) (c .calls) h
+      in
       ap (blockAt image) (c .label) ∙ label-in image table (wayB calling) (blockField r) (labelB r) k .1
 
   -- NO RETURN LEADS INTO A BLOCK THAT THE JOB DID NOT CALL FROM

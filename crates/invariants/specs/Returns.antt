@@ -5,9 +5,11 @@ use mathlib.Core.Option.{Option, none, some}
 use mathlib.Core.List.{List, [], _∷_, _++_, List·Memᴰ, List·Memᴰ·head, List·Memᴰ·tail}
 use Prim.Native.Nat.{ℕ}
 use Rattle.rules.specs.Image.{recordAt, labelA, labelB, Row, rowAt}
-use Rattle.rules.specs.Statements.{statementOf, dataOf, Way, following, branching, transferring, entering, posting, calling, returning, ending, way, reads}
+use Rattle.rules.specs.Statements.{statementOf, dataOf, Way, following, branching, transferring, entering, posting, calling, returning}
+use Rattle.rules.specs.Statements.{ending, way, reads}
 use Rattle.rules.specs.Machine.{Job}
-use Rattle.rules.specs.Effects.{Got, trap, got, then, unless, Cells, readAll, Next, onA, onB, intoA, callA, back, Going, Outcome, ends, goes, View, leave, overflow, worked, chosen, perform, outcome}
+use Rattle.rules.specs.Effects.{Got, trap, got, then, unless, Cells, readAll, Next, onA, onB, intoA, callA, back, Going, Outcome, ends}
+use Rattle.rules.specs.Effects.{goes, View, leave, overflow, worked, chosen, perform, outcome}
 use Rattle.rules.specs.Steps.{Effect, traps, exits, moves, trapIf, newest, alien, steer, resolve, blockAt, actBy, view}
 use Rattle.rules.specs.declared.statement.Operand.{Operand}
 use Rattle.rules.specs.declared.statement.Statement.{Statement}
@@ -50,7 +52,8 @@ outcome-opens : (v : View) (s : Statement) (given : List Operand) → Opens (way
 unfolding outcome perform
 outcome-opens v s given =
     then-opens (way s) (readAll (v .cells) (reads s given)) _
-    (λ vs. unless-opens (way s) (overflow v s) _ (then-opens (way s) (worked s vs (v .cells)) _ (λ c. leave-opens (way s) (chosen s vs) vs c)))
+    (λ vs. unless-opens (way s) (overflow v s) _
+    (then-opens (way s) (worked s vs (v .cells)) _ (λ c. leave-opens (way s) (chosen s vs) vs c)))
 
 -- the job goes on with the calls that are open after its statement; RETURN leads to one of those that were open before
 pub record Turned (w : Way) (b : ℕ) (rs : List ℕ) (j : Job) : Type 0 where
@@ -75,7 +78,8 @@ module _ (s : Way) (block : ℕ → ℕ) (row : ℕ → Row) (t a b : ℕ) where
   trap-turned true r rs e h = tt
   trap-turned false r rs e h = h
 
-  steer-turned : (g : Going) (n : Next) (rs : List ℕ) → ((c : ℕ) (q : List ℕ) → nextReturns n c q ≡ opened s c q) → EffectTurned s b rs (steer block row t a b g n rs)
+  steer-turned : (g : Going) (n : Next) (rs : List ℕ) → ((c : ℕ) (q : List ℕ) → nextReturns n c q ≡ opened s c q)
+      → EffectTurned s b rs (steer block row t a b g n rs)
   steer-turned g onA rs h = record { returns = h b rs; label = λ e. absurd (no-return s _ _ (h 0 (0 ∷ [])) e) }
   steer-turned g onB rs h = record { returns = h b rs; label = λ e. absurd (no-return s _ _ (h 0 (0 ∷ [])) e) }
   steer-turned g intoA rs h =
@@ -95,5 +99,6 @@ pub act-turned : (image table : List ℕ) (t : ℕ) (j : Job) (words : List ℕ)
 unfolding actBy
 act-turned image table t j words n =
     let r = recordAt image (j .label) in
-    resolve-turned (wayAt image (j .label)) (blockAt image) (rowAt table) t (labelA r) (labelB r) (j .returns) (outcome (view j words n) (statementOf r) (dataOf r))
+    resolve-turned (wayAt image (j .label)) (blockAt image) (rowAt table) t (labelA r) (labelB r) (j .returns)
+    (outcome (view j words n) (statementOf r) (dataOf r))
     (outcome-opens (view j words n) (statementOf r) (dataOf r))

@@ -22,7 +22,8 @@ module _ (R : Rules) where
   pub log-append : (s : Machine) (a b : List Event) → log R s (a ++ b) ≡ log R s a ++ log R (final R s a) b
   unfolding log final
   log-append s [] b = refl
-  log-append s (e ∷ a) b = ap (λ (z : List Entry). record { event = e; answer = react R s e .answer } ∷ z) (log-append (react R s e .state) a b)
+  log-append s (e ∷ a) b =
+      ap (λ (z : List Entry). record { event = e; answer = react R s e .answer } ∷ z) (log-append (react R s e .state) a b)
 
   pub final-append : (s : Machine) (a b : List Event) → final R s (a ++ b) ≡ final R (final R s a) b
   unfolding final

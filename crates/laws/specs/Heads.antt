@@ -25,7 +25,10 @@ pub head-fields : (r : List ℕ) → headOk r ≡ true → Head r
 unfolding headOk
 head-fields r h =
     let a = and-both (ltb (blockField r) blockCount && ltb (entry r) 4) (shapeOk (operationAt (opcode r) (operator r)) r) h in
-    record { block = ltb-true (blockField r) blockCount (and-both (ltb (blockField r) blockCount) (ltb (entry r) 4) (a .0) .0); shaped = a .1 }
+    record {
+      block = ltb-true (blockField r) blockCount (and-both (ltb (blockField r) blockCount) (ltb (entry r) 4) (a .0) .0);
+      shaped = a .1;
+    }
 
 -- what an opcode of ASSIGN's kind has
 pub record Assigning (s : Shape) (c k v k′ v′ : ℕ) : Type 0 where
@@ -36,7 +39,9 @@ pub record Assigning (s : Shape) (c k v k′ v′ : ℕ) : Type 0 where
 pub assigning : (s : Shape) (c k v k′ v′ : ℕ) → assignOk s c k v k′ v′ ≡ true → Assigning s c k v k′ v′
 unfolding assignOk
 assigning s c k v k′ v′ h =
-    let a = and-both (eqb c (destinations s + cond (s .right) 2 1) && leb 2 k) (cond (s .second) (leb 2 k′ && not (eqb k k′ && eqb v v′)) true) h in
+    let a =
+    and-both (eqb c (destinations s + cond (s .right) 2 1) && leb 2 k) (cond (s .second) (leb 2 k′ && not (eqb k k′ && eqb v v′)) true) h
+    in
     let b = and-both (eqb c (destinations s + cond (s .right) 2 1)) (leb 2 k) (a .0) in
     record { count = eqb-true c _ (b .0); first = b .1; second = a .1 }
 
@@ -63,7 +68,13 @@ few-used (some s) o n h = few-read (usage s .sources) n (and-both (operatorOk (u
 pub few-by : (k : Option Operation) (r : List ℕ) → shapeOk k r ≡ true → operands r ≤ operandCount
 unfolding otherOk
 few-by none r h = few-used (otherAt r) (operator r) (operands r) h
-few-by (some k) r h = omega (arith, assigning (shape k) (operands r) (kind r 0) (value r 0) (kind r 1) (value r 1) h .count, least (shape k .second) (shape k .right))
+few-by (some k) r h =
+    omega (
+      arith,
+      assigning (shape k) (operands r) (kind r 0) (value r 0) (kind r 1) (value r 1) h .count,
+      least (shape k .second)
+          (shape k .right),
+    )
 
 pub few-operands : {r : List ℕ} → Head r → operands r ≤ operandCount
 few-operands {r} h = few-by (operationAt (opcode r) (operator r)) r (h .shaped)

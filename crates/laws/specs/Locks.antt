@@ -69,7 +69,9 @@ module _ (R : Rules) where
   unfolding blocked
   blocked-clear ts t none h b e k n = cc
   blocked-clear ts t (some c) h b e k n =
-      let f : has (R .lock c) (locksOf (getD (set ts t idle) k idle)) ≡ false = held-false (R .lock c) (set ts t idle) (cond-none _ _ h) k in
+      let f : has (R .lock c) (locksOf (getD (set ts t idle) k idle)) ≡ false =
+      held-false (R .lock c) (set ts t idle) (cond-none _ _ h) k
+      in
       let g : c ≡ b = cc in
       rw (getD-set-other ts t k idle idle n, g) at f
 

@@ -1,6 +1,7 @@
 -- Small facts of truth values and lists that every layer uses.
 use mathlib.Core.Path.{_≡_, refl}
-use mathlib.Core.Bool.{Bool, true, false, _&&_, false≢true}
+use mathlib.Core.Logic.{_⊎_, inl, inr}
+use mathlib.Core.Bool.{Bool, true, false, _&&_, _||_, false≢true}
 use Prim.Native.Nat.{ℕ, zero, suc}
 use native.Mathlib.Omega.{arith}
 use lib.ListN.{getD, replicate}
@@ -16,6 +17,10 @@ pub getD-same : {A : Type 0} (a : A) (n t : ℕ) → getD (replicate n a) t a �
 getD-same a zero t = refl
 getD-same a (suc n) zero = refl
 getD-same a (suc n) (suc t) = getD-same a n t
+
+pub or-cases : (a b : Bool) → a || b ≡ true → (a ≡ true) ⊎ (b ≡ true)
+or-cases true b h = inl refl
+or-cases false b h = inr h
 
 pub and-both : (a b : Bool) → a && b ≡ true → (a ≡ true) × (b ≡ true)
 and-both true b h = (refl, h)

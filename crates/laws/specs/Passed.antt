@@ -11,7 +11,8 @@ use Rattle.rules.specs.Sizes.{threadCount, blockKindCount, lockCount, blockCoun
 use Rattle.rules.specs.Bytes.{allFrom, every}
 use Rattle.rules.specs.Image.{labels, recordAt, blockField, labelA, labelB, Row, rowAt, fieldAt, threadField, kindField}
 use Rattle.rules.specs.Statements.{statementOf, roleA, roleB}
-use Rattle.rules.specs.Check.{headOk, slotOk, labelOk, ruleOk, recordOk, fieldOk, rowOk, firstOf, imageFaults, imageLengthFault, tableLengthFault, tableFault, recordFault}
+use Rattle.rules.specs.Check.{headOk, slotOk, labelOk, ruleOk, recordOk, fieldOk, rowOk, firstOf, imageFaults, imageLengthFault}
+use Rattle.rules.specs.Check.{tableLengthFault, tableFault, recordFault}
 use Rattle.laws.specs.Logic.{and-both}
 use Rattle.laws.specs.Faults.{first-of-zero, refusal-zero, fault-free}
 

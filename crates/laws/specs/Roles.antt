@@ -5,8 +5,10 @@ use mathlib.Core.Bool.{Bool, true, false}
 use mathlib.Core.Option.{Option, none, some}
 use mathlib.Core.List.{List}
 use Prim.Native.Nat.{ℕ}
-use Rattle.rules.specs.Statements.{Way, following, branching, transferring, entering, posting, calling, returning, ending, way, wayA, wayB, roleA, roleB, reads}
-use Rattle.rules.specs.Effects.{Got, trap, got, then, unless, Cells, readAll, Next, onA, onB, intoA, callA, back, Outcome, ends, goes, View, leave, overflow, worked, chosen, perform, outcome}
+use Rattle.rules.specs.Statements.{Way, following, branching, transferring, entering, posting, calling, returning, ending, way, wayA}
+use Rattle.rules.specs.Statements.{wayB, roleA, roleB, reads}
+use Rattle.rules.specs.Effects.{Got, trap, got, then, unless, Cells, readAll, Next, onA, onB, intoA, callA, back, Outcome, ends, goes}
+use Rattle.rules.specs.Effects.{View, leave, overflow, worked, chosen, perform, outcome}
 use Rattle.rules.specs.declared.statement.Operand.{Operand}
 use Rattle.rules.specs.declared.statement.Role.{Role}
 use Rattle.rules.specs.declared.statement.Role.the-variants.{Inner, Direct, Local, Buffered}

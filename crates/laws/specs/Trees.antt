@@ -59,10 +59,15 @@ pub put-comm : (t u : ℕ) (o q : Option (List Signal)) (l : List Tree) → t �
 put-comm t u o q [] h = unfold put in refl
 put-comm t u o q (x ∷ l) h = go (ℕ-discrete (x .thread) u) (ℕ-discrete (x .thread) t) (put-comm t u o q l h)
   where
-    go : Dec (x .thread ≡ u) → Dec (x .thread ≡ t) → put t q (put u o l) ≡ put u o (put t q l) → put t q (put u o (x ∷ l)) ≡ put u o (put t q (x ∷ l))
-    go (yes e) d ih = rw (put-here u x l o e, put-there t x l q (λ k. h (sym k ∙ e)), put-here u x (put t q l) o e) (put-refit-other t u o q l h)
-    go (no e) (yes k) ih = rw (put-there u x l o e, put-here t x (put u o l) q k, put-here t x l q k) (sym (put-refit-other u t q o l (λ j. h (sym j))))
-    go (no e) (no k) ih = rw (put-there u x l o e, put-there t x (put u o l) q k, put-there t x l q k, put-there u x (put t q l) o e) (ap (λ (r : List Tree). x ∷ r) ih)
+    go : Dec (x .thread ≡ u) → Dec (x .thread ≡ t) → put t q (put u o l) ≡ put u o (put t q l)
+        → put t q (put u o (x ∷ l)) ≡ put u o (put t q (x ∷ l))
+    go (yes e) d ih =
+        rw (put-here u x l o e, put-there t x l q (λ k. h (sym k ∙ e)), put-here u x (put t q l) o e) (put-refit-other t u o q l h)
+    go (no e) (yes k) ih =
+        rw (put-there u x l o e, put-here t x (put u o l) q k, put-here t x l q k) (sym (put-refit-other u t q o l (λ j. h (sym j))))
+    go (no e) (no k) ih =
+        rw (put-there u x l o e, put-there t x (put u o l) q k, put-there t x l q k, put-there u x (put t q l) o e)
+        (ap (λ (r : List Tree). x ∷ r) ih)
 
 refit-append : (t : ℕ) (o : Option (List Signal)) (l r : List Tree) → refit t o (l ++ r) ≡ refit t o l ++ r
 refit-append t none l r = refl
@@ -76,7 +81,8 @@ first-append t p (x ∷ l) r h = go (ℕ-discrete (x .thread) t) (first-append t
     go (yes e) ih = first-here t x (l ++ r) e ∙ sym (first-here t x l e) ∙ h
     go (no e) ih = first-there t x (l ++ r) e ∙ ih (sym (first-there t x l e) ∙ h)
 
-pub put-append : (t : ℕ) (o : Option (List Signal)) (p : List Signal) (l r : List Tree) → first t l ≡ some p → put t o (l ++ r) ≡ put t o l ++ r
+pub put-append : (t : ℕ) (o : Option (List Signal)) (p : List Signal) (l r : List Tree) → first t l ≡ some p
+    → put t o (l ++ r) ≡ put t o l ++ r
 put-append t o p [] r h = cc (first-nil t)
 put-append t o p (x ∷ l) r h = go (ℕ-discrete (x .thread) t) (put-append t o p l r)
   where

@@ -7,7 +7,8 @@ use Rattle.rules.specs.Events.{Event, arrive, turn, eventBytes}
 use Rattle.rules.specs.Answers.{code, answerBytes, Sort, out, now, join, close, sort, sortOfCode}
 use Rattle.rules.specs.Order.{Sheet, noteAs, notesBy, blank, spread, orderBy, Entry, rowOf, order, ByteEntry, byteOrder}
 use Rattle.rules.specs.declared.answer.Answer.{Answer}
-use Rattle.rules.specs.declared.answer.Answer.the-variants.{Taken, ListFull, NoWork, Waiting, Started, Moved, Exited, Trapped, WasCut, NothingToCut}
+use Rattle.rules.specs.declared.answer.Answer.the-variants.{Taken, ListFull, NoWork, Waiting, Started, Moved, Exited, Trapped, WasCut}
+use Rattle.rules.specs.declared.answer.Answer.the-variants.{NothingToCut}
 
 -- ---- any other way of writing entries down
 
@@ -43,14 +44,17 @@ module _ {A B : Type 0} (c : A → B) where
     notes-over h [] = refl
     notes-over h (n ∷ l) =
         notes-over (noteAs (f n) (g n) h n) l
-        ∙ ap (λ (z : Sheet B). notesBy f′ g′ z (map c l)) (note-over (f n) (g n) h n ∙ ap₂ (λ (u : Sort) (v : ℕ). noteAs u v (over h) (c n)) (sym (p n)) (sym (q n)))
+        ∙ ap (λ (z : Sheet B). notesBy f′ g′ z (map c l))
+        (note-over (f n) (g n) h n ∙ ap₂ (λ (u : Sort) (v : ℕ). noteAs u v (over h) (c n)) (sym (p n)) (sym (q n)))
 
     -- the order of what is written down otherwise is the order, written down so
     pub order-over : (l : List A) → map c (orderBy f g l) ≡ orderBy f′ g′ (map c l)
     unfolding orderBy over
     order-over l =
         let h : Sheet A = notesBy f g blank l in
-        map-append c (h .written) (flatten (h .rows)) ∙ ap (λ (z : List B). map c (h .written) ++ z) (map-flatten (h .rows)) ∙ ap spread (notes-over blank l)
+        map-append c (h .written) (flatten (h .rows))
+        ∙ ap (λ (z : List B). map c (h .written) ++ z) (map-flatten (h .rows))
+        ∙ ap spread (notes-over blank l)
 
 -- ---- bytes
 

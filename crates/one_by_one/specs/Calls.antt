@@ -12,7 +12,8 @@ use Rattle.soundness.specs.Laws.{Laws}
 use Rattle.one_by_one.specs.Reading.{OneByOne, AllValid, one-by-one}
 
 module _ (R : Rules) where
-  -- each call goes on from the machine that the one before it left: their events and answers, joined, and the machine that the last one left
+  -- each call goes on from the machine that the one before it left: their events and answers, joined, and the machine that the last one
+  -- left
   unfoldable pub logs : Machine → List (List Event) → List Entry
   logs s [] = []
   logs s (a ∷ l) = log R s a ++ logs (final R s a) l

@@ -7,7 +7,8 @@ use mathlib.Core.List.{List, [], _∷_, List·Memᴰ·head}
 use Prim.Native.Nat.{ℕ}
 use lib.Seq.{getD-set-other, set-comm}
 use Rattle.rules.specs.Bytes.{has}
-use Rattle.rules.specs.Machine.{Signal, Tree, Job, ThreadState, idle, running, Machine, threadAt, locksOf, jobOf, first, put, treeThreads, window}
+use Rattle.rules.specs.Machine.{Signal, Tree, Job, ThreadState, idle, running, Machine, threadAt, locksOf, jobOf, first, put, treeThreads}
+use Rattle.rules.specs.Machine.{window}
 use Rattle.rules.specs.Events.{Kind, stepping, cutting, Event, arrive, turn, threadOf}
 use Rattle.rules.specs.Steps.{Rules, Move, plan, planStep, planTurn, planArrive, written, applied, grown, finished, requeued}
 use Rattle.laws.specs.Trees.{first-put-other, put-comm, first-append, put-append}
@@ -19,10 +20,12 @@ module _ (R : Rules) where
   pub record Same (t : ℕ) (s s′ : Machine) : Type 0 where
     pub thread : threadAt s′ t ≡ threadAt s t
     pub tree : first t (s′ .trees) ≡ first t (s .trees)
-    pub cells : (j : Job) → jobOf (threadAt s t) ≡ some j → window (R .block (j .label)) (s′ .words) ≡ window (R .block (j .label)) (s .words)
+    pub cells : (j : Job) → jobOf (threadAt s t) ≡ some j
+        → window (R .block (j .label)) (s′ .words) ≡ window (R .block (j .label)) (s .words)
 
   same-turn : (d : Kind) (t : ℕ) (w : ThreadState) (f : Option (List Signal)) (v v′ : List ℕ)
-      → ((j : Job) → jobOf w ≡ some j → window (R .block (j .label)) v′ ≡ window (R .block (j .label)) v) → planTurn R d t w f v′ ≡ planTurn R d t w f v
+      → ((j : Job) → jobOf w ≡ some j → window (R .block (j .label)) v′ ≡ window (R .block (j .label)) v)
+      → planTurn R d t w f v′ ≡ planTurn R d t w f v
   unfolding planStep
   same-turn stepping t idle f v v′ h = refl
   same-turn stepping t (running l j) f v v′ h = rw (h j refl) refl
@@ -31,15 +34,19 @@ module _ (R : Rules) where
   pub same-plan : (t : ℕ) (e : Event) (s s′ : Machine) → threadOf e ≡ some t → Same t s s′ → plan R s′ e ≡ plan R s e
   unfolding plan
   same-plan t (arrive g) s s′ k h = cc
-  same-plan t (turn d u) s s′ k h = let e : u ≡ t = cc in rw (e, h .thread, h .tree) (same-turn d t (threadAt s t) (first t (s .trees)) (s .words) (s′ .words) (h .cells))
+  same-plan t (turn d u) s s′ k h =
+      let e : u ≡ t = cc in
+      rw (e, h .thread, h .tree) (same-turn d t (threadAt s t) (first t (s .trees)) (s .words) (s′ .words) (h .cells))
 
-  pub same-arrive : (g : Signal) (s s′ : Machine) → treeThreads (s′ .trees) ≡ treeThreads (s .trees) → plan R s′ (arrive g) ≡ plan R s (arrive g)
+  pub same-arrive : (g : Signal) (s s′ : Machine) → treeThreads (s′ .trees) ≡ treeThreads (s .trees)
+      → plan R s′ (arrive g) ≡ plan R s (arrive g)
   unfolding plan planArrive
   same-arrive g s s′ h = rw h refl
 
   -- ---- the parts of the machine, changed by one thread and read by another
 
-  written-other : (w : Option (ℕ × List ℕ)) (ws : List ℕ) (b : ℕ) → ((p : ℕ × List ℕ) → w ≡ some p → b ≢ p .0) → window b (written w ws) ≡ window b ws
+  written-other : (w : Option (ℕ × List ℕ)) (ws : List ℕ) (b : ℕ) → ((p : ℕ × List ℕ) → w ≡ some p → b ≢ p .0)
+      → window b (written w ws) ≡ window b ws
   written-other none ws b h = refl
   written-other (some p) ws b h = window-keep-other (p .0) b (p .1) ws (h p refl)
 
@@ -53,7 +60,8 @@ module _ (R : Rules) where
   machine-path p q r = λ i. record { words = p i; threads = q i; trees = r i }
 
   -- two threads hold different locks
-  pub unlike : (s : Machine) (t u a b : ℕ) → Invariant R s → t ≢ u → has (R .lock a) (locksOf (threadAt s t)) ≡ true → has (R .lock b) (locksOf (threadAt s u)) ≡ true → a ≢ b
+  pub unlike : (s : Machine) (t u a b : ℕ) → Invariant R s → t ≢ u → has (R .lock a) (locksOf (threadAt s t)) ≡ true
+      → has (R .lock b) (locksOf (threadAt s u)) ≡ true → a ≢ b
   unlike s t u a b i n h k e =
       let f : has (R .lock a) (locksOf (threadAt s u)) ≡ false = i .apart t u (R .lock a) n h in
       true≢false (sym k ∙ ap (λ (x : ℕ). has (R .lock x) (locksOf (threadAt s u))) (sym e) ∙ f)
@@ -62,7 +70,9 @@ module _ (R : Rules) where
   same-applied s t u m i d n = record {
     thread = getD-set-other (s .threads) u t _ idle n;
     tree = first-put-other t u (some (m .pending)) (s .trees) n;
-    cells = λ j e. written-other (m .write) (s .words) (R .block (j .label)) (λ p f. unlike s t u _ _ i n (i .keeps t j e (R .block (j .label)) (List·Memᴰ·head refl)) (d .writes p f));
+    cells =
+        λ j e. written-other (m .write) (s .words) (R .block (j .label))
+        (λ p f. unlike s t u _ _ i n (i .keeps t j e (R .block (j .label)) (List·Memᴰ·head refl)) (d .writes p f));
   }
 
   pub same-grown : (s : Machine) (t : ℕ) (x : Tree) (p : List Signal) → first t (s .trees) ≡ some p → Same t s (grown x s)
@@ -77,12 +87,17 @@ module _ (R : Rules) where
 
   -- ---- the changes of two threads in either order
 
-  pub comm-applied : (s : Machine) (t u : ℕ) (m n : Move) → t ≢ u → ((p q : ℕ × List ℕ) → m .write ≡ some p → n .write ≡ some q → p .0 ≢ q .0)
+  pub comm-applied : (s : Machine) (t u : ℕ) (m n : Move) → t ≢ u
+      → ((p q : ℕ × List ℕ) → m .write ≡ some p → n .write ≡ some q → p .0 ≢ q .0)
       → applied R t m (applied R u n s) ≡ applied R u n (applied R t m s)
-  comm-applied s t u m n h k = machine-path (written-comm (m .write) (n .write) (s .words) k) threads′ (put-comm t u (some (n .pending)) (some (m .pending)) (s .trees) h)
+  comm-applied s t u m n h k =
+      machine-path (written-comm (m .write) (n .write) (s .words) k) threads′
+      (put-comm t u (some (n .pending)) (some (m .pending)) (s .trees) h)
     where
       threads′ : (applied R t m (applied R u n s)) .threads ≡ (applied R u n (applied R t m s)) .threads
-      threads′ = let g : u ≢ t = λ e. h (sym e) in rw (getD-set-other (s .threads) u t, getD-set-other (s .threads) t u) (set-comm (s .threads) u t _ _ g)
+      threads′ =
+          let g : u ≢ t = λ e. h (sym e) in
+          rw (getD-set-other (s .threads) u t, getD-set-other (s .threads) t u) (set-comm (s .threads) u t _ _ g)
 
   pub comm-grown : (s : Machine) (t : ℕ) (m : Move) (x : Tree) (p : List Signal) → first t (s .trees) ≡ some p
       → applied R t m (grown x s) ≡ grown x (applied R t m s)
@@ -95,4 +110,8 @@ module _ (R : Rules) where
       let f : first t (put u none (s .trees)) ≡ some p = first-put-other t u none (s .trees) n ∙ h in
       machine-path refl
       (rw (getD-set-other (s .threads) u t) (set-comm (s .threads) u t _ _ g))
-      (rw (put-append t (some (m .pending)) p (put u none (s .trees)), put-comm t u none (some (m .pending)) (s .trees), first-put-other u t) refl)
+      (rw (
+        put-append t (some (m .pending)) p (put u none (s .trees)),
+        put-comm t u none (some (m .pending)) (s .trees),
+        first-put-other u t,
+      ) refl)

@@ -53,7 +53,8 @@ pub record JobRows (h : Sheet Entry) (s : Machine) : Type 0 where
 
 -- ---- rows that grow
 
-moved-snoc : (t : ℕ) (r : List Entry) (n : Entry) → AllMoved t r → n .answer ≡ Moved → threadOf (n .event) ≡ some t → AllMoved t (r ++ n ∷ [])
+moved-snoc : (t : ℕ) (r : List Entry) (n : Entry) → AllMoved t r → n .answer ≡ Moved → threadOf (n .event) ≡ some t
+    → AllMoved t (r ++ n ∷ [])
 moved-snoc t [] n a h k = (h, k, tt)
 moved-snoc t (m ∷ r) n a h k = (a .0, a .1, moved-snoc t r n (a .2) h k)
 
@@ -98,7 +99,8 @@ module _ (R : Rules) where
   before-running s t b p exits h = h
   before-running s t b p (moves j words g want) h = inr (refl, h)
 
-  before-turn : (k : Kind) (s : Machine) (t : ℕ) (w : ThreadState) → threadAt s t ≡ w → Before s (planTurn R k t w (first t (s .trees)) (s .words))
+  before-turn : (k : Kind) (s : Machine) (t : ℕ) (w : ThreadState) → threadAt s t ≡ w
+      → Before s (planTurn R k t w (first t (s .trees)) (s .words))
   unfolding planStep planCut
   before-turn stepping s t idle w = before-idle s t (first t (s .trees)) w
   before-turn stepping s t (running locks j) w = before-running s t _ _ _ (rw w tt)
@@ -128,7 +130,8 @@ Turn s e t s′ a join = Continues a (threadAt s t) × Running (threadAt s′ t)
 Turn s e t s′ a close = Running (threadAt s t) × (threadAt s′ t ≡ idle) × Others s t s′ × (threadOf e ≡ some t)
 
 module _ (R : Rules) (L : Laws R) where
-  turn-attempt : (s : Machine) (e : Event) (t : ℕ) (m : Move) (o : Option ℕ) → Invariant R s → Valid e → Good R s (threadOf e) (move t m) → Before R s (move t m)
+  turn-attempt : (s : Machine) (e : Event) (t : ℕ) (m : Move) (o : Option ℕ) → Invariant R s → Valid e → Good R s (threadOf e) (move t m)
+      → Before R s (move t m)
       → Turn s e t (attempt R t m s o .state) (attempt R t m s o .answer) (sort (attempt R t m s o .answer))
   unfolding attempt
   turn-attempt s e t m (some b) i v g h = λ k. refl
@@ -144,7 +147,8 @@ module _ (R : Rules) (L : Laws R) where
   turn-carry s e (finish t a) i v g h =
       rw (row-is e t (g .0), g .1) (h, getD-set-idle (s .threads) t, (λ k n. getD-set-other (s .threads) t k idle idle n), g .0)
 
-  turn-of : (s : Machine) (e : Event) → Invariant R s → Valid e → Turn s e (rowOf e) (react R s e .state) (react R s e .answer) (sort (react R s e .answer))
+  turn-of : (s : Machine) (e : Event) → Invariant R s → Valid e
+      → Turn s e (rowOf e) (react R s e .state) (react R s e .answer) (sort (react R s e .answer))
   unfolding react
   turn-of s e i v = turn-carry s e (plan R s e) i v (good R L s e i) (before R s e)
 
@@ -153,7 +157,11 @@ module _ (R : Rules) (L : Laws R) where
   blank-rows : (words : List ℕ) → JobRows blank (fresh words)
   unfolding fresh
   blank-rows words =
-      record { written = nothing; eight = refl; rows = λ t. rw (getD-same idle threadCount t) (getD-same {A = List Entry} [] threadCount t) }
+      record {
+        written = nothing;
+        eight = refl;
+        rows = λ t. rw (getD-same idle threadCount t) (getD-same {A = List Entry} [] threadCount t);
+      }
 
   module _ (h : Sheet Entry) (s : Machine) (e : Event) (v : Valid e) (k : JobRows h s) where
     abbrev s′ : Machine
@@ -183,14 +191,19 @@ module _ (R : Rules) (L : Laws R) where
     note-rows : (q : Sort) → sort (n .answer) ≡ q → Turn s e (rowOf e) s′ (n .answer) q → JobRows (noteAs q (rowOf e) h n) s′
     unfolding noteAs
     note-rows out z t = record { written = k .written; eight = k .eight; rows = λ j. rw (t j) (k .rows j) }
-    note-rows now z t = record { written = arrival (h .written) n (k .written) z (t .1); eight = k .eight; rows = λ j. rw (t .0 j) (k .rows j) }
+    note-rows now z t = record {
+      written = arrival (h .written) n (k .written) z (t .1);
+      eight = k .eight;
+      rows = λ j. rw (t .0 j) (k .rows j);
+    }
     note-rows join z t = record {
       written = k .written;
       eight = length-set (h .rows) (rowOf e) _ ∙ k .eight;
       rows = set-rows (r ++ n ∷ []) (t .3) (t .2) (open-row (rowOf e) (threadAt s′ (rowOf e)) (r ++ n ∷ []) (t .1) (joins (t .0) (t .3)));
     }
     note-rows close z t = record {
-      written = job (rowOf e) (h .written) r n (k .written) (row-open (rowOf e) (threadAt s (rowOf e)) r (t .0) (k .rows (rowOf e))) z (t .3);
+      written =
+          job (rowOf e) (h .written) r n (k .written) (row-open (rowOf e) (threadAt s (rowOf e)) r (t .0) (k .rows (rowOf e))) z (t .3);
       eight = length-set (h .rows) (rowOf e) _ ∙ k .eight;
       rows = set-rows [] (t .3) (t .2) (rw (t .1) refl);
     }

@@ -86,7 +86,11 @@ module _ (R : Rules) (L : Laws R) where
 
     kept-blank : Kept blank (fresh words)
     unfolding flatten
-    kept-blank = record { runs = refl; eight = refl; own = λ k n m. absurd (List·Memᴰ·not-nil (rw (getD-same {A = List Entry} [] threadCount k) at m)) }
+    kept-blank = record {
+      runs = refl;
+      eight = refl;
+      own = λ k n m. absurd (List·Memᴰ·not-nil (rw (getD-same {A = List Entry} [] threadCount k) at m));
+    }
 
     module _ (h : Sheet Entry) (s : Machine) (e : Event) (v : Valid e) (k : Kept h s) where
       abbrev s′ : Machine
@@ -118,7 +122,9 @@ module _ (R : Rules) (L : Laws R) where
       note-now z p = record {
         runs =
             let g : Carried R (fresh words) (h .written ++ (flatten (h .rows) ++ (n ∷ [] ++ []))) s′ = simp append-assoc at more in
-            simp append-assoc (simp append-nil at (shift R L (fresh words) s′ (h .written) (flatten (h .rows)) (n ∷ []) [] (invariant-fresh R L words) (apart-now z p) g));
+            simp append-assoc
+            (simp append-nil at
+            (shift R L (fresh words) s′ (h .written) (flatten (h .rows)) (n ∷ []) [] (invariant-fresh R L words) (apart-now z p) g));
         eight = k .eight;
         own = k .own;
       }
@@ -153,9 +159,15 @@ module _ (R : Rules) (L : Laws R) where
 
         to-row : Carried R (fresh words) (h .written ++ (B ++ ((r ++ n ∷ []) ++ D))) s′
         to-row =
-            let m : Carried R (fresh words) ((h .written ++ (B ++ (r ++ D))) ++ n ∷ []) s′ = rw (flatten-row (h .rows) (rowOf e) inside) at more in
-            let g : Carried R (fresh words) ((h .written ++ (B ++ r)) ++ (D ++ (n ∷ [] ++ []))) s′ = simp append-assoc (simp append-assoc at m) in
-            simp append-assoc (simp (append-assoc, append-nil) at (shift R L (fresh words) s′ (h .written ++ (B ++ r)) D (n ∷ []) [] (invariant-fresh R L words)
+            let m : Carried R (fresh words) ((h .written ++ (B ++ (r ++ D))) ++ n ∷ []) s′ =
+            rw (flatten-row (h .rows) (rowOf e) inside) at more
+            in
+            let g : Carried R (fresh words) ((h .written ++ (B ++ r)) ++ (D ++ (n ∷ [] ++ []))) s′ =
+            simp append-assoc (simp append-assoc at m)
+            in
+            simp append-assoc
+            (simp (append-assoc, append-nil) at
+            (shift R L (fresh words) s′ (h .written ++ (B ++ r)) D (n ∷ []) [] (invariant-fresh R L words)
             (λ x y a b. let c = mem-behind x (h .rows) (rowOf e) a in foreign x y (c .0) (c .1) (c .2) (new y b .0) (new y b .1)) g))
 
         -- and the whole row goes in front of the others
@@ -167,7 +179,8 @@ module _ (R : Rules) (L : Laws R) where
             foreign x y (c .0) (c .1) (c .2) (g .0) (g .1))
             to-row
           where
-            either : (y : Entry) → List·Memᴰ y r ⊎ List·Memᴰ y (n ∷ []) → (¬ (sort (y .answer) ≡ out)) × (threadOf (y .event) ≡ some (rowOf e))
+            either : (y : Entry) → List·Memᴰ y r ⊎ List·Memᴰ y (n ∷ [])
+                → (¬ (sort (y .answer) ≡ out)) × (threadOf (y .event) ≡ some (rowOf e))
             either y (inl b) = old y b
             either y (inr b) = new y b
 
@@ -182,7 +195,8 @@ module _ (R : Rules) (L : Laws R) where
           f : ¬ (sort (n .answer) ≡ out)
           f q = never (cc)
 
-          inner : (y : Entry) → List·Memᴰ y (r p f) ⊎ List·Memᴰ y (n ∷ []) → (sort (y .answer) ≡ join) × (threadOf (y .event) ≡ some (rowOf e))
+          inner : (y : Entry) → List·Memᴰ y (r p f) ⊎ List·Memᴰ y (n ∷ [])
+              → (sort (y .answer) ≡ join) × (threadOf (y .event) ≡ some (rowOf e))
           inner y (inl m) = k .own (rowOf e) y m
           inner y (inr m) =
               let q : y ≡ n = List·Memᴰ·eq-of-singleton m in
@@ -190,7 +204,9 @@ module _ (R : Rules) (L : Laws R) where
 
           case : (j : ℕ) (y : Entry) → Dec (j ≡ rowOf e) → List·Memᴰ y (getD (set (h .rows) (rowOf e) (r p f ++ n ∷ [])) j [])
               → (sort (y .answer) ≡ join) × (threadOf (y .event) ≡ some j)
-          case j y (yes q) m = rw q (inner y (List·Memᴰ·append-cases (r p f) (rw (q, getD-set-same (h .rows) (rowOf e) (r p f ++ n ∷ []) [] (inside p f)) at m)))
+          case j y (yes q) m =
+              rw q
+              (inner y (List·Memᴰ·append-cases (r p f) (rw (q, getD-set-same (h .rows) (rowOf e) (r p f ++ n ∷ []) [] (inside p f)) at m)))
           case j y (no q) m = k .own j y (rw (getD-set-other (h .rows) (rowOf e) j (r p f ++ n ∷ []) [] q) at m)
 
       note-close : sort (n .answer) ≡ close → threadOf e ≡ some (rowOf e)
@@ -222,7 +238,8 @@ module _ (R : Rules) (L : Laws R) where
       note-kept : Kept (noteAs (sort (n .answer)) (rowOf e) h n) s′
       note-kept = note-any (sort (n .answer)) refl (about s e reached)
 
-    notes-kept : (h : Sheet Entry) (s : Machine) (l : List Event) → AllValid l → Kept h s → Kept (notesBy bySort byRow h (log R s l)) (final R s l)
+    notes-kept : (h : Sheet Entry) (s : Machine) (l : List Event) → AllValid l → Kept h s
+        → Kept (notesBy bySort byRow h (log R s l)) (final R s l)
     unfolding notesBy log final
     notes-kept h s [] v k = k
     notes-kept h s (e ∷ l) v k = notes-kept _ (react R s e .state) l (v .1) (note-kept h s e (v .0) k)

@@ -25,11 +25,13 @@ flatten-cons x l = refl
 
 pub flatten-row : (l : List (List Entry)) (t : ℕ) → t < length l → flatten l ≡ before l t ++ (getD l t [] ++ behind l t)
 unfolding before behind
-flatten-row l t h = ap flatten (split-at l t [] h) ∙ flatten-append _ _ ∙ ap (λ (z : List Entry). flatten (take t l) ++ z) (flatten-cons _ _)
+flatten-row l t h =
+    ap flatten (split-at l t [] h) ∙ flatten-append _ _ ∙ ap (λ (z : List Entry). flatten (take t l) ++ z) (flatten-cons _ _)
 
 pub flatten-set : (l : List (List Entry)) (t : ℕ) (r : List Entry) → t < length l → flatten (set l t r) ≡ before l t ++ (r ++ behind l t)
 unfolding before behind
-flatten-set l t r h = ap flatten (set-split l t r h) ∙ flatten-append _ _ ∙ ap (λ (z : List Entry). flatten (take t l) ++ z) (flatten-cons _ _)
+flatten-set l t r h =
+    ap flatten (set-split l t r h) ∙ flatten-append _ _ ∙ ap (λ (z : List Entry). flatten (take t l) ++ z) (flatten-cons _ _)
 
 -- an entry of the rows stands in one of them
 pub mem-flatten : (n : Entry) (l : List (List Entry)) → List·Memᴰ n (flatten l) → (k : ℕ) × (k < length l) × List·Memᴰ n (getD l k [])

@@ -12,14 +12,16 @@ use Rattle.rules.specs.Bytes.{has}
 use Rattle.rules.specs.Machine.{idle, Machine, threadAt, locksOf}
 use Rattle.rules.specs.Events.{Event, arrive, turn, threadOf, Valid}
 use Rattle.rules.specs.Answers.{out, join, sort}
-use Rattle.rules.specs.Steps.{Rules, Move, Plan, stay, grow, move, finish, Reply, plan, blocked, grant, applied, grown, finished, attempt, carry, react}
+use Rattle.rules.specs.Steps.{Rules, Move, Plan, stay, grow, move, finish, Reply, plan, blocked, grant, applied, grown, finished, attempt}
+use Rattle.rules.specs.Steps.{carry, react}
 use Rattle.laws.specs.Logic.{never, not-true}
 use Rattle.laws.specs.Sets.{has-none}
 use Rattle.laws.specs.Trees.{threads-put}
 use Rattle.soundness.specs.Laws.{Laws}
 use Rattle.laws.specs.Locks.{grant-keeps, grant-takes, grant-either, Clear, blocked-clear, clear-blocked, getD-set-idle}
 use Rattle.soundness.specs.Invariant.{Invariant, Sound, Good, good, at-mover, at-other}
-use Rattle.one_by_one.specs.Frame.{Same, same-plan, same-arrive, same-applied, same-grown, same-finished, comm-applied, comm-grown, comm-finished, unlike}
+use Rattle.one_by_one.specs.Frame.{Same, same-plan, same-arrive, same-applied, same-grown, same-finished, comm-applied, comm-grown}
+use Rattle.one_by_one.specs.Frame.{comm-finished, unlike}
 
 module _ (R : Rules) (L : Laws R) where
   -- x then y, and y then x, from the machine s
@@ -52,7 +54,8 @@ module _ (R : Rules) (L : Laws R) where
   joined-move s x t m none k g h e = record { thread = t; act = m; plans = k; sound = g .0; names = g .1; clear = h }
   joined-move s x t m (some b) k g h e = never (cc)
 
-  joined-plan : (s : Machine) (x : Event) (q : Plan) → plan R s x ≡ q → Good R s (threadOf x) q → sort (carry R s q .answer) ≡ join → Joined s x
+  joined-plan : (s : Machine) (x : Event) (q : Plan) → plan R s x ≡ q → Good R s (threadOf x) q → sort (carry R s q .answer) ≡ join
+      → Joined s x
   unfolding carry
   joined-plan s x (stay a) k (inl g) e = never (cc)
   joined-plan s x (stay a) k (inr g) e = never (cc (g .0))
@@ -78,25 +81,32 @@ module _ (R : Rules) (L : Laws R) where
   clear-before s t u m w i v c b e k n = case (ℕ-discrete k u)
     where
       case : Dec (k ≡ u) → has (R .lock b) (locksOf (threadAt s k)) ≡ false
-      case (yes p) = rw p (not-true _ (λ h. true≢false (sym (grant-keeps R (m .want) _ _ h) ∙ (rw (p, at-mover R L s u m i v) at (c b e k n)))))
+      case (yes p) =
+          rw p (not-true _ (λ h. true≢false (sym (grant-keeps R (m .want) _ _ h) ∙ (rw (p, at-mover R L s u m i v) at (c b e k n)))))
       case (no p) = rw (at-other R L s u m k p) at (c b e k n)
 
   -- two moves that get their locks one after the other get them the other way round too
-  clear-after : (s : Machine) (t u : ℕ) (m n : Move) → Invariant R s → u < threadCount → t < threadCount → u ≢ t → Clear R (s .threads) u (m .want)
+  clear-after : (s : Machine) (t u : ℕ) (m n : Move) → Invariant R s → u < threadCount → t < threadCount → u ≢ t
+      → Clear R (s .threads) u (m .want)
       → Clear R (applied R u m s .threads) t (n .want) → Clear R (applied R t n s .threads) u (m .want)
   clear-after s t u m n i vu vt d cu ct b e k f = case (ℕ-discrete k t)
     where
       both : (has (R .lock b) (locksOf (threadAt s t)) ≡ true) ⊎ ((c : ℕ) × (n .want ≡ some c) × (R .lock b ≡ R .lock c)) → ⊥
       both (inl h) = true≢false (sym h ∙ cu b e t (λ p. d (sym p)))
       both (inr h) =
-          let g : has (R .lock (h .0)) (grant R (m .want) (locksOf (threadAt s u))) ≡ false = rw (at-mover R L s u m i vu) at (ct (h .0) (h .1) u d) in
-          true≢false (sym (grant-takes R (m .want) b (locksOf (threadAt s u)) e) ∙ ap (λ (l : ℕ). has l (grant R (m .want) (locksOf (threadAt s u)))) (h .2) ∙ g)
+          let g : has (R .lock (h .0)) (grant R (m .want) (locksOf (threadAt s u))) ≡ false =
+          rw (at-mover R L s u m i vu) at (ct (h .0) (h .1) u d)
+          in
+          true≢false
+          (sym (grant-takes R (m .want) b (locksOf (threadAt s u)) e) ∙ ap
+          (λ (l : ℕ). has l (grant R (m .want) (locksOf (threadAt s u)))) (h .2) ∙ g)
 
       case : Dec (k ≡ t) → has (R .lock b) (locksOf (threadAt (applied R t n s) k)) ≡ false
       case (yes p) = rw (p, at-mover R L s t n i vt) (not-true _ (λ h. both (grant-either R (n .want) _ _ h)))
       case (no p) = rw (at-other R L s t n k p) (cu b e k f)
 
-  module _ (s : Machine) (x y : Event) (i : Invariant R s) (vx : Valid x) (vy : Valid y) (j : Joined s x) (n : threadOf x ≢ threadOf y) where
+  module _ (s : Machine) (x y : Event) (i : Invariant R s) (vx : Valid x) (vy : Valid y) (j : Joined s x)
+      (n : threadOf x ≢ threadOf y) where
     abbrev after : Machine
     after = applied R (j .thread) (j .act) s
 
@@ -110,14 +120,18 @@ module _ (R : Rules) (L : Laws R) where
 
     plan-other : (e : Event) → y ≡ e → plan R after e ≡ plan R s e
     plan-other (arrive g) k = same-arrive R g s after (threads-put (j .thread) (j .act .pending) (s .trees))
-    plan-other (turn d t) k = same-plan R t (turn d t) s after refl (same-applied R s t (j .thread) (j .act) i (j .sound) (λ e. other t (ap threadOf k) (sym e)))
+    plan-other (turn d t) k =
+        same-plan R t (turn d t) s after refl (same-applied R s t (j .thread) (j .act) i (j .sound) (λ e. other t (ap threadOf k) (sym e)))
 
     -- x is done after y, which left the machine s′, as before it
     again : (s′ : Machine) → Same R (j .thread) s s′ → Clear R (s′ .threads) (j .thread) (j .act .want)
         → react R s′ x ≡ record { state = applied R (j .thread) (j .act) s′; answer = j .act .answer }
-    again s′ h c = react-move s′ x (j .thread) (j .act) (same-plan R (j .thread) x s s′ (j .names) h ∙ j .plans) (clear-blocked R (s′ .threads) (j .thread) (j .act .want) c)
+    again s′ h c =
+        react-move s′ x (j .thread) (j .act) (same-plan R (j .thread) x s s′ (j .names) h ∙ j .plans)
+        (clear-blocked R (s′ .threads) (j .thread) (j .act .want) c)
 
-    leaves : {s′ s″ : Machine} → s′ ≡ s″ → _≡_ {A = Reply} (record { state = s′; answer = j .act .answer }) (record { state = s″; answer = j .act .answer })
+    leaves : {s′ s″ : Machine} → s′ ≡ s″
+        → _≡_ {A = Reply} (record { state = s′; answer = j .act .answer }) (record { state = s″; answer = j .act .answer })
     leaves p = λ k. record { state = p k; answer = j .act .answer }
 
     free : Clear R (s .threads) (j .thread) (j .act .want)
@@ -130,11 +144,18 @@ module _ (R : Rules) (L : Laws R) where
     rest-move t m none g h k =
         let d : j .thread ≢ t = other t (g .1) in
         let c : Clear R (after .threads) t (m .want) = blocked-clear R (after .threads) t (m .want) h in
-        let f : blocked R t (s .threads) (m .want) ≡ none = clear-blocked R (s .threads) t (m .want) (clear-before s t (j .thread) (j .act) (m .want) i (vx (j .thread) (j .names)) c) in
+        let f : blocked R t (s .threads) (m .want) ≡ none =
+        clear-blocked R (s .threads) t (m .want) (clear-before s t (j .thread) (j .act) (m .want) i (vx (j .thread) (j .names)) c)
+        in
         record {
           same = rw (f, h) refl;
-          then = rw (f, h) (again (applied R t m s) (same-applied R s (j .thread) t m i (g .0) d) (clear-after s t (j .thread) (j .act) m i (vx (j .thread) (j .names)) (vy t (g .1)) d free c)
-              ∙ leaves (comm-applied R s (j .thread) t (j .act) m d (λ p q e e′. unlike R s (j .thread) t (p .0) (q .0) i d (j .sound .writes p e) (g .0 .writes q e′))));
+          then =
+              rw (f, h)
+              (again (applied R t m s) (same-applied R s (j .thread) t m i (g .0) d)
+              (clear-after s t (j .thread) (j .act) m i (vx (j .thread) (j .names)) (vy t (g .1)) d free c)
+              ∙ leaves
+              (comm-applied R s (j .thread) t (j .act) m d
+              (λ p q e e′. unlike R s (j .thread) t (p .0) (q .0) i d (j .sound .writes p e) (g .0 .writes q e′))));
         }
 
     rest : (q : Plan) → Good R s (threadOf y) q → ¬ (sort (carry R after q .answer) ≡ out) → Rest q
@@ -142,21 +163,29 @@ module _ (R : Rules) (L : Laws R) where
     rest (stay a) g k = record { same = refl; then = react-move s x (j .thread) (j .act) (j .plans) (j .clear) }
     rest (grow z) g k =
         let r = j .sound .root in
-        record { same = refl; then = again (grown z s) (same-grown R s (j .thread) z (r .0) (r .1)) free ∙ leaves (comm-grown R s (j .thread) (j .act) z (r .0) (r .1)) }
+        record {
+          same = refl;
+          then =
+              again (grown z s) (same-grown R s (j .thread) z (r .0) (r .1)) free
+              ∙ leaves (comm-grown R s (j .thread) (j .act) z (r .0) (r .1));
+        }
     rest (move t m) g k = rest-move t m _ g refl k
     rest (finish t a) g k =
         let r = j .sound .root in
         let d : j .thread ≢ t = other t (g .0) in
         record {
           same = refl;
-          then = again (finished R t s) (same-finished R s (j .thread) t (r .0) (r .1) d) (clear-finished s t (j .thread) (j .act .want) free)
+          then =
+              again (finished R t s) (same-finished R s (j .thread) t (r .0) (r .1) d) (clear-finished s t (j .thread) (j .act .want) free)
               ∙ leaves (comm-finished R s (j .thread) t (j .act) (r .0) d (r .1));
         }
 
     swap-joined : ¬ (sort (react R (react R s x .state) y .answer) ≡ out) → Swapped s x y
     swap-joined k =
         let q = plan R s y in
-        let rx : react R s x ≡ record { state = after; answer = j .act .answer } = react-move s x (j .thread) (j .act) (j .plans) (j .clear) in
+        let rx : react R s x ≡ record { state = after; answer = j .act .answer } =
+        react-move s x (j .thread) (j .act) (j .plans) (j .clear)
+        in
         let ry : react R s y ≡ carry R s q = react-as s y q refl in
         let rz : react R after y ≡ carry R after q = react-as after y q (plan-other y refl) in
         let r : Rest q = rest q (good R L s y i) (λ e. k (rw (rx, rz) e)) in

@@ -10,8 +10,15 @@ use Rattle.rules.specs.declared.statement.Statement.{Statement}
 use Rattle.rules.specs.Check.{shapeOk, labelOk}
 
 -- what the opcode asks of the operator, the operands and the labels
+abbrev pub bothOk : List ℕ → List ℕ → Role → Role → Bool
+bothOk image r a b = labelOk image a (blockField r) (labelA r) && labelOk image b (blockField r) (labelB r)
+
 abbrev pub labelsOk : List ℕ → List ℕ → Statement → Bool
-labelsOk image r s = labelOk image (roleA s) (blockField r) (labelA r) && labelOk image (roleB s) (blockField r) (labelB r)
+labelsOk image r s = bothOk image r (roleA s) (roleB s)
+
+-- of ASSIGN's kind: the count c, and the destinations of the record r
+abbrev pub assignmentOk : Shape → ℕ → List ℕ → Bool
+assignmentOk s c r = assignOk s c (kind r 0) (value r 0) (kind r 1) (value r 1)
 
 unfoldable pub formOk : List ℕ → List ℕ → Bool
 formOk image r = shapeOk (operationAt (opcode r) (operator r)) r && labelsOk image r (statementOf r)

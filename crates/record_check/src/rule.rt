@@ -20,7 +20,7 @@ ghost use Prim.Native.Nat.{_≤_};
 ghost use lib.Dec.{eqb, ltb};
 ghost use lib.ListN.{length};
 ghost use Rattle.rules.specs.Sizes.{recordSize, operandCount};
-ghost use Rattle.rules.specs.Image.{labels, recordAt, blockField, entry, operands, labelA, labelB, kind, value};
+ghost use Rattle.rules.specs.Image.{labels, recordAt, blockField, entry, operands};
 ghost use Rattle.rules.specs.Statements.{otherOf};
 ghost use Rattle.rules.specs.Check.{assignOk, otherOk, labelOk};
 ghost use Rattle.record_check.specs.Forms.{labelsOk, formOk, outlineOk};
@@ -58,25 +58,26 @@ pub fn label_ok(image: &[u8], n: usize, role: Role, own: Block, v: u16) -> bool
     match role {
         Role::Unused => v == 0,
         Role::Inner => in_block(image, n, own, v),
-        Role::Direct => has_entry(image, n, 1, v),
-        Role::Local => in_block(image, n, own, v) & has_entry(image, n, 1, v),
-        Role::Buffered => has_entry(image, n, 2, v),
+        Role::Direct => has_entry(image, n, DIRECT, v),
+        Role::Local => in_block(image, n, own, v) & has_entry(image, n, DIRECT, v),
+        Role::Buffered => has_entry(image, n, BUFFERED, v),
     }
 }
 
 // The labels A and B of a record, of these roles.
 pub fn labels_ok(image: &[u8], n: usize, r: &[u8], a: Role, b: Role) -> bool
     requires { ⌜ (n ≡ labels (now image)) × (length (now r) ≡ recordSize) ⌝ }
-    ensures { λ z. ⌜ z ≡ (labelOk (now (image .entry)) a (blockField (now (r .entry))) (labelA (now (r .entry))) && labelOk (now (image .entry)) b (blockField (now (r .entry))) (labelB (now (r .entry)))) ⌝ }
+    ensures { λ z. ⌜ z ≡ bothOk (now (image .entry)) (now (r .entry)) a b ⌝ }
 {
-    let own = block_of(r[1]);
-    label_ok(image, n, a, own, get16(r, 4)) & label_ok(image, n, b, own, get16(r, 6))
+    let own = block_of(r[BLOCK_PLACE]);
+    label_ok(image, n, a, own, get16(r, LABEL_A_PLACE))
+        & label_ok(image, n, b, own, get16(r, LABEL_B_PLACE))
 }
 
 // An opcode of ASSIGN's kind: the operand count; no destination is a number, and two are not equal.
 pub fn assign_ok(r: &[u8], s: Shape, c: usize) -> bool
     requires { ⌜ length (now r) ≡ recordSize ⌝ }
-    ensures { λ z. ⌜ z ≡ assignOk s c (kind (now (r .entry)) 0) (value (now (r .entry)) 0) (kind (now (r .entry)) 1) (value (now (r .entry)) 1) ⌝ }
+    ensures { λ z. ⌜ z ≡ assignmentOk s c (now (r .entry)) ⌝ }
 {
     let first = (c == destinations_of(s.second) + destinations_of(s.right)) & (2 <= r[9]);
     if s.second {
@@ -92,10 +93,10 @@ pub fn other_ok(image: &[u8], n: usize, r: &[u8], c: usize) -> bool
     requires { ⌜ (n ≡ labels (now image)) × (length (now r) ≡ recordSize) × (c ≡ operands (now r)) × (c ≤ operandCount) ⌝ }
     ensures { λ z. ⌜ z ≡ (otherOk (now (r .entry)) && labelsOk (now (image .entry)) (now (r .entry)) (otherOf (now (r .entry)))) ⌝ }
 {
-    let o = r[3];
-    match r[0] {
+    let o = r[OPERATOR_PLACE];
+    match r[OPCODE_PLACE] {
         1 | 3 => (o == 0) & (c == 0) & labels_ok(image, n, r, Role::Inner, Role::Unused),
-        4 => (1 <= o) & (o <= 2) & (c == 2) & labels_ok(image, n, r, Role::Inner, Role::Inner),
+        4 => (1 <= o) & (o <= LESS) & (c == 2) & labels_ok(image, n, r, Role::Inner, Role::Inner),
         5 => (o == 0) & labels_ok(image, n, r, Role::Direct, Role::Unused),
         6 => (o == 0) & labels_ok(image, n, r, Role::Buffered, Role::Inner),
         7 => (o == 0) & labels_ok(image, n, r, Role::Direct, Role::Inner),
@@ -111,7 +112,7 @@ pub fn form_ok(image: &[u8], n: usize, r: &[u8], c: usize) -> bool
     requires { ⌜ (n ≡ labels (now image)) × (length (now r) ≡ recordSize) × (c ≡ operands (now r)) × (c ≤ operandCount) ⌝ }
     ensures { λ z. ⌜ z ≡ formOk (now (image .entry)) (now (r .entry)) ⌝ }
 {
-    match operation_at(r[0], r[3]) {
+    match operation_at(r[OPCODE_PLACE], r[OPERATOR_PLACE]) {
         Assigns::Nothing => other_ok(image, n, r, c),
         Assigns::Work(o) => {
             let s = shape_of(o);
@@ -125,9 +126,9 @@ pub fn outline_ok(image: &[u8], n: usize, r: &[u8]) -> bool
     requires { ⌜ (n ≡ labels (now image)) × (length (now r) ≡ recordSize) ⌝ }
     ensures { λ z. ⌜ z ≡ outlineOk (now (image .entry)) (now (r .entry)) ⌝ }
 {
-    let c = wide(r[8]);
+    let c = wide(r[OPERAND_COUNT_PLACE]);
     if Image::OPERANDS < c {
         return false;
     }
-    (wide(r[1]) < Block::COUNT) & (r[2] < 4) & form_ok(image, n, r, c)
+    (wide(r[BLOCK_PLACE]) < Block::COUNT) & (r[ENTRY_PLACE] < 4) & form_ok(image, n, r, c)
 }

@@ -13,7 +13,8 @@ use Rattle.rules.specs.Bytes.{has}
 use Rattle.rules.specs.Machine.{Signal, Job, ThreadState, idle, running, Machine, threadAt, locksOf, treeThreads}
 use Rattle.rules.specs.Answers.{close, sort}
 use Rattle.rules.specs.Events.{Kind, stepping, cutting, Event, arrive, turn, step, cut, threadOf}
-use Rattle.rules.specs.Steps.{Effect, traps, exits, moves, Rules, Move, Plan, stay, grow, move, finish, planArrive, planIdle, planRunning, planStep, planCut, planTurn, plan, blocked, grant, attempt, carry, react, home, founded}
+use Rattle.rules.specs.Steps.{Effect, traps, exits, moves, Rules, Move, Plan, stay, grow, move, finish, planArrive, planIdle}
+use Rattle.rules.specs.Steps.{planRunning, planStep, planCut, planTurn, plan, blocked, grant, attempt, carry, react, home, founded}
 use Rattle.rules.specs.declared.answer.Answer.the-variants.{ListFull, Started, WasCut}
 use Rattle.rules.proofs.Running.{never}
 
@@ -27,7 +28,8 @@ set-idle (w ∷ ws) (suc t) = set-idle ws t
 
 -- a lock that a set has, it has beside others too
 has-or : (l a b : ℕ) → has l a ≡ true → has l (bitOr a b) ≡ true
-has-or l a b h = eq-eqb (bitOr a b / 2 ^ l % 2) 1 (rw (or-shr a b l) (omega (arith, or-step (a / 2 ^ l) (b / 2 ^ l), eqb-true (a / 2 ^ l % 2) 1 h)))
+has-or l a b h =
+    eq-eqb (bitOr a b / 2 ^ l % 2) 1 (rw (or-shr a b l) (omega (arith, or-step (a / 2 ^ l) (b / 2 ^ l), eqb-true (a / 2 ^ l % 2) 1 h)))
 
 set-locks : (ws : List ThreadState) (t u l : ℕ) (w : ThreadState) → (has l (locksOf (getD ws t idle)) ≡ true → has l (locksOf w) ≡ true)
     → has l (locksOf (getD ws u idle)) ≡ true → has l (locksOf (getD (set ws t w) u idle)) ≡ true
@@ -84,12 +86,14 @@ module _ (R : Rules) where
 
   -- ---- and its doing
 
-  waiting-ends : (s : Machine) (t : ℕ) (m : Move) (o : Option ℕ) → (sort (m .answer) ≡ close → ⊥) → sort (attempt R t m s o .answer) ≡ close → ⊥
+  waiting-ends : (s : Machine) (t : ℕ) (m : Move) (o : Option ℕ) → (sort (m .answer) ≡ close → ⊥)
+      → sort (attempt R t m s o .answer) ≡ close → ⊥
   unfolding attempt
   waiting-ends s t m none n c = n c
   waiting-ends s t m (some l) n c = never (cc)
 
-  carry-ends : (s : Machine) (e : Event) (t : ℕ) → threadOf e ≡ some t → (p : Plan) → Ends (threadOf e) p → sort (carry R s p .answer) ≡ close → threadAt (carry R s p .state) t ≡ idle
+  carry-ends : (s : Machine) (e : Event) (t : ℕ) → threadOf e ≡ some t → (p : Plan) → Ends (threadOf e) p
+      → sort (carry R s p .answer) ≡ close → threadAt (carry R s p .state) t ≡ idle
   unfolding carry
   carry-ends s e t h (stay a) n c = absurd (n c)
   carry-ends s e t h (grow x) n c = never (cc)
@@ -97,7 +101,8 @@ module _ (R : Rules) where
   carry-ends s e t h (finish u a) n c = let same : t ≡ u = cc (h, n .1) in rw same (set-idle (s .threads) u)
 
   -- an end of any of the three sorts clears the thread to idle
-  pub ends : (s : Machine) (e : Event) (t : ℕ) → threadOf e ≡ some t → sort (react R s e .answer) ≡ close → threadAt (react R s e .state) t ≡ idle
+  pub ends : (s : Machine) (e : Event) (t : ℕ) → threadOf e ≡ some t → sort (react R s e .answer) ≡ close
+      → threadAt (react R s e .state) t ≡ idle
   unfolding react
   ends s e t h c = carry-ends s e t h (plan R s e) (plan-ends s e) c
 
@@ -105,7 +110,8 @@ module _ (R : Rules) where
   granted l none locks h = h
   granted l (some b) locks h = has-or l locks (2 ^ R .lock b) h
 
-  attempt-locks : (s : Machine) (t u l : ℕ) (m : Move) (o : Option ℕ) → has l (locksOf (threadAt s u)) ≡ true → has l (locksOf (threadAt (attempt R t m s o .state) u)) ≡ true
+  attempt-locks : (s : Machine) (t u l : ℕ) (m : Move) (o : Option ℕ) → has l (locksOf (threadAt s u)) ≡ true
+      → has l (locksOf (threadAt (attempt R t m s o .state) u)) ≡ true
   unfolding attempt
   attempt-locks s t u l m none h = set-locks (s .threads) t u l _ (granted l (m .want) (locksOf (threadAt s t))) h
   attempt-locks s t u l m (some k) h = h

@@ -12,7 +12,8 @@ use Rattle.rules.specs.Statements.{operandOf, operandAt, operandsFrom, o
 use Rattle.rules.specs.Statements.{relationOf, conditionOf, otherAt, statementOf}
 use Rattle.rules.specs.Check.{assignOk, otherOk, headOk, slotOk, labelOk, ruleOk, recordOk, rowOk, imageLengthFault, tableLengthFault, tableFault, recordFault, firstOf}
 use Rattle.rules.specs.Machine.{fresh, queue, first, put, cells, stores, window, keep}
-use Rattle.rules.specs.Encoding.{presence, threadRaw, threadBytes, registersFrom, jobFrom, threadFrom, signalBytes, signalFrom, treeBytes, treeFrom, encode, wordsFrom, machineFrom}
+use Rattle.rules.specs.Encoding.{presence, threadRaw, threadBytes, registersFrom, jobFrom, threadFrom, signalBytes, signalFrom}
+use Rattle.rules.specs.Encoding.{treeBytes, treeFrom, encode, wordsFrom, machineFrom}
 use Rattle.rules.specs.Answers.{code, detail, answerBytes}
 use Rattle.rules.specs.Events.{eventFrom, arrivalOk, turnOk, eventOk, eventAtOk, eventsFrom}
 use Rattle.rules.specs.Effects.{readAll, perform, outcome}
@@ -98,7 +99,9 @@ sending = recordBytes 6 0 3 0 1 0 [] ++ recordBytes 10 0 2 0 0 0 []
 
 -- label 0 in block 0: CALL 2, return label 1; label 2 in block 1: CALL 4, return label 3; labels 1 and 3: EXIT; label 4 in block 2
 abbrev nested : ℕ → List ℕ
-nested opcode = recordBytes 7 0 3 0 2 1 [] ++ recordBytes 10 0 0 0 0 0 [] ++ recordBytes 7 1 1 0 4 3 [] ++ recordBytes 10 1 0 0 0 0 [] ++ recordBytes opcode 2 1 0 0 0 []
+nested opcode =
+    recordBytes 7 0 3 0 2 1 [] ++ recordBytes 10 0 0 0 0 0 [] ++ recordBytes 7 1 1 0 4 3 [] ++ recordBytes 10 1 0 0 0 0 []
+    ++ recordBytes opcode 2 1 0 0 0 []
 
 -- label 0: an opcode to label 1 with the one value 5; label 1: EXIT
 abbrev passing : ℕ → List ℕ
@@ -139,7 +142,8 @@ pub record OnBytes : Type 0 where
   -- "RETURN in a job with no call: 8, 2"
   pub returns : answersTo returning 3 (arrivalBytes 0 [] ++ times 2 (turnBytes 2 0)) ≡ 1 ∷ 0 ∷ 5 ∷ 0 ∷ 8 ∷ 2 ∷ []
   -- "The eighth CALL moves on; the ninth: 8, 3"
-  pub calls : answersTo calling 12 (arrivalBytes 0 [] ++ times 11 (turnBytes 2 0)) ≡ 1 ∷ 0 ∷ 5 ∷ 0 ∷ 6 ∷ 0 ∷ times 8 (6 ∷ 0 ∷ []) ++ 8 ∷ 3 ∷ []
+  pub calls : answersTo calling 12 (arrivalBytes 0 [] ++ times 11 (turnBytes 2 0))
+      ≡ 1 ∷ 0 ∷ 5 ∷ 0 ∷ 6 ∷ 0 ∷ times 8 (6 ∷ 0 ∷ []) ++ 8 ∷ 3 ∷ []
   -- "The eighth pending signal is kept; the ninth: 8, 4"
   pub signals : answersTo sending 11 (arrivalBytes 0 [] ++ times 10 (turnBytes 2 0)) ≡ 1 ∷ 0 ∷ 5 ∷ 0 ∷ times 8 (6 ∷ 0 ∷ []) ++ 8 ∷ 4 ∷ []
   pub signals-kept : part (stateAfter sending 10 (arrivalBytes 0 [] ++ times 9 (turnBytes 2 0))) 1112 3 ≡ 1 ∷ 0 ∷ 8 ∷ []
@@ -151,8 +155,10 @@ pub record OnBytes : Type 0 where
   pub exit : answersTo (nested 10) 5 (arrivalBytes 0 [] ++ times 4 (turnBytes 2 0)) ≡ 1 ∷ 0 ∷ 5 ∷ 0 ∷ 6 ∷ 0 ∷ 6 ∷ 0 ∷ 7 ∷ 0 ∷ []
   pub exited : stateAfter (nested 10) 5 (arrivalBytes 0 [] ++ times 4 (turnBytes 2 0)) ≡ initial (nested 10)
   -- "TRANSFER with one value keeps register 1; direct SEND with one makes it absent": the presence set and registers 0 and 1
-  pub transfer : part (stateAfter (passing 9) 3 (arrivalBytes 0 (2 ∷ 3 ∷ 0 ∷ 4 ∷ 0 ∷ []) ++ times 2 (turnBytes 2 0))) 533 8 ≡ 3 ∷ 0 ∷ 0 ∷ 0 ∷ 5 ∷ 0 ∷ 4 ∷ 0 ∷ []
-  pub direct : part (stateAfter (passing 5) 3 (arrivalBytes 0 (2 ∷ 3 ∷ 0 ∷ 4 ∷ 0 ∷ []) ++ times 2 (turnBytes 2 0))) 533 8 ≡ 1 ∷ 0 ∷ 0 ∷ 0 ∷ 5 ∷ 0 ∷ 0 ∷ 0 ∷ []
+  pub transfer : part (stateAfter (passing 9) 3 (arrivalBytes 0 (2 ∷ 3 ∷ 0 ∷ 4 ∷ 0 ∷ []) ++ times 2 (turnBytes 2 0))) 533 8
+      ≡ 3 ∷ 0 ∷ 0 ∷ 0 ∷ 5 ∷ 0 ∷ 4 ∷ 0 ∷ []
+  pub direct : part (stateAfter (passing 5) 3 (arrivalBytes 0 (2 ∷ 3 ∷ 0 ∷ 4 ∷ 0 ∷ []) ++ times 2 (turnBytes 2 0))) 533 8
+      ≡ 1 ∷ 0 ∷ 0 ∷ 0 ∷ 5 ∷ 0 ∷ 0 ∷ 0 ∷ []
   -- "No events: return 0, state unchanged"
   pub no-events : runReturn assigning table (initial assigning) [] [] ≡ 0
   pub unchanged : stateAfter assigning 0 [] ≡ initial assigning
@@ -180,7 +186,8 @@ pub record OnBytes : Type 0 where
   -- also: after two CALLs and a RETURN all three locks are held
   pub return : part (stateAfter (nested 8) 5 (arrivalBytes 0 [] ++ times 4 (turnBytes 2 0))) 512 5 ≡ 3 ∷ 0 ∷ 7 ∷ 0 ∷ 1 ∷ []
   -- also: a cut two calls deep leaves Fresh's state
-  pub cut : answersTo (nested 10) 5 (arrivalBytes 0 [] ++ times 3 (turnBytes 2 0) ++ turnBytes 3 0) ≡ 1 ∷ 0 ∷ 5 ∷ 0 ∷ 6 ∷ 0 ∷ 6 ∷ 0 ∷ 9 ∷ 0 ∷ []
+  pub cut : answersTo (nested 10) 5 (arrivalBytes 0 [] ++ times 3 (turnBytes 2 0) ++ turnBytes 3 0)
+      ≡ 1 ∷ 0 ∷ 5 ∷ 0 ∷ 6 ∷ 0 ∷ 6 ∷ 0 ∷ 9 ∷ 0 ∷ []
   pub cut-clears : stateAfter (nested 10) 5 (arrivalBytes 0 [] ++ times 3 (turnBytes 2 0) ++ turnBytes 3 0) ≡ initial (nested 10)
 
 pub onBytes : OnBytes

@@ -53,22 +53,28 @@ module _ (image table : List ℕ) {s : Machine} {t locks : ℕ} {j : Job} {value
       → MovesOn (stepOf image table s t) t (bitOr locks (2 ^ rowAt table (blockAt image (A image j)) .lock))
       (job (A image j) (j .returns ++ B image j ∷ []) (fill values))
   unfolding perform
-  call r h o = moves-on image table r _ (wordsOf image s j) none (some (blockAt image (A image j))) (rw (lt-leb 8 (length (j .returns)) h, o .own)) (o .free)
+  call r h o =
+      moves-on image table r _ (wordsOf image s j) none (some (blockAt image (A image j))) (rw (lt-leb 8 (length (j .returns)) h, o .own))
+      (o .free)
 
-  pub send-trap : Runs image s t locks j SendBuffered values → (p : List Signal) → first t (s .trees) ≡ some p → 8 ≤ length p → stepOf image table s t .answer ≡ Trapped 4
+  pub send-trap : Runs image s t locks j SendBuffered values → (p : List Signal) → first t (s .trees) ≡ some p → 8 ≤ length p
+      → stepOf image table s t .answer ≡ Trapped 4
   unfolding perform
   send-trap r p e h = trapped image table r 4 (rw (e, le-leb 8 (length p) h))
 
   pub send : Runs image s t locks j SendBuffered values → (p : List Signal) → first t (s .trees) ≡ some p → length p < 8
       → MovesOn (stepOf image table s t) t locks (job (B image j) (j .returns) (j .registers))
   unfolding perform blocked
-  send r p e h = moves-on image table r _ (wordsOf image s j) (some (record { label = A image j; values = values })) none (rw (e, lt-leb 8 (length p) h)) refl
+  send r p e h =
+      moves-on image table r _ (wordsOf image s j) (some (record { label = A image j; values = values })) none
+      (rw (e, lt-leb 8 (length p) h)) refl
 
   pub send-kept : Runs image s t locks j SendBuffered values → (p : List Signal) → first t (s .trees) ≡ some p → length p < 8
       → stepOf image table s t .state .trees ≡ put t (some (p ++ record { label = A image j; values = values } ∷ [])) (s .trees)
   unfolding perform blocked
   send-kept r p e h =
-      own-tree image table r (job (B image j) (j .returns) (j .registers)) (wordsOf image s j) (some (record { label = A image j; values = values })) none
+      own-tree image table r (job (B image j) (j .returns) (j .registers)) (wordsOf image s j)
+      (some (record { label = A image j; values = values })) none
       (rw (e, lt-leb 8 (length p) h)) refl
       ∙ rw e
 
@@ -110,7 +116,8 @@ abbrev pub register : ThreadState → ℕ → Option ℕ
 register idle r = none
 register (running locks j) r = getD (j .registers) r none
 
-past : (values : List ℕ) (rest : List (Option ℕ)) (r : ℕ) → length values ≤ r → getD (map some values ++ rest) r none ≡ getD rest (r - length values) none
+past : (values : List ℕ) (rest : List (Option ℕ)) (r : ℕ) → length values ≤ r
+    → getD (map some values ++ rest) r none ≡ getD rest (r - length values) none
 past values rest r h =
     let e : r ≡ length (map {B = Option ℕ} some values) + (r - length values) = rw length-map (omega arith) in
     ap (λ k. getD (map some values ++ rest) k none) e ∙ getD-append-add (map some values) rest (r - length values) none
@@ -129,4 +136,6 @@ module _ (image table : List ℕ) {s : Machine} {t locks : ℕ} {j : Job} {value
 
   pub direct-clears : Runs image s t locks j SendDirect values → Open image table s t (A image j) → (r : ℕ) → length values ≤ r
       → register (threadAt (stepOf image table s t .state) t) r ≡ none
-  direct-clears w o r h = rw (direct image table w o .thread) (past values (replicate (25 - length values) none) r h ∙ absent (25 - length values) (r - length values))
+  direct-clears w o r h =
+      rw (direct image table w o .thread)
+      (past values (replicate (25 - length values) none) r h ∙ absent (25 - length values) (r - length values))

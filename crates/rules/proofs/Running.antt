@@ -13,7 +13,8 @@ use Rattle.rules.specs.Machine.{Signal, Job, ThreadState, idle, running,
 use Rattle.rules.specs.Answers.{code, detail, answerBytes}
 use Rattle.rules.specs.Events.{step}
 use Rattle.rules.specs.Effects.{got, Cells, readAll, perform, outcome}
-use Rattle.rules.specs.Steps.{Effect, traps, exits, moves, resolve, view, blockAt, actBy, rulesBy, Reply, added, pendingOf, planRunning, planStep, plan, blocked, grant, applied, attempt, carry, react}
+use Rattle.rules.specs.Steps.{Effect, traps, exits, moves, resolve, view, blockAt, actBy, rulesBy, Reply, added, pendingOf}
+use Rattle.rules.specs.Steps.{planRunning, planStep, plan, blocked, grant, applied, attempt, carry, react}
 use Rattle.rules.specs.declared.statement.Statement.{Statement}
 use Rattle.rules.specs.declared.answer.Answer.{Answer}
 use Rattle.rules.specs.declared.answer.Answer.the-variants.{Moved, Exited, Trapped}
@@ -62,7 +63,8 @@ module _ (image table : List ℕ) (s : Machine) (t : ℕ) (j : Job) where
       resolve (blockAt image) (rowAt table) t (j .returns) (labelA r) (labelB r)
       (perform (view j (wordsOf image s j) (length (pendingOf (first t (s .trees))))) x values)
 
-module _ (image table : List ℕ) {s : Machine} {t locks : ℕ} {j : Job} {x : Statement} {values : List ℕ} (r : Runs image s t locks j x values) where
+module _ (image table : List ℕ) {s : Machine} {t locks : ℕ} {j : Job} {x : Statement} {values : List ℕ}
+    (r : Runs image s t locks j x values) where
   acts : actBy image table t j (wordsOf image s j) (length (pendingOf (first t (s .trees)))) ≡ effect image table s t j x values
   unfolding actBy outcome
   acts = rw (r .statement, r .reading)
@@ -74,7 +76,8 @@ module _ (image table : List ℕ) {s : Machine} {t locks : ℕ} {j : Job} {x : S
   stepped = rw (r .thread, acts)
 
   -- a trap, and an end
-  pub trapped : (reason : ℕ) → effect image table s t j x values ≡ traps reason → react (rulesBy image table) s (step t) .answer ≡ Trapped reason
+  pub trapped : (reason : ℕ) → effect image table s t j x values ≡ traps reason
+      → react (rulesBy image table) s (step t) .answer ≡ Trapped reason
   unfolding planRunning carry
   trapped reason e = rw (stepped, e)
 
@@ -87,7 +90,15 @@ module _ (image table : List ℕ) {s : Machine} {t locks : ℕ} {j : Job} {x : S
       (free : blocked (rulesBy image table) t (s .threads) want ≡ none) where
     moved : react (rulesBy image table) s (step t)
         ≡ record {
-          state = applied (rulesBy image table) t (record { job = k; write = some (blockAt image (j .label), words); pending = pendingOf (first t (s .trees)) ++ added g; want = want; answer = Moved }) s;
+          state =
+              applied (rulesBy image table) t
+              (record {
+                job = k;
+                write = some (blockAt image (j .label), words);
+                pending = pendingOf (first t (s .trees)) ++ added g;
+                want = want;
+                answer = Moved;
+              }) s;
           answer = Moved;
         }
     unfolding planRunning carry attempt
@@ -95,9 +106,12 @@ module _ (image table : List ℕ) {s : Machine} {t locks : ℕ} {j : Job} {x : S
 
     pub moves-on : MovesOn (react (rulesBy image table) s (step t)) t (grant (rulesBy image table) want locks) k
     unfolding answerBytes code detail
-    moves-on = rw moved (record { answer = refl; thread = rw (r .thread) (getD-set-same (s .threads) t _ idle (in-range (s .threads) t (r .thread))) })
+    moves-on =
+        rw moved
+        (record { answer = refl; thread = rw (r .thread) (getD-set-same (s .threads) t _ idle (in-range (s .threads) t (r .thread))) })
 
-    pub own-tree : react (rulesBy image table) s (step t) .state .trees ≡ put t (some (pendingOf (first t (s .trees)) ++ added g)) (s .trees)
+    pub own-tree : react (rulesBy image table) s (step t) .state .trees
+        ≡ put t (some (pendingOf (first t (s .trees)) ++ added g)) (s .trees)
     own-tree = rw moved
 
     pub own-words : react (rulesBy image table) s (step t) .state .words ≡ keep (blockAt image (j .label)) words (s .words)

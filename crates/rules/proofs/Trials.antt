@@ -58,7 +58,8 @@ cleared-idle w e = rw e (record { locks = refl; returns = refl; presence = refl 
 
 -- an arrival beside fewer than 16 trees, and beside more
 module _ (image table : List ℕ) (s : Machine) (g : Signal) where
-  taken : length (s .trees) < 16 → react (rulesBy image table) s (arrive g) ≡ record { state = grown (founded (rulesBy image table) g) s; answer = Taken }
+  taken : length (s .trees) < 16
+      → react (rulesBy image table) s (arrive g) ≡ record { state = grown (founded (rulesBy image table) g) s; answer = Taken }
   unfolding react plan planArrive carry
   taken h = rw (length-map, lt-ltb (length (s .trees)) 16 h)
 
@@ -72,7 +73,8 @@ unfolding firstOf
 last-none [] = refl
 last-none (x ∷ faults) = ap (λ n. cond (eqb x 0) n x) (last-none faults)
 
-module _ (image table state : List ℕ) (passes : firstOf (imageFaults image table (stateLengthFault state ∷ stateFault image table state ∷ [])) ≡ 0) where
+module _ (image table state : List ℕ)
+    (passes : firstOf (imageFaults image table (stateLengthFault state ∷ stateFault image table state ∷ [])) ≡ 0) where
   no-events-return : runReturn image table state [] [] ≡ 0
   unfolding firstBad eventsLengthFault eventFault answersLengthFault runReturn
   no-events-return = last-none (imageFaults image table (stateLengthFault state ∷ stateFault image table state ∷ [])) ∙ passes
@@ -110,7 +112,8 @@ pub record Trials (image table : List ℕ) (s : Machine) (t locks : ℕ) (j : Jo
   -- "EXIT two calls deep: lock set, return count, presence all 0": with any return labels and locks, and at every end
   pub exit : Runs image s t locks j Exit values → Answered (stepOf image table s t) 7 0
   pub exit-clears : Runs image s t locks j Exit values → Cleared (threadAt (stepOf image table s t .state) t)
-  pub end-clears : (R : Rules) (e : Event) → threadOf e ≡ some t → sort (react R s e .answer) ≡ close → Cleared (threadAt (react R s e .state) t)
+  pub end-clears : (R : Rules) (e : Event) → threadOf e ≡ some t → sort (react R s e .answer) ≡ close
+      → Cleared (threadAt (react R s e .state) t)
   -- "TRANSFER with one value keeps register 1; direct SEND with one makes it absent": with k values, every register from k on
   pub transfer-keeps : Runs image s t locks j Transfer values → (r : ℕ) → length values ≤ r
       → register (threadAt (stepOf image table s t .state) t) r ≡ getD (j .registers) r none
@@ -118,9 +121,11 @@ pub record Trials (image table : List ℕ) (s : Machine) (t locks : ℕ) (j : Jo
       → register (threadAt (stepOf image table s t .state) t) r ≡ none
   -- "No events: return 0, state unchanged": of a state that passes 1 to 6
   pub no-events : (R : Rules) → final R s [] ≡ s
-  pub no-events-return : (state : List ℕ) → firstOf (imageFaults image table (stateLengthFault state ∷ stateFault image table state ∷ [])) ≡ 0
+  pub no-events-return : (state : List ℕ)
+      → firstOf (imageFaults image table (stateLengthFault state ∷ stateFault image table state ∷ [])) ≡ 0
       → runReturn image table state [] [] ≡ 0
-  pub no-events-state : (state : List ℕ) → firstOf (imageFaults image table (stateLengthFault state ∷ stateFault image table state ∷ [])) ≡ 0
+  pub no-events-state : (state : List ℕ)
+      → firstOf (imageFaults image table (stateLengthFault state ∷ stateFault image table state ∷ [])) ≡ 0
       → runState image table state [] [] ≡ encode (machineFrom state)
   -- also: 256 × 256 is 0
   pub product-wraps : Stores image table s t locks j multiplyCode 256 256 0
@@ -175,7 +180,9 @@ trials image table s t locks j values = record {
   next-arrival = λ g h. answered (react (rulesBy image table) s (arrive g)) ListFull (rw (refused image table s g h));
   no-change = λ g h. rw (refused image table s g h);
   exit = λ r. answered (stepOf image table s t) Exited (opcodes.exit image table r);
-  exit-clears = λ r. cleared-idle (threadAt (stepOf image table s t .state) t) (ends (rulesBy image table) s (step t) t refl (rw (opcodes.exit image table r)));
+  exit-clears =
+      λ r. cleared-idle (threadAt (stepOf image table s t .state) t)
+      (ends (rulesBy image table) s (step t) t refl (rw (opcodes.exit image table r)));
   end-clears = λ R e h c. cleared-idle (threadAt (react R s e .state) t) (ends R s e t h c);
   transfer-keeps = opcodes.transfer-keeps image table;
   direct-clears = opcodes.direct-clears image table;

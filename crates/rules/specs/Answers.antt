@@ -4,8 +4,10 @@ use mathlib.Core.List.{List, [], _∷_}
 use Prim.Native.Nat.{ℕ}
 use lib.Dec.{eqb}
 use Rattle.rules.specs.declared.answer.Answer.{Answer}
-use Rattle.rules.specs.declared.answer.Answer.the-variants.{Taken, ListFull, NoWork, Waiting, Started, Moved, Exited, Trapped, WasCut, NothingToCut}
-use Rattle.rules.specs.Codes.{arrivedCode, listFullCode, noWorkCode, waitingCode, startedCode, movedOnCode, exitedCode, trappedCode, wasCutCode, nothingToCutCode}
+use Rattle.rules.specs.declared.answer.Answer.the-variants.{Taken, ListFull, NoWork, Waiting, Started, Moved, Exited, Trapped}
+use Rattle.rules.specs.declared.answer.Answer.the-variants.{WasCut, NothingToCut}
+use Rattle.rules.specs.Codes.{arrivedCode, listFullCode, noWorkCode, waitingCode, startedCode, movedOnCode, exitedCode, trappedCode}
+use Rattle.rules.specs.Codes.{wasCutCode, nothingToCutCode}
 
 unfoldable pub code : Answer → ℕ
 code Taken = arrivedCode
@@ -35,7 +37,8 @@ detail NothingToCut = 0
 unfoldable pub answerBytes : Answer → List ℕ
 answerBytes a = code a ∷ detail a ∷ []
 
--- what the one-by-one reading does with an event, by the code of its answer: leave it out (3, 4, 10), write it out at once (1, 2), let it join its thread's
+-- what the one-by-one reading does with an event, by the code of its answer: leave it out (3, 4, 10), write it out at once (1, 2), let it
+-- join its thread's
 -- row (5, 6), or join and close the row (7, 8, 9)
 pub data Sort : Type 0 where
   out now join close : Sort

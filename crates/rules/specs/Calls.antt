@@ -69,7 +69,8 @@ unfoldable pub runReturn : List ℕ → List ℕ → List ℕ → List ℕ → L
 runReturn image table state events space =
     firstOf
     (imageFaults image table
-    (stateLengthFault state ∷ stateFault image table state ∷ eventsLengthFault events ∷ eventFault image events ∷ answersLengthFault events space ∷ []))
+    (stateLengthFault state ∷ stateFault image table state ∷ eventsLengthFault events ∷ eventFault image events
+    ∷ answersLengthFault events space ∷ []))
 
 unfoldable pub runState : List ℕ → List ℕ → List ℕ → List ℕ → List ℕ → List ℕ
 runState image table state events space =

@@ -10,8 +10,10 @@ use lib.Dec.{eqb, leb, ltb}
 use Rattle.rules.specs.Sizes.{blockCount, registerCount, wordCount, operandCount, tableSize}
 use Rattle.rules.specs.Codes.{directCode, bufferedCode, numberOperandCode, registerOperandCode, wordOperandCode}
 use Rattle.rules.specs.Bytes.{allFrom, firstBad, every}
-use Rattle.rules.specs.Image.{labels, recordAt, opcode, blockField, entry, operator, labelA, labelB, operands, kind, value, Field, rowFields, fieldAt}
-use Rattle.rules.specs.Statements.{shape, destinations, operationAt, otherAt, statementOf, Sources, nothing, carried, pair, usage, roleA, roleB}
+use Rattle.rules.specs.Image.{labels, recordAt, opcode, blockField, entry, operator, labelA, labelB, operands, kind, value, Field}
+use Rattle.rules.specs.Image.{rowFields, fieldAt}
+use Rattle.rules.specs.Statements.{shape, destinations, operationAt, otherAt, statementOf, Sources, nothing, carried, pair, usage}
+use Rattle.rules.specs.Statements.{roleA, roleB}
 use Rattle.rules.specs.declared.statement.Operation.{Operation}
 use Rattle.rules.specs.declared.statement.Shape.{Shape}
 use Rattle.rules.specs.declared.statement.Statement.{Statement}

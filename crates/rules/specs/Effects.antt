@@ -18,7 +18,8 @@ use Rattle.rules.specs.declared.statement.Assignment.{Assignment}
 use Rattle.rules.specs.declared.statement.Relation.{Relation}
 use Rattle.rules.specs.declared.statement.Relation.the-variants.{Equal, Less}
 use Rattle.rules.specs.declared.statement.Statement.{Statement}
-use Rattle.rules.specs.declared.statement.Statement.the-variants.{Skip, Assign, If, SendDirect, SendBuffered, Call, Return, Transfer, Exit}
+use Rattle.rules.specs.declared.statement.Statement.the-variants.{Skip, Assign, If, SendDirect, SendBuffered, Call, Return}
+use Rattle.rules.specs.declared.statement.Statement.the-variants.{Transfer, Exit}
 
 -- a trap with its reason, or a result: the order of the traps is the order of the `then`s
 pub data Got (A : Type 0) : Type 0 where

@@ -5,7 +5,10 @@ use mathlib.Core.List.{List, [], _∷_, _++_, map}
 use Prim.Native.Nat.{ℕ, zero, suc, _+_, _*_}
 use lib.ListN.{length, getD, drop}
 use lib.Dec.{eqb}
-use Rattle.rules.specs.Sizes.{threadCount, wordTotal, registerCount, returnCount, treeCount, pendingCount, idleLabel, locksPlace, returnCountPlace, returnsPlace, presencePlace, registersPlace, threadSize, valueCountPlace, valuesPlace, signalSize, pendingCountPlace, signalsPlace, treeSize, threadsPlace, treeCountPlace, treesPlace}
+use Rattle.rules.specs.Sizes.{threadCount, wordTotal, registerCount, returnCount, treeCount, pendingCount, idleLabel, locksPlace}
+use Rattle.rules.specs.Sizes.{returnCountPlace, returnsPlace, presencePlace, registersPlace, threadSize, valueCountPlace}
+use Rattle.rules.specs.Sizes.{valuesPlace, signalSize, pendingCountPlace, signalsPlace, treeSize, threadsPlace, treeCountPlace}
+use Rattle.rules.specs.Sizes.{treesPlace}
 use Rattle.rules.specs.Bytes.{num16, num32, le16, le32, has, blocks, pad, chunks}
 use Rattle.rules.specs.Machine.{Signal, Tree, Job, job, ThreadState, idle, running, Machine}
 
@@ -24,7 +27,9 @@ valueOr0 (some v) = v
 
 unfoldable pub threadRaw : ℕ → ℕ → ℕ → List ℕ → ℕ → List ℕ → List ℕ
 threadRaw label locks count returns present values =
-    le16 label ++ (le16 locks ++ ((count ∷ []) ++ (blocks le16 (pad 0 returnCount returns) ++ (le32 present ++ blocks le16 (pad 0 registerCount values)))))
+    le16 label ++
+    (le16 locks ++
+    ((count ∷ []) ++ (blocks le16 (pad 0 returnCount returns) ++ (le32 present ++ blocks le16 (pad 0 registerCount values)))))
 
 unfoldable pub threadBytes : ThreadState → List ℕ
 threadBytes idle = threadRaw idleLabel 0 0 [] 0 []

@@ -6,7 +6,8 @@ use mathlib.Core.List.{List, _∷_}
 use Prim.Native.Nat.{ℕ, _+_, _*_, _-_, _/_, _<_}
 use lib.ListN.{length, getD, drop}
 use lib.Dec.{eqb, leb, ltb}
-use Rattle.rules.specs.Sizes.{threadCount, registerCount, eventCount, valueCountPlace, valuesPlace, signalSize, eventKindPlace, eventThreadPlace, eventSignalPlace, eventSize}
+use Rattle.rules.specs.Sizes.{threadCount, registerCount, eventCount, valueCountPlace, valuesPlace, signalSize, eventKindPlace}
+use Rattle.rules.specs.Sizes.{eventThreadPlace, eventSignalPlace, eventSize}
 use Rattle.rules.specs.Codes.{externalCode, arrivalCode, stepCode, cutCode}
 use Rattle.rules.specs.Bytes.{num16, part, isZeros, chunks}
 use Rattle.rules.specs.Image.{recordAt, entry}

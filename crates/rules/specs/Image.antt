@@ -4,7 +4,9 @@ use mathlib.Core.List.{List, [], _∷_}
 use Prim.Native.Nat.{ℕ, _+_, _*_, _/_}
 use lib.ListN.{length, getD, take, drop}
 use lib.Dec.{eqb, leb, ltb}
-use Rattle.rules.specs.Sizes.{threadCount, blockKindCount, blockCount, recordCount, opcodePlace, blockPlace, entryPlace, operatorPlace, labelAPlace, labelBPlace, operandCountPlace, operandsPlace, operandSize, recordSize, rowThreadPlace, rowKindPlace, rowSize}
+use Rattle.rules.specs.Sizes.{threadCount, blockKindCount, blockCount, recordCount, opcodePlace, blockPlace, entryPlace}
+use Rattle.rules.specs.Sizes.{operatorPlace, labelAPlace, labelBPlace, operandCountPlace, operandsPlace, operandSize, recordSize}
+use Rattle.rules.specs.Sizes.{rowThreadPlace, rowKindPlace, rowSize}
 use Rattle.rules.specs.Bytes.{num16}
 
 -- the number of records: n where the length is 84 × n, n 1 to 512; otherwise 0

@@ -38,6 +38,10 @@ pub record Machine : Type 0 where
   pub threads : List ThreadState
   pub trees : List Tree
 
+-- a machine with another state of thread t
+abbrev pub withThread : Machine → ℕ → ThreadState → Machine
+withThread s t w = record { words = s .words; threads = set (s .threads) t w; trees = s .trees }
+
 abbrev pub threadAt : Machine → ℕ → ThreadState
 threadAt s t = getD (s .threads) t idle
 

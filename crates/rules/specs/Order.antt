@@ -16,7 +16,8 @@ pub record Sheet (A : Type 0) : Type 0 where
 
 -- over anything that has the sort of an answer and the thread of an event: values and bytes alike
 module _ {A : Type 0} where
-  -- an event answered 3, 4 or 10 is left out; an arrival is written out at once; any other joins its thread's row, and if a job ended the row is
+  -- an event answered 3, 4 or 10 is left out; an arrival is written out at once; any other joins its thread's row, and if a job ended the
+  -- row is
   -- written out in its order and is empty again
   unfoldable pub noteAs : Sort → ℕ → Sheet A → A → Sheet A
   noteAs out t h n = h
@@ -75,7 +76,8 @@ pub record ByteEntry : Type 0 where
 unfoldable pub byteEntries : ℕ → List ℕ → List ℕ → List ByteEntry
 byteEntries zero events answers = []
 byteEntries (suc m) events answers =
-    record { event = take eventSize events; answer = take answerSize answers } ∷ byteEntries m (drop eventSize events) (drop answerSize answers)
+    record { event = take eventSize events; answer = take answerSize answers } ∷ byteEntries m (drop eventSize events)
+    (drop answerSize answers)
 
 unfoldable pub byteOrder : List ByteEntry → List ByteEntry
 byteOrder l = orderBy (λ (n : ByteEntry). sortOfCode (getD (n .answer) 0 0)) (λ (n : ByteEntry). getD (n .event) eventThreadPlace 0) l

@@ -4,7 +4,9 @@ use mathlib.Core.Option.{Option, none, some}
 use mathlib.Core.List.{List, [], _∷_}
 use Prim.Native.Nat.{ℕ, zero, suc, _+_}
 use lib.Dec.{eqb}
-use Rattle.rules.specs.Codes.{skipCode, assignCode, gotoCode, ifCode, sendDirectCode, sendBufferedCode, callCode, returnCode, transferCode, copyCode, addCode, subtractCode, multiplyCode, equalCode, lessCode, exitCode, numberOperandCode, registerOperandCode}
+use Rattle.rules.specs.Codes.{skipCode, assignCode, gotoCode, ifCode, sendDirectCode, sendBufferedCode, callCode, returnCode}
+use Rattle.rules.specs.Codes.{transferCode, copyCode, addCode, subtractCode, multiplyCode, equalCode, lessCode, exitCode}
+use Rattle.rules.specs.Codes.{numberOperandCode, registerOperandCode}
 use Rattle.rules.specs.Image.{opcode, operator, operands, kind, value}
 use Rattle.rules.specs.declared.statement.Operand.{Operand}
 use Rattle.rules.specs.declared.statement.Operand.the-variants.{Number, Register, Word}
@@ -16,7 +18,8 @@ use Rattle.rules.specs.declared.statement.Relation.{Relation}
 use Rattle.rules.specs.declared.statement.Relation.the-variants.{Equal, Less}
 use Rattle.rules.specs.declared.statement.Condition.{Condition}
 use Rattle.rules.specs.declared.statement.Statement.{Statement}
-use Rattle.rules.specs.declared.statement.Statement.the-variants.{Skip, Assign, If, SendDirect, SendBuffered, Call, Return, Transfer, Exit}
+use Rattle.rules.specs.declared.statement.Statement.the-variants.{Skip, Assign, If, SendDirect, SendBuffered, Call, Return}
+use Rattle.rules.specs.declared.statement.Statement.the-variants.{Transfer, Exit}
 use Rattle.rules.specs.declared.statement.Role.{Role}
 use Rattle.rules.specs.declared.statement.Role.the-variants.{Unused, Inner, Direct, Local, Buffered}
 
@@ -51,7 +54,9 @@ abbrev form : ℕ → ℕ → Operation → Form
 form op o k = record { opcode = op; operator = o; operation = k }
 
 abbrev pub forms : List Form
-forms = form assignCode copyCode Copy ∷ form assignCode addCode Add ∷ form assignCode subtractCode Subtract ∷ form assignCode multiplyCode Multiply ∷ []
+forms =
+    form assignCode copyCode Copy ∷ form assignCode addCode Add ∷ form assignCode subtractCode Subtract
+    ∷ form assignCode multiplyCode Multiply ∷ []
 
 abbrev pub operationIn : List Form → ℕ → ℕ → Option Operation
 operationIn [] op o = none
@@ -99,7 +104,8 @@ other op f = record { opcode = op; statement = f }
 
 abbrev pub others : List Other
 others =
-    other skipCode (λ r. Skip) ∷ other gotoCode (λ r. Skip) ∷ other ifCode (λ r. If (conditionOf r)) ∷ other sendDirectCode (λ r. SendDirect)
+    other skipCode (λ r. Skip) ∷ other gotoCode (λ r. Skip) ∷ other ifCode (λ r. If (conditionOf r)) ∷ other sendDirectCode
+    (λ r. SendDirect)
     ∷ other sendBufferedCode (λ r. SendBuffered) ∷ other callCode (λ r. Call) ∷ other returnCode (λ r. Return)
     ∷ other transferCode (λ r. Transfer) ∷ other exitCode (λ r. Exit) ∷ []
 

@@ -13,11 +13,13 @@ use Rattle.rules.specs.Codes.{fdCode, noReturnLabelCode, foreignFdBlockC
 use Rattle.rules.specs.Bytes.{has}
 use Rattle.rules.specs.Image.{recordAt, blockField, labelA, labelB, Row, rowAt}
 use Rattle.rules.specs.Statements.{statementOf, dataOf}
-use Rattle.rules.specs.Machine.{Signal, Tree, Job, job, ThreadState, idle, running, Machine, threadAt, locksOf, fill, first, put, treeThreads, window, keep}
+use Rattle.rules.specs.Machine.{Signal, Tree, Job, job, ThreadState, idle, running, Machine, threadAt, locksOf, fill, first, put}
+use Rattle.rules.specs.Machine.{treeThreads, window, keep}
 use Rattle.rules.specs.Events.{Kind, stepping, cutting, Event, arrive, turn}
 use Rattle.rules.specs.Effects.{Got, trap, got, Next, onA, onB, intoA, callA, back, Going, Outcome, ends, goes, View, outcome}
 use Rattle.rules.specs.declared.answer.Answer.{Answer}
-use Rattle.rules.specs.declared.answer.Answer.the-variants.{Taken, ListFull, NoWork, Waiting, Started, Moved, Exited, Trapped, WasCut, NothingToCut}
+use Rattle.rules.specs.declared.answer.Answer.the-variants.{Taken, ListFull, NoWork, Waiting, Started, Moved, Exited, Trapped}
+use Rattle.rules.specs.declared.answer.Answer.the-variants.{WasCut, NothingToCut}
 
 -- ---- what a statement asks for, once its labels are put in
 
@@ -141,7 +143,8 @@ pendingOf (some p) = p
 unfoldable pub planRunning : ℕ → ℕ → List Signal → Effect → Plan
 planRunning t b p (traps r) = finish t (Trapped r)
 planRunning t b p exits = finish t Exited
-planRunning t b p (moves j words g want) = move t (record { job = j; write = some (b, words); pending = p ++ added g; want = want; answer = Moved })
+planRunning t b p (moves j words g want) =
+    move t (record { job = j; write = some (b, words); pending = p ++ added g; want = want; answer = Moved })
 
 -- cut: code 9; on an idle thread code 10, no change
 unfoldable pub planCut : ℕ → ThreadState → Plan
@@ -180,7 +183,8 @@ module _ (R : Rules) where
   unfoldable pub planIdle : ℕ → Option (List Signal) → Plan
   planIdle t none = stay NoWork
   planIdle t (some []) = stay NoWork
-  planIdle t (some (g ∷ p)) = move t (record { job = begin g; write = none; pending = p; want = some (R .block (g .label)); answer = Started })
+  planIdle t (some (g ∷ p)) =
+      move t (record { job = begin g; write = none; pending = p; want = some (R .block (g .label)); answer = Started })
 
   unfoldable pub planStep : ℕ → ThreadState → Option (List Signal) → List ℕ → Plan
   planStep t idle f words = planIdle t f
@@ -221,7 +225,8 @@ module _ (R : Rules) where
   requeued (some []) = []
   requeued (some (g ∷ p)) = record { thread = home g; pending = g ∷ p } ∷ []
 
-  -- an end of any sort clears the thread to idle and keeps shared writes and pending signals: the job's tree leaves its place and, if not empty, goes to the list's end
+  -- an end of any sort clears the thread to idle and keeps shared writes and pending signals: the job's tree leaves its place and, if not
+  -- empty, goes to the list's end
   abbrev pub finished : ℕ → Machine → Machine
   finished t s = record {
     words = s .words;

@@ -13,7 +13,8 @@ use Rattle.rules.specs.Machine.{ThreadState, Machine, locksOf}
 use Rattle.rules.specs.Events.{Event, step}
 use Rattle.rules.specs.Steps.{Rules, react}
 use Rattle.rules.specs.declared.answer.Answer.{Answer}
-use Rattle.rules.specs.declared.answer.Answer.the-variants.{Taken, ListFull, NoWork, Waiting, Started, Moved, Exited, Trapped, WasCut, NothingToCut}
+use Rattle.rules.specs.declared.answer.Answer.the-variants.{Taken, ListFull, NoWork, Waiting, Started, Moved, Exited, Trapped}
+use Rattle.rules.specs.declared.answer.Answer.the-variants.{WasCut, NothingToCut}
 
 -- ---- over any relation "waits for"
 
@@ -39,7 +40,8 @@ pub record Walk : Type 0 where
 abbrev pub onto : ℕ → Walk → Walk
 onto t w = record { threads = t ∷ w .threads; ring = w .ring }
 
--- the walk comes to t, having met these threads, with so many not yet met: one already written closes a ring and is not written again; one that
+-- the walk comes to t, having met these threads, with so many not yet met: one already written closes a ring and is not written again;
+-- one that
 -- does not wait is still written; otherwise the walk calls itself on the next thread
 unfoldable pub walkOn : (ℕ → Option ℕ) → ℕ → List ℕ → ℕ → Walk
 unfolding Option·elim

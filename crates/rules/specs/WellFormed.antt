@@ -5,7 +5,10 @@ use Prim.Native.Nat.{ℕ, _+_, _*_, _-_, _^_}
 use lib.Bits.{bitAnd}
 use lib.ListN.{getD, drop}
 use lib.Dec.{eqb, leb, ltb}
-use Rattle.rules.specs.Sizes.{threadCount, registerCount, returnCount, treeCount, pendingCount, idleLabel, locksPlace, returnCountPlace, returnsPlace, presencePlace, registersPlace, threadSize, valueCountPlace, valuesPlace, signalSize, pendingCountPlace, signalsPlace, treeSize, threadsPlace, treeCountPlace, treesPlace}
+use Rattle.rules.specs.Sizes.{threadCount, registerCount, returnCount, treeCount, pendingCount, idleLabel, locksPlace}
+use Rattle.rules.specs.Sizes.{returnCountPlace, returnsPlace, presencePlace, registersPlace, threadSize, valueCountPlace}
+use Rattle.rules.specs.Sizes.{valuesPlace, signalSize, pendingCountPlace, signalsPlace, treeSize, threadsPlace, treeCountPlace}
+use Rattle.rules.specs.Sizes.{treesPlace}
 use Rattle.rules.specs.Codes.{bufferedCode, externalCode, cmxCode}
 use Rattle.rules.specs.Bytes.{num16, num32, part, isZeros, has, allFrom, every}
 use Rattle.rules.specs.Image.{labels, recordAt, entry, Row, rowAt}
@@ -19,7 +22,8 @@ use Rattle.rules.specs.Steps.{blockAt}
 unfoldable pub absentZero : List ℕ → ℕ → Bool
 absentZero b r = has r (num32 (drop presencePlace b)) || eqb (num16 (drop (registersPlace + 2 * r) b)) 0
 
--- a thread record: an idle thread's other fields are all zero; otherwise at most 8 return labels, zeros in the place of others, presence bits 0 to 24 only
+-- a thread record: an idle thread's other fields are all zero; otherwise at most 8 return labels, zeros in the place of others, presence
+-- bits 0 to 24 only
 unfoldable pub runningTidy : List ℕ → Bool
 runningTidy b =
     leb (getD b returnCountPlace 0) returnCount

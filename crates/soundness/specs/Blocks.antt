@@ -94,6 +94,7 @@ module _ (R : Rules) (row : ℕ → Row) where
     resolve-stays (got ends) k = tt
     resolve-stays (got (goes g)) k = steer-stays g (g .next) (k .0)
 
-  pub statement-stays : (t : ℕ) (j : Job) (s : Statement) (a b : ℕ) → Home R (R .block (j .label)) (roleA s) a → Home R (R .block (j .label)) (roleB s) b
+  pub statement-stays : (t : ℕ) (j : Job) (s : Statement) (a b : ℕ) → Home R (R .block (j .label)) (roleA s) a
+      → Home R (R .block (j .label)) (roleB s) b
       → (v : View) (given : List Operand) → Stays R j (resolve (R .block) row t (j .returns) a b (outcome v s given))
   statement-stays t j s a b ha hb v given = resolve-stays t j (roleA s) (roleB s) a b ha hb (outcome v s given) (refers v s given)

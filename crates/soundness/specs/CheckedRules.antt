@@ -34,7 +34,10 @@ module _ (image table : List ℕ) where
   rule-homes : (r : List ℕ) → ruleOk image r ≡ true → Homes r
   rule-homes r h =
       let k = rule-parts image r h in
-      record { a = home-label (roleA (statementOf r)) (blockField r) (labelA r) (k .a); b = home-label (roleB (statementOf r)) (blockField r) (labelB r) (k .b) }
+      record {
+        a = home-label (roleA (statementOf r)) (blockField r) (labelA r) (k .a);
+        b = home-label (roleB (statementOf r)) (blockField r) (labelB r) (k .b);
+      }
 
   no-homes : Homes []
   unfolding operationAt otherAt statementOf
@@ -55,5 +58,6 @@ module _ (image table : List ℕ) where
     stays = λ t j words n.
         let r = recordAt image (j .label) in
         let h = record-homes (passed image table [] checked .0) (j .label) in
-        statement-stays (rulesBy image table) (rowAt table) t j (statementOf r) (labelA r) (labelB r) (h .a) (h .b) (view j words n) (dataOf r);
+        statement-stays (rulesBy image table) (rowAt table) t j (statementOf r) (labelA r) (labelB r) (h .a) (h .b) (view j words n)
+        (dataOf r);
   }

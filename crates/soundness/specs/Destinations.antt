@@ -42,7 +42,10 @@ module _ (image table : List ℕ) where
   label-in Inner b v h = let k = both (ltb v (labels image)) _ h in (ltb-true v _ (k .0), eqb-true _ b (k .1))
   label-in Direct b v h = ltb-true v _ (both (ltb v (labels image)) (eqb (entry (recordAt image v)) 1) h .0)
   label-in Local b v h =
-      let k = both (ltb v (labels image)) _ (both (ltb v (labels image) && eqb (blockField (recordAt image v)) b) (eqb (entry (recordAt image v)) 1) h .0) in
+      let k =
+      both (ltb v (labels image)) _
+      (both (ltb v (labels image) && eqb (blockField (recordAt image v)) b) (eqb (entry (recordAt image v)) 1) h .0)
+      in
       (ltb-true v _ (k .0), eqb-true _ b (k .1))
   label-in Buffered b v h = eqb-true _ 2 (both (ltb v (labels image)) (eqb (entry (recordAt image v)) 2) h .1)
 
@@ -125,17 +128,22 @@ module _ (image table : List ℕ) where
       on-B : y ≡ Inner → PlaceIn image table t b
       on-B e = inside t (j .label) b (p .0) (b-as Inner e .0) (b-as Inner e .1)
 
-      back-in : (g : Going) (rs : List ℕ) → Each (PlaceIn image table t) rs → SentIn (signalTo a (g .sent)) → EffectIn t (steer (blockAt image) (rowAt table) t a b g back rs)
+      back-in : (g : Going) (rs : List ℕ) → Each (PlaceIn image table t) rs → SentIn (signalTo a (g .sent))
+          → EffectIn t (steer (blockAt image) (rowAt table) t a b g back rs)
       back-in g [] h k = tt
-      back-in g (r ∷ rs) h k = ((newest-in (PlaceIn image table t) r rs (h .0) (h .1), older-in (PlaceIn image table t) r rs (h .0) (h .1)), k)
+      back-in g (r ∷ rs) h k =
+          ((newest-in (PlaceIn image table t) r rs (h .0) (h .1), older-in (PlaceIn image table t) r rs (h .0) (h .1)), k)
 
-      steer-in : (g : Going) (n : Next) → Leads x y n → SentIn (signalTo a (g .sent)) → EffectIn t (steer (blockAt image) (rowAt table) t a b g n (j .returns))
+      steer-in : (g : Going) (n : Next) → Leads x y n → SentIn (signalTo a (g .sent))
+          → EffectIn t (steer (blockAt image) (rowAt table) t a b g n (j .returns))
       steer-in g onA n k = ((on-A n, p .1), k)
       steer-in g onB n k = ((on-B n, p .1), k)
       steer-in g intoA n k = trap-in t (alien (rowAt table (blockAt image a)) t) 5 _ (λ e. ((entered t a (a-as Direct n) e, p .1), k))
       steer-in g callA n k =
           trap-in t (alien (rowAt table (blockAt image a)) t) 5 _
-          (λ e. ((entered t a (a-as Direct (n .0)) e, each-append (PlaceIn image table t) (j .returns) (b ∷ []) (p .1) (on-B (n .1), tt)), k))
+          (λ e.
+          let returns = each-append (PlaceIn image table t) (j .returns) (b ∷ []) (p .1) (on-B (n .1), tt) in
+          ((entered t a (a-as Direct (n .0)) e, returns), k))
       steer-in g back n k = back-in g (j .returns) (p .1) k
 
       resolve-in : (o : Got Outcome) → Refers x y o → EffectIn t (resolve (blockAt image) (rowAt table) t (j .returns) a b o)
@@ -143,11 +151,13 @@ module _ (image table : List ℕ) where
       resolve-in (got ends) k = tt
       resolve-in (got (goes g)) k = steer-in g (g .next) (k .0) (sent-in a _ x (g .sent) ha (k .1))
 
-    pub act-in : (t : ℕ) (j : Job) (words : List ℕ) (n : ℕ) → Each (PlaceIn image table t) (j .label ∷ j .returns) → EffectIn t (actBy image table t j words n)
+    pub act-in : (t : ℕ) (j : Job) (words : List ℕ) (n : ℕ) → Each (PlaceIn image table t) (j .label ∷ j .returns)
+        → EffectIn t (actBy image table t j words n)
     unfolding actBy
     act-in t j words n p =
         let r = recordAt image (j .label) in
         let k = parts (j .label) (p .0 .below) in
         resolve-in t j p (roleA (statementOf r)) (roleB (statementOf r)) (labelA r) (labelB r)
-        (label-in (roleA (statementOf r)) (blockField r) (labelA r) (k .a)) (label-in (roleB (statementOf r)) (blockField r) (labelB r) (k .b))
+        (label-in (roleA (statementOf r)) (blockField r) (labelA r) (k .a))
+        (label-in (roleB (statementOf r)) (blockField r) (labelB r) (k .b))
         (outcome (view j words n) (statementOf r) (dataOf r)) (refers (view j words n) (statementOf r) (dataOf r))

@@ -42,7 +42,8 @@ low : (a b : ℕ) → Disjoint a b → min (a % 2) (b % 2) ≡ 0
 low a b d = case (ℕ-discrete (a % 2) 1) (ℕ-discrete (b % 2) 1)
   where
     case : Dec (a % 2 ≡ 1) → Dec (b % 2 ≡ 1) → min (a % 2) (b % 2) ≡ 0
-    case (yes p) (yes q) = absurd (true≢false (sym (eq-eqb _ 1 (ap (λ n. n % 2) (one b) ∙ q)) ∙ d 0 (eq-eqb _ 1 (ap (λ n. n % 2) (one a) ∙ p))))
+    case (yes p) (yes q) =
+        absurd (true≢false (sym (eq-eqb _ 1 (ap (λ n. n % 2) (one b) ∙ q)) ∙ d 0 (eq-eqb _ 1 (ap (λ n. n % 2) (one a) ∙ p))))
       where
         one : (n : ℕ) → n / 2 ^ 0 ≡ n
         one n = omega arith
@@ -83,12 +84,17 @@ apart-disjoint (w ∷ ws) h zero (suc u) l n e = clear-at w ws u (both (every (c
 apart-disjoint (w ∷ ws) h (suc t) zero l n e = turned _ _ (clear-at w ws t (both (every (clear w) ws) (apart ws) h .0)) l e
 apart-disjoint (w ∷ ws) h (suc t) (suc u) l n e = apart-disjoint ws (both (every (clear w) ws) (apart ws) h .1) t u l (λ p. n (ap suc p)) e
 
-all-clear : (w : ThreadState) (ws : List ThreadState) → ((k : ℕ) → Disjoint (locksOf w) (locksOf (getD ws k idle))) → every (clear w) ws ≡ true
+all-clear : (w : ThreadState) (ws : List ThreadState) → ((k : ℕ) → Disjoint (locksOf w) (locksOf (getD ws k idle)))
+    → every (clear w) ws ≡ true
 unfolding every
 all-clear w [] d = refl
-all-clear w (v ∷ ws) d = both-hold (clear w v) (every (clear w) ws) (eq-eqb _ 0 (disjoint-zero (locksOf w) _ _ (omega arith) (d 0))) (all-clear w ws (λ k. d (suc k)))
+all-clear w (v ∷ ws) d =
+    both-hold (clear w v) (every (clear w) ws) (eq-eqb _ 0 (disjoint-zero (locksOf w) _ _ (omega arith) (d 0)))
+    (all-clear w ws (λ k. d (suc k)))
 
 pub disjoint-apart : (ws : List ThreadState) → AllDisjoint ws → apart ws ≡ true
 unfolding apart
 disjoint-apart [] d = refl
-disjoint-apart (w ∷ ws) d = both-hold _ (apart ws) (all-clear w ws (λ k l. d zero (suc k) l (λ p. absurd (omega arith)))) (disjoint-apart ws (λ t u l n. d (suc t) (suc u) l (λ p. n (omega arith))))
+disjoint-apart (w ∷ ws) d =
+    both-hold _ (apart ws) (all-clear w ws (λ k l. d zero (suc k) l (λ p. absurd (omega arith))))
+    (disjoint-apart ws (λ t u l n. d (suc t) (suc u) l (λ p. n (omega arith))))

@@ -11,7 +11,8 @@ use Rattle.rules.specs.Machine.{Signal, Job, ThreadState, idle, running, Machin
 use Rattle.rules.specs.Answers.{out, close, sort}
 use Rattle.rules.specs.Events.{Kind, stepping, cutting, Event, arrive, turn, threadOf}
 use Rattle.rules.specs.Steps.{Rules, Effect, traps, exits, moves, Move, stay, grow, Reply, begin, added, pendingOf, home, founded}
-use Rattle.rules.specs.Steps.{planArrive, planIdle, planRunning, planStep, planCut, plan, blocked, applied, grown, finished, attempt, carry, react}
+use Rattle.rules.specs.Steps.{planArrive, planIdle, planRunning, planStep, planCut, plan, blocked, applied, grown, finished, attempt}
+use Rattle.rules.specs.Steps.{carry, react}
 use Rattle.rules.specs.declared.answer.Answer.{Answer}
 use Rattle.rules.specs.declared.answer.Answer.the-variants.{Taken, ListFull, Started, Moved}
 
@@ -30,14 +31,18 @@ Quiet e a = (sort a ≡ out) ⊎ ((threadOf e ≡ none) × (a ≡ ListFull))
 module _ (R : Rules) (s : Machine) where
   pub data Happens : Event → Reply → Type 0 where
     remains : (e : Event) (a : Answer) → Quiet e a → Happens e (record { state = s; answer = a })
-    founds : (g : Signal) → R .room (treeThreads (s .trees)) (home R g) ≡ true → Happens (arrive g) (record { state = grown (founded R g) s; answer = Taken })
+    founds : (g : Signal) → R .room (treeThreads (s .trees)) (home R g) ≡ true
+        → Happens (arrive g) (record { state = grown (founded R g) s; answer = Taken })
     starts : {k : Kind} (t : ℕ) (g : Signal) (p : List Signal) → threadAt s t ≡ idle → first t (s .trees) ≡ some (g ∷ p)
         → blocked R t (s .threads) (some (R .block (g .label))) ≡ none
         → Happens (turn k t) (record { state = applied R t (startOf R g p) s; answer = Started })
     goes : {k : Kind} (t locks : ℕ) (j j′ : Job) (words : List ℕ) (g : Option Signal) (want : Option ℕ) → threadAt s t ≡ running locks j
         → R .act t j (window (R .block (j .label)) (s .words)) (length (pendingOf (first t (s .trees)))) ≡ moves j′ words g want
         → blocked R t (s .threads) want ≡ none
-        → Happens (turn k t) (record { state = applied R t (goOf (R .block (j .label)) (pendingOf (first t (s .trees))) j′ words g want) s; answer = Moved })
+        → Happens (turn k t) (record {
+          state = applied R t (goOf (R .block (j .label)) (pendingOf (first t (s .trees))) j′ words g want) s;
+          answer = Moved;
+        })
     ends : {k : Kind} (t locks : ℕ) (j : Job) (a : Answer) → threadAt s t ≡ running locks j → sort a ≡ close
         → Happens (turn k t) (record { state = finished R t s; answer = a })
 
@@ -45,7 +50,8 @@ module _ (R : Rules) (s : Machine) where
   unfolding carry planArrive
   on-arrival g = case (R .room (treeThreads (s .trees)) (home R g)) refl
     where
-      case : (b : Bool) → R .room (treeThreads (s .trees)) (home R g) ≡ b → Happens (arrive g) (carry R s (cond b (grow (founded R g)) (stay ListFull)))
+      case : (b : Bool) → R .room (treeThreads (s .trees)) (home R g) ≡ b
+          → Happens (arrive g) (carry R s (cond b (grow (founded R g)) (stay ListFull)))
       case true h = founds g h
       case false h = remains (arrive g) ListFull (inr (refl, refl))
 
@@ -55,7 +61,8 @@ module _ (R : Rules) (s : Machine) where
   on-start t g p none w f b = starts t g p w f b
   on-start t g p (some l) w f b = remains (turn _ t) _ (inl refl)
 
-  on-idle : {k : Kind} (t : ℕ) (f : Option (List Signal)) → threadAt s t ≡ idle → first t (s .trees) ≡ f → Happens (turn k t) (carry R s (planIdle R t f))
+  on-idle : {k : Kind} (t : ℕ) (f : Option (List Signal)) → threadAt s t ≡ idle → first t (s .trees) ≡ f
+      → Happens (turn k t) (carry R s (planIdle R t f))
   unfolding carry planIdle
   on-idle t none w f = remains (turn _ t) _ (inl refl)
   on-idle t (some []) w f = remains (turn _ t) _ (inl refl)
@@ -65,19 +72,22 @@ module _ (R : Rules) (s : Machine) where
     abbrev own : Effect → Type 0
     own e = R .act t j (window (R .block (j .label)) (s .words)) (length (pendingOf (first t (s .trees)))) ≡ e
 
-    on-move : {k : Kind} (j′ : Job) (words : List ℕ) (g : Option Signal) (want o : Option ℕ) → own (moves j′ words g want) → blocked R t (s .threads) want ≡ o
+    on-move : {k : Kind} (j′ : Job) (words : List ℕ) (g : Option Signal) (want o : Option ℕ) → own (moves j′ words g want)
+        → blocked R t (s .threads) want ≡ o
         → Happens (turn k t) (attempt R t (goOf (R .block (j .label)) (pendingOf (first t (s .trees))) j′ words g want) s o)
     unfolding attempt
     on-move j′ words g want none a b = goes t locks j j′ words g want w a b
     on-move j′ words g want (some l) a b = remains (turn _ t) _ (inl refl)
 
-    on-running : {k : Kind} (e : Effect) → own e → Happens (turn k t) (carry R s (planRunning t (R .block (j .label)) (pendingOf (first t (s .trees))) e))
+    on-running : {k : Kind} (e : Effect) → own e
+        → Happens (turn k t) (carry R s (planRunning t (R .block (j .label)) (pendingOf (first t (s .trees))) e))
     unfolding carry planRunning
     on-running (traps r) a = ends t locks j _ w refl
     on-running exits a = ends t locks j _ w refl
     on-running (moves j′ words g want) a = on-move j′ words g want _ a refl
 
-  on-step : {k : Kind} (t : ℕ) (w : ThreadState) → threadAt s t ≡ w → Happens (turn k t) (carry R s (planStep R t w (first t (s .trees)) (s .words)))
+  on-step : {k : Kind} (t : ℕ) (w : ThreadState) → threadAt s t ≡ w
+      → Happens (turn k t) (carry R s (planStep R t w (first t (s .trees)) (s .words)))
   unfolding planStep
   on-step t idle w = on-idle t _ w refl
   on-step t (running locks j) w = on-running t locks j w _ refl

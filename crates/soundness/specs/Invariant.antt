@@ -11,11 +11,13 @@ use lib.ListN.{length, getD, length-set, replicate}
 use lib.Seq.{getD-set-same, getD-set-other}
 use Rattle.rules.specs.Sizes.{threadCount}
 use Rattle.rules.specs.Bytes.{has}
-use Rattle.rules.specs.Machine.{Signal, Tree, Job, ThreadState, idle, running, Machine, threadAt, locksOf, jobOf, fresh, first, put, treeThreads, window}
+use Rattle.rules.specs.Machine.{Signal, Tree, Job, ThreadState, idle, running, Machine, threadAt, locksOf, jobOf, fresh, first, put}
+use Rattle.rules.specs.Machine.{treeThreads, window}
 use Rattle.rules.specs.Events.{Kind, stepping, cutting, Event, arrive, turn, threadOf, Valid}
 use Rattle.rules.specs.Answers.{out, now, join, close, sort}
 use Rattle.rules.specs.Steps.{Rules, Effect, traps, exits, moves, Move, Plan, stay, grow, move, finish, begin, pendingOf, home, founded}
-use Rattle.rules.specs.Steps.{planArrive, planIdle, planRunning, planStep, planCut, planTurn, plan, blocked, grant, applied, grown, finished, attempt, carry, react}
+use Rattle.rules.specs.Steps.{planArrive, planIdle, planRunning, planStep, planCut, planTurn, plan, blocked, grant, applied, grown}
+use Rattle.rules.specs.Steps.{finished, attempt, carry, react}
 use Rattle.rules.specs.declared.answer.Answer.the-variants.{ListFull}
 use Rattle.laws.specs.Logic.{never, not-true, getD-same}
 use Rattle.laws.specs.Sets.{has-none}
@@ -106,18 +108,21 @@ module _ (R : Rules) (L : Laws R) where
 
   -- ---- the invariant is kept
 
-  pub at-mover : (s : Machine) (t : ℕ) (m : Move) → Invariant R s → t < threadCount → threadAt (applied R t m s) t ≡ running (grant R (m .want) (locksOf (threadAt s t))) (m .job)
+  pub at-mover : (s : Machine) (t : ℕ) (m : Move) → Invariant R s → t < threadCount
+      → threadAt (applied R t m s) t ≡ running (grant R (m .want) (locksOf (threadAt s t))) (m .job)
   at-mover s t m i v = getD-set-same (s .threads) t _ idle (rw (i .size) v)
 
   pub at-other : (s : Machine) (t : ℕ) (m : Move) (k : ℕ) → k ≢ t → threadAt (applied R t m s) k ≡ threadAt s k
   at-other s t m k n = getD-set-other (s .threads) t k _ idle n
 
-  module _ (s : Machine) (t : ℕ) (m : Move) (i : Invariant R s) (v : t < threadCount) (d : Sound R s t m) (c : Clear R (s .threads) t (m .want)) where
+  module _ (s : Machine) (t : ℕ) (m : Move) (i : Invariant R s) (v : t < threadCount) (d : Sound R s t m)
+      (c : Clear R (s .threads) t (m .want)) where
     -- a lock that t has after the move, no other thread has
     alone : (k l : ℕ) → k ≢ t → has l (grant R (m .want) (locksOf (threadAt s t))) ≡ true → has l (locksOf (threadAt s k)) ≡ false
     alone k l n h = case (grant-either R (m .want) l (locksOf (threadAt s t)) h)
       where
-        case : (has l (locksOf (threadAt s t)) ≡ true) ⊎ ((b : ℕ) × (m .want ≡ some b) × (l ≡ R .lock b)) → has l (locksOf (threadAt s k)) ≡ false
+        case : (has l (locksOf (threadAt s t)) ≡ true) ⊎ ((b : ℕ) × (m .want ≡ some b) × (l ≡ R .lock b))
+            → has l (locksOf (threadAt s k)) ≡ false
         case (inl g) = i .apart t k l (λ e. n (sym e)) g
         case (inr g) = rw (g .2) (c (g .0) (g .1) k n)
 
@@ -125,21 +130,28 @@ module _ (R : Rules) (L : Laws R) where
         → has l (locksOf (threadAt (applied R t m s) a)) ≡ true → has l (locksOf (threadAt (applied R t m s) b)) ≡ false
     apart-applied a b l n (yes p) (yes q) h = absurd (n (p ∙ sym q))
     apart-applied a b l n (yes p) (no q) h = rw (at-other s t m b q) (alone b l q (rw (p, at-mover s t m i v) at h))
-    apart-applied a b l n (no p) (yes q) h = rw (q, at-mover s t m i v) (not-true _ (λ g. true≢false (sym (rw (at-other s t m a p) at h) ∙ alone a l p g)))
+    apart-applied a b l n (no p) (yes q) h =
+        rw (q, at-mover s t m i v) (not-true _ (λ g. true≢false (sym (rw (at-other s t m a p) at h) ∙ alone a l p g)))
     apart-applied a b l n (no p) (no q) h = rw (at-other s t m b q) (i .apart a b l n (rw (at-other s t m a p) at h))
 
     keeps-applied : (k : ℕ) (j : Job) → Dec (k ≡ t) → jobOf (threadAt (applied R t m s) k) ≡ some j → (b : ℕ) → Needs R j b
         → has (R .lock b) (locksOf (threadAt (applied R t m s) k)) ≡ true
-    keeps-applied k j (yes p) h b f = let e : j ≡ m .job = cc (ap jobOf (at-mover s t m i v)) in rw (p, at-mover s t m i v) (case (d .owns b (rw e at f)))
+    keeps-applied k j (yes p) h b f =
+        let e : j ≡ m .job = cc (ap jobOf (at-mover s t m i v)) in
+        rw (p, at-mover s t m i v) (case (d .owns b (rw e at f)))
       where
-        case : (has (R .lock b) (locksOf (threadAt s t)) ≡ true) ⊎ (m .want ≡ some b) → has (R .lock b) (grant R (m .want) (locksOf (threadAt s t))) ≡ true
+        case : (has (R .lock b) (locksOf (threadAt s t)) ≡ true) ⊎ (m .want ≡ some b)
+            → has (R .lock b) (grant R (m .want) (locksOf (threadAt s t))) ≡ true
         case (inl g) = grant-keeps R (m .want) _ _ g
         case (inr g) = grant-takes R (m .want) b _ g
     keeps-applied k j (no p) h b f = rw (at-other s t m k p) (i .keeps k j (rw (at-other s t m k p) at h) b f)
 
-    rooted-applied : (k : ℕ) (j : Job) → Dec (k ≡ t) → jobOf (threadAt (applied R t m s) k) ≡ some j → (p : List Signal) × (first k (put t (some (m .pending)) (s .trees)) ≡ some p)
+    rooted-applied : (k : ℕ) (j : Job) → Dec (k ≡ t) → jobOf (threadAt (applied R t m s) k) ≡ some j
+        → (p : List Signal) × (first k (put t (some (m .pending)) (s .trees)) ≡ some p)
     rooted-applied k j (yes p) h = (m .pending, rw p (first-put-same t (m .pending) (d .root .0) (s .trees) (d .root .1)))
-    rooted-applied k j (no p) h = let r = i .rooted k j (rw (at-other s t m k p) at h) in (r .0, first-put-other k t (some (m .pending)) (s .trees) p ∙ r .1)
+    rooted-applied k j (no p) h =
+        let r = i .rooted k j (rw (at-other s t m k p) at h) in
+        (r .0, first-put-other k t (some (m .pending)) (s .trees) p ∙ r .1)
 
     pub invariant-applied : Invariant R (applied R t m s)
     invariant-applied = record {
@@ -167,9 +179,12 @@ module _ (R : Rules) (L : Laws R) where
     keeps-finished k j (yes p) h b f = never (cc (ap jobOf gone))
     keeps-finished k j (no p) h b f = rw (left k p) (i .keeps k j (rw (left k p) at h) b f)
 
-    rooted-finished : (k : ℕ) (j : Job) → Dec (k ≡ t) → jobOf (threadAt (finished R t s) k) ≡ some j → (p : List Signal) × (first k (finished R t s .trees) ≡ some p)
+    rooted-finished : (k : ℕ) (j : Job) → Dec (k ≡ t) → jobOf (threadAt (finished R t s) k) ≡ some j
+        → (p : List Signal) × (first k (finished R t s .trees) ≡ some p)
     rooted-finished k j (yes p) h = never (cc (ap jobOf gone))
-    rooted-finished k j (no p) h = let r = i .rooted k j (rw (left k p) at h) in (r .0, first-append k (r .0) _ _ (first-put-other k t none (s .trees) p ∙ r .1))
+    rooted-finished k j (no p) h =
+        let r = i .rooted k j (rw (left k p) at h) in
+        (r .0, first-append k (r .0) _ _ (first-put-other k t none (s .trees) p ∙ r .1))
 
     pub invariant-finished : Invariant R (finished R t s)
     invariant-finished = record {
@@ -187,13 +202,15 @@ module _ (R : Rules) (L : Laws R) where
     rooted = λ k j h. let r = i .rooted k j h in (r .0, first-append k (r .0) _ _ (r .1));
   }
 
-  invariant-attempt : (s : Machine) (t : ℕ) (m : Move) (o : Option ℕ) → Invariant R s → t < threadCount → Sound R s t m → blocked R t (s .threads) (m .want) ≡ o
+  invariant-attempt : (s : Machine) (t : ℕ) (m : Move) (o : Option ℕ) → Invariant R s → t < threadCount → Sound R s t m
+      → blocked R t (s .threads) (m .want) ≡ o
       → Invariant R (attempt R t m s o .state)
   unfolding attempt
   invariant-attempt s t m none i v d k = invariant-applied s t m i v d (blocked-clear R (s .threads) t (m .want) k)
   invariant-attempt s t m (some b) i v d k = i
 
-  invariant-carry : (s : Machine) (e : Event) (q : Plan) → Invariant R s → Valid e → Good R s (threadOf e) q → Invariant R (carry R s q .state)
+  invariant-carry : (s : Machine) (e : Event) (q : Plan) → Invariant R s → Valid e → Good R s (threadOf e) q
+      → Invariant R (carry R s q .state)
   unfolding carry
   invariant-carry s e (stay a) i v g = i
   invariant-carry s e (grow x) i v g = invariant-grown s x i

@@ -34,7 +34,8 @@ module _ {A : Type 0} where
   each-every ok (x ∷ l) h = both-hold (ok x) (every ok l) (h .0) (each-every ok l (h .1))
 
   -- what holds at every place of a list holds after a change of one place that keeps it
-  pub getD-set : (d : A) (Q : ℕ → A → Type 0) (l : List A) (i : ℕ) (a : A) → ((k : ℕ) → Q k (getD l k d)) → Q i a → (k : ℕ) → Q k (getD (set l i a) k d)
+  pub getD-set : (d : A) (Q : ℕ → A → Type 0) (l : List A) (i : ℕ) (a : A) → ((k : ℕ) → Q k (getD l k d)) → Q i a → (k : ℕ)
+      → Q k (getD (set l i a) k d)
   getD-set d Q [] i a h q k = h k
   getD-set d Q (x ∷ l) zero a h q zero = q
   getD-set d Q (x ∷ l) zero a h q (suc k) = h (suc k)

@@ -47,9 +47,12 @@ pub put-missing : (t : ℕ) (o : Option (List Signal)) (l : List Tree) → first
 put-missing t o [] f = unfold put queue in (refl, refl)
 put-missing t o (x ∷ l) f = case (ℕ-discrete (x .thread) t) (put-missing t o l)
   where
-    case : Dec (x .thread ≡ t) → (first t l ≡ none → (put t o l ≡ l) × (queue t l ≡ [])) → (put t o (x ∷ l) ≡ x ∷ l) × (queue t (x ∷ l) ≡ [])
+    case : Dec (x .thread ≡ t) → (first t l ≡ none → (put t o l ≡ l) × (queue t l ≡ []))
+        → (put t o (x ∷ l) ≡ x ∷ l) × (queue t (x ∷ l) ≡ [])
     case (yes e) ih = never (cc (first-here t x l e))
-    case (no e) ih = let r = ih (sym (first-there t x l e) ∙ f) in (put-there t x l o e ∙ ap (λ (z : List Tree). x ∷ z) (r .0), queue-there t x l e ∙ r .1)
+    case (no e) ih =
+        let r = ih (sym (first-there t x l e) ∙ f) in
+        (put-there t x l o e ∙ ap (λ (z : List Tree). x ∷ z) (r .0), queue-there t x l e ∙ r .1)
 
 -- another thread's queue may only become longer, at its end, by at most one tree
 pub record Longer (q q′ : List Tree) : Type 0 where
@@ -96,7 +99,8 @@ module _ (R : Rules) where
         case r taken = rw (put-missing t none (s .trees) f .0, f) (append-nil (s .trees))
 
     module _ (t : ℕ) (p : Place t (s .trees)) where
-      present : (l′ own′ last : List Tree) → l′ ≡ p .before ++ (own′ ++ (p .after ++ last)) → OneOf t own′ → length last ≤ 1 → InPlace t (s .trees) l′
+      present : (l′ own′ last : List Tree) → l′ ≡ p .before ++ (own′ ++ (p .after ++ last)) → OneOf t own′ → length last ≤ 1
+          → InPlace t (s .trees) l′
       present l′ own′ last e o n = record {
         before = p .before;
         own = p .own ∷ [];
@@ -113,9 +117,12 @@ module _ (R : Rules) where
 
       in-place : (l′ : List Tree) → Changed R s t l′ → InPlace t (s .trees) l′
       in-place l′ same = present _ (p .own ∷ []) [] (rw (append-nil (p .after)) (p .whole)) (one-of t (p .own) (p .mine)) (omega arith)
-      in-place l′ (given q) = present _ (record { thread = t; pending = q } ∷ []) [] (rw (append-nil (p .after)) (p .changed (some q))) (one-of t _ refl) (omega arith)
+      in-place l′ (given q) =
+          present _ (record { thread = t; pending = q } ∷ []) [] (rw (append-nil (p .after)) (p .changed (some q))) (one-of t _ refl)
+          (omega arith)
       in-place l′ taken =
-          present _ [] (requeued R (first t (s .trees))) (ap (λ (z : List Tree). z ++ requeued R (first t (s .trees))) (p .changed none) ∙ append-assoc (p .before) (p .after) _)
+          present _ [] (requeued R (first t (s .trees)))
+          (ap (λ (z : List Tree). z ++ requeued R (first t (s .trees))) (p .changed none) ∙ append-assoc (p .before) (p .after) _)
           (none-of t) (requeued-one (first t (s .trees)))
 
     pub trees-keep-their-places : (e : Event) (t : ℕ) → threadOf e ≡ some t → InPlace t (s .trees) (react R s e .state .trees)
@@ -132,16 +139,26 @@ module _ (R : Rules) where
     queue-requeued u (some []) = unfold queue in omega arith
     queue-requeued u (some (g ∷ p)) = queue-one u _
 
-    longer : (u : ℕ) (e : Event) (r : Reply) → Happens R s e r → threadOf e ≢ some u → Longer (queue u (s .trees)) (queue u (r .state .trees))
+    longer : (u : ℕ) (e : Event) (r : Reply) → Happens R s e r → threadOf e ≢ some u
+        → Longer (queue u (s .trees)) (queue u (r .state .trees))
     longer u e r (remains f a q) n = unchanged _
-    longer u e r (founds g room) n = record { more = queue u (founded R g ∷ []); whole = queue-append u (s .trees) _; one = queue-one u (founded R g) }
+    longer u e r (founds g room) n = record {
+      more = queue u (founded R g ∷ []);
+      whole = queue-append u (s .trees) _;
+      one = queue-one u (founded R g);
+    }
     longer u e r (starts t g p w f b) n = rw (queue-put-other u t (some p) (s .trees) (λ k. n (ap some (sym k)))) (unchanged _)
-    longer u e r (goes t l j j′ words g want w a b) n = rw (queue-put-other u t (some _) (s .trees) (λ k. n (ap some (sym k)))) (unchanged _)
+    longer u e r (goes t l j j′ words g want w a b) n =
+        rw (queue-put-other u t (some _) (s .trees) (λ k. n (ap some (sym k)))) (unchanged _)
     longer u e r (ends t l j a w c) n = record {
       more = queue u (requeued R (first t (s .trees)));
-      whole = queue-append u (put t none (s .trees)) _ ∙ ap (λ (z : List Tree). z ++ queue u (requeued R (first t (s .trees)))) (queue-put-other u t none (s .trees) (λ k. n (ap some (sym k))));
+      whole =
+          queue-append u (put t none (s .trees)) _
+          ∙ ap (λ (z : List Tree). z ++ queue u (requeued R (first t (s .trees))))
+          (queue-put-other u t none (s .trees) (λ k. n (ap some (sym k))));
       one = queue-requeued u (first t (s .trees));
     }
 
-    pub queues-of-others-stay : (e : Event) (u : ℕ) → threadOf e ≢ some u → Longer (queue u (s .trees)) (queue u (react R s e .state .trees))
+    pub queues-of-others-stay : (e : Event) (u : ℕ) → threadOf e ≢ some u
+        → Longer (queue u (s .trees)) (queue u (react R s e .state .trees))
     queues-of-others-stay e u n = longer u e (react R s e) (happens R s e) n

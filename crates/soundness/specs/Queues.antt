@@ -30,7 +30,8 @@ unfolding first queue
 first-queue t [] = refl
 first-queue t (x ∷ l) = case (ℕ-discrete (x .thread) t) (first-queue t l)
   where
-    case : (d : Dec (x .thread ≡ t)) → first t l ≡ headPending (queue t l) → ite d (some (x .pending)) (first t l) ≡ headPending (ite d (x ∷ queue t l) (queue t l))
+    case : (d : Dec (x .thread ≡ t)) → first t l ≡ headPending (queue t l)
+        → ite d (some (x .pending)) (first t l) ≡ headPending (ite d (x ∷ queue t l) (queue t l))
     case (yes e) ih = refl
     case (no e) ih = ih
 
@@ -51,19 +52,27 @@ pub queue-put : (t : ℕ) (o : Option (List Signal)) (l : List Tree) → queue t
 queue-put t o [] = unfold queue put in refl
 queue-put t o (x ∷ l) = case (ℕ-discrete (x .thread) t) o (queue-put t o l)
   where
-    case : Dec (x .thread ≡ t) → (o : Option (List Signal)) → queue t (put t o l) ≡ refitted t o (queue t l) → queue t (put t o (x ∷ l)) ≡ refitted t o (queue t (x ∷ l))
+    case : Dec (x .thread ≡ t) → (o : Option (List Signal)) → queue t (put t o l) ≡ refitted t o (queue t l)
+        → queue t (put t o (x ∷ l)) ≡ refitted t o (queue t (x ∷ l))
     case (yes e) none ih = rw (put-here t x l none e, queue-here t x l e) refl
-    case (yes e) (some p) ih = rw (put-here t x l (some p) e, queue-here t x l e, queue-here t (record { thread = t; pending = p }) l refl) refl
+    case (yes e) (some p) ih =
+        rw (put-here t x l (some p) e, queue-here t x l e, queue-here t (record { thread = t; pending = p }) l refl) refl
     case (no e) o ih = rw (put-there t x l o e, queue-there t x (put t o l) e, queue-there t x l e) ih
 
 pub queue-put-other : (t u : ℕ) (o : Option (List Signal)) (l : List Tree) → t ≢ u → queue t (put u o l) ≡ queue t l
 queue-put-other t u o [] n = unfold queue put in refl
 queue-put-other t u o (x ∷ l) n = case (ℕ-discrete (x .thread) u) o (ℕ-discrete (x .thread) t) (queue-put-other t u o l n)
   where
-    case : Dec (x .thread ≡ u) → (o : Option (List Signal)) → Dec (x .thread ≡ t) → queue t (put u o l) ≡ queue t l → queue t (put u o (x ∷ l)) ≡ queue t (x ∷ l)
+    case : Dec (x .thread ≡ u) → (o : Option (List Signal)) → Dec (x .thread ≡ t) → queue t (put u o l) ≡ queue t l
+        → queue t (put u o (x ∷ l)) ≡ queue t (x ∷ l)
     case (yes e) none d ih = rw (put-here u x l none e, queue-there t x l (λ k. n (sym k ∙ e))) refl
     case (yes e) (some p) d ih =
-        rw (put-here u x l (some p) e, queue-there t x l (λ k. n (sym k ∙ e)), queue-there t (record { thread = u; pending = p }) l (λ k. n (sym k))) refl
+        rw (
+          put-here u x l (some p) e,
+          queue-there t x l (λ k. n (sym k ∙ e)),
+          queue-there t (record { thread = u; pending = p }) l
+              (λ k. n (sym k)),
+        ) refl
     case (no e) o (yes k) ih = rw (put-there u x l o e, queue-here t x (put u o l) k, queue-here t x l k, ih) refl
     case (no e) o (no k) ih = rw (put-there u x l o e, queue-there t x (put u o l) k, queue-there t x l k) ih
 
@@ -82,7 +91,15 @@ place t [] p f = unfold first in never (cc)
 place t (x ∷ l) p f = case (ℕ-discrete (x .thread) t) (place t l p)
   where
     case : Dec (x .thread ≡ t) → (first t l ≡ some p → Place t l) → Place t (x ∷ l)
-    case (yes e) ih = record { before = []; own = x; after = l; whole = refl; mine = e; earliest = unfold queue in refl; changed = λ o. put-here t x l o e }
+    case (yes e) ih = record {
+      before = [];
+      own = x;
+      after = l;
+      whole = refl;
+      mine = e;
+      earliest = unfold queue in refl;
+      changed = λ o. put-here t x l o e;
+    }
     case (no e) ih =
         let r = ih (sym (first-there t x l e) ∙ f) in
         record {
@@ -110,12 +127,14 @@ module _ (X : Tree → Type 0) (P : List Signal → Type 0) where
       case (yes e) ih = out x (h .0)
       case (no e) ih = ih
 
-  pub put-each : (t : ℕ) → ((p : List Signal) → P p → X (record { thread = t; pending = p })) → (o : Option (List Signal)) (l : List Tree) → FirstHas o → Each X l → Each X (put t o l)
+  pub put-each : (t : ℕ) → ((p : List Signal) → P p → X (record { thread = t; pending = p })) → (o : Option (List Signal)) (l : List Tree)
+      → FirstHas o → Each X l → Each X (put t o l)
   unfolding put
   put-each t made o [] k h = tt
   put-each t made o (x ∷ l) k h = case (ℕ-discrete (x .thread) t) o k (put-each t made o l k (h .1))
     where
-      case : (d : Dec (x .thread ≡ t)) (q : Option (List Signal)) → FirstHas q → Each X (put t o l) → Each X (ite d (refit t q l) (x ∷ put t o l))
+      case : (d : Dec (x .thread ≡ t)) (q : Option (List Signal)) → FirstHas q → Each X (put t o l)
+          → Each X (ite d (refit t q l) (x ∷ put t o l))
       case (yes e) none z ih = h .1
       case (yes e) (some p) z ih = (made p z, h .1)
       case (no e) q z ih = (h .0, ih)

@@ -61,18 +61,23 @@ module _ (image table : List ℕ) where
 
   -- ---- the test's parts
 
-  place-parts : (t locks l : ℕ) → placeOk image table t locks l ≡ true → PlaceIn t l × (has (rowAt table (blockAt image l) .lock) locks ≡ true)
+  place-parts : (t locks l : ℕ) → placeOk image table t locks l ≡ true
+      → PlaceIn t l × (has (rowAt table (blockAt image l) .lock) locks ≡ true)
   unfolding placeOk
   place-parts t locks l h =
-      let all = both (ltb l (labels image) && has (rowAt table (blockAt image l) .lock) locks) (openTo (rowAt table (blockAt image l)) t) h in
+      let all =
+      both (ltb l (labels image) && has (rowAt table (blockAt image l) .lock) locks) (openTo (rowAt table (blockAt image l)) t) h
+      in
       let front = both (ltb l (labels image)) (has (rowAt table (blockAt image l) .lock) locks) (all .0) in
       (record { below = ltb-true l (labels image) (front .0); allowed = all .1 }, front .1)
 
-  place-whole : (t locks l : ℕ) → PlaceIn t l → has (rowAt table (blockAt image l) .lock) locks ≡ true → placeOk image table t locks l ≡ true
+  place-whole : (t locks l : ℕ) → PlaceIn t l → has (rowAt table (blockAt image l) .lock) locks ≡ true
+      → placeOk image table t locks l ≡ true
   unfolding placeOk
   place-whole t locks l p h =
       both-hold (ltb l (labels image) && has (rowAt table (blockAt image l) .lock) locks) (openTo (rowAt table (blockAt image l)) t)
-      (both-hold (ltb l (labels image)) (has (rowAt table (blockAt image l) .lock) locks) (lt-ltb l (labels image) (p .below)) h) (p .allowed)
+      (both-hold (ltb l (labels image)) (has (rowAt table (blockAt image l) .lock) locks) (lt-ltb l (labels image) (p .below)) h)
+      (p .allowed)
 
   tree-parts : (x : Tree) → treeOk image table x ≡ true → TreeIn x
   unfolding treeOk
@@ -101,14 +106,17 @@ module _ (image table : List ℕ) where
   next : (t k : ℕ) → t + 1 + k ≡ t + suc k
   next t k = omega arith
 
-  threads-at : (t : ℕ) (ws : List ThreadState) → threadsOk image table t ws ≡ true → (k : ℕ) → threadOk image table (t + k) (getD ws k idle) ≡ true
+  threads-at : (t : ℕ) (ws : List ThreadState) → threadsOk image table t ws ≡ true → (k : ℕ)
+      → threadOk image table (t + k) (getD ws k idle) ≡ true
   unfolding threadsOk threadOk
   threads-at t [] h k = refl
   threads-at t (w ∷ ws) h zero = rw (add-zero t) (both (threadOk image table t w) (threadsOk image table (t + 1) ws) h .0)
   threads-at t (w ∷ ws) h (suc k) =
-      ap (λ n. threadOk image table n (getD ws k idle)) (sym (next t k)) ∙ threads-at (t + 1) ws (both (threadOk image table t w) (threadsOk image table (t + 1) ws) h .1) k
+      ap (λ n. threadOk image table n (getD ws k idle)) (sym (next t k))
+      ∙ threads-at (t + 1) ws (both (threadOk image table t w) (threadsOk image table (t + 1) ws) h .1) k
 
-  threads-whole : (t : ℕ) (ws : List ThreadState) → ((k : ℕ) → threadOk image table (t + k) (getD ws k idle) ≡ true) → threadsOk image table t ws ≡ true
+  threads-whole : (t : ℕ) (ws : List ThreadState) → ((k : ℕ) → threadOk image table (t + k) (getD ws k idle) ≡ true)
+      → threadsOk image table t ws ≡ true
   unfolding threadsOk
   threads-whole t [] h = refl
   threads-whole t (w ∷ ws) h =
@@ -124,7 +132,8 @@ module _ (image table : List ℕ) where
       ap (λ m. queueOk image table (getD ws k idle) (queue m l)) (sym (next t k))
       ∙ queues-at (t + 1) ws l (both (queueOk image table w (queue t l)) (queuesOk image table (t + 1) ws l) h .1) k (omega arith)
 
-  queues-whole : (t : ℕ) (ws : List ThreadState) (l : List Tree) → ((k : ℕ) → queueOk image table (getD ws k idle) (queue (t + k) l) ≡ true) → queuesOk image table t ws l ≡ true
+  queues-whole : (t : ℕ) (ws : List ThreadState) (l : List Tree)
+      → ((k : ℕ) → queueOk image table (getD ws k idle) (queue (t + k) l) ≡ true) → queuesOk image table t ws l ≡ true
   unfolding queuesOk
   queues-whole t [] l h = refl
   queues-whole t (w ∷ ws) l h =
@@ -145,7 +154,8 @@ module _ (image table : List ℕ) where
       let e = every-each (placeOk image table t locks) (j .label ∷ j .returns) h in
       member-each (PlaceIn t) (j .label ∷ j .returns) (λ l m. place-parts t locks l (each-member _ (j .label ∷ j .returns) e l m) .0)
 
-  thread-locks : (t : ℕ) (w : ThreadState) → threadOk image table t w ≡ true → (j : Job) → jobOf w ≡ some j → (b : ℕ) → Needs (rulesBy image table) j b
+  thread-locks : (t : ℕ) (w : ThreadState) → threadOk image table t w ≡ true → (j : Job) → jobOf w ≡ some j → (b : ℕ)
+      → Needs (rulesBy image table) j b
       → has (rowAt table b .lock) (locksOf w) ≡ true
   unfolding threadOk
   thread-locks t idle h j q b m = never (cc)
@@ -156,15 +166,18 @@ module _ (image table : List ℕ) where
       rw (n .2) (place-parts t locks (n .0) (each-member _ (k .label ∷ k .returns) f (n .0) (rw e (n .1))) .1)
 
   thread-whole : (t : ℕ) (w : ThreadState) → ThreadIn t w
-      → ((j : Job) → jobOf w ≡ some j → (b : ℕ) → Needs (rulesBy image table) j b → has (rowAt table b .lock) (locksOf w) ≡ true) → threadOk image table t w ≡ true
+      → ((j : Job) → jobOf w ≡ some j → (b : ℕ) → Needs (rulesBy image table) j b → has (rowAt table b .lock) (locksOf w) ≡ true)
+      → threadOk image table t w ≡ true
   unfolding threadOk
   thread-whole t idle p k = refl
   thread-whole t (running locks j) p k =
       each-every (placeOk image table t locks) (j .label ∷ j .returns) (member-each _ (j .label ∷ j .returns) (λ l m.
-      place-whole t locks l (each-member (PlaceIn t) (j .label ∷ j .returns) p l m) (k j refl (blockAt image l) (member-map (blockAt image) l (j .label ∷ j .returns) m))))
+      place-whole t locks l (each-member (PlaceIn t) (j .label ∷ j .returns) p l m)
+      (k j refl (blockAt image l) (member-map (blockAt image) l (j .label ∷ j .returns) m))))
 
   -- a running thread has a tree
-  root : (t : ℕ) (w : ThreadState) (l : List Tree) → QueueIn w (queue t l) → (j : Job) → jobOf w ≡ some j → (p : List Signal) × (first t l ≡ some p)
+  root : (t : ℕ) (w : ThreadState) (l : List Tree) → QueueIn w (queue t l) → (j : Job) → jobOf w ≡ some j
+      → (p : List Signal) × (first t l ≡ some p)
   root t idle l h j e = never (cc)
   root t (running locks k) l h j e = case (queue t l) h (first-queue t l)
     where
@@ -193,8 +206,13 @@ module _ (image table : List ℕ) where
   pub sound-of : (s : Machine) → length (s .threads) ≡ threadCount → machineOk image table s ≡ true → Sound s
   sound-of s size h =
       let k = tests s h in
-      let trees : Each TreeIn (s .trees) = member-each TreeIn (s .trees) (λ x m. tree-parts x (each-member _ (s .trees) (every-each (treeOk image table) (s .trees) (k .trees)) x m)) in
-      let threadsOk′ : (t : ℕ) → threadOk image table t (threadAt s t) ≡ true = λ t. rw zero-add at (threads-at 0 (s .threads) (k .threads) t) in
+      let trees : Each TreeIn (s .trees) =
+      member-each TreeIn (s .trees)
+      (λ x m. tree-parts x (each-member _ (s .trees) (every-each (treeOk image table) (s .trees) (k .trees)) x m))
+      in
+      let threadsOk′ : (t : ℕ) → threadOk image table t (threadAt s t) ≡ true =
+      λ t. rw zero-add at (threads-at 0 (s .threads) (k .threads) t)
+      in
       let queues : (t : ℕ) → QueueIn (threadAt s t) (queue t (s .trees)) = λ t. queue-of t (decLt t threadCount) trees (k .queues) in
       record {
         invariant = record {
@@ -208,15 +226,25 @@ module _ (image table : List ℕ) where
         queues = queues;
       }
     where
-      queue-of : (t : ℕ) → Dec (t < threadCount) → Each TreeIn (s .trees) → queuesOk image table 0 (s .threads) (s .trees) ≡ true → QueueIn (threadAt s t) (queue t (s .trees))
-      queue-of t (yes n) e q = queue-parts (threadAt s t) (queue t (s .trees)) (rw zero-add at (queues-at 0 (s .threads) (s .trees) q t (rw size n)))
-      queue-of t (no n) e q = rw (List·getD-eq-default (s .threads) idle {n = t} (rw size (omega arith)), no-queue t (s .trees) (omega arith) e) tt
+      queue-of : (t : ℕ) → Dec (t < threadCount) → Each TreeIn (s .trees) → queuesOk image table 0 (s .threads) (s .trees) ≡ true
+          → QueueIn (threadAt s t) (queue t (s .trees))
+      queue-of t (yes n) e q =
+          queue-parts (threadAt s t) (queue t (s .trees)) (rw zero-add at (queues-at 0 (s .threads) (s .trees) q t (rw size n)))
+      queue-of t (no n) e q =
+          rw (List·getD-eq-default (s .threads) idle {n = t} (rw size (omega arith)), no-queue t (s .trees) (omega arith) e) tt
 
   pub sound-ok : (s : Machine) → Sound s → machineOk image table s ≡ true
   unfolding machineOk
   sound-ok s k =
-      let a : threadsOk image table 0 (s .threads) ≡ true = threads-whole 0 (s .threads) (λ t. rw zero-add (thread-whole t (threadAt s t) (k .threads t) (k .invariant .keeps t))) in
+      let a : threadsOk image table 0 (s .threads) ≡ true =
+      threads-whole 0 (s .threads) (λ t. rw zero-add (thread-whole t (threadAt s t) (k .threads t) (k .invariant .keeps t)))
+      in
       let b : apart (s .threads) ≡ true = disjoint-apart (s .threads) (k .invariant .apart) in
-      let c : every (treeOk image table) (s .trees) ≡ true = each-every (treeOk image table) (s .trees) (member-each _ (s .trees) (λ x m. tree-whole x (each-member TreeIn (s .trees) (k .trees) x m))) in
-      let d : queuesOk image table 0 (s .threads) (s .trees) ≡ true = queues-whole 0 (s .threads) (s .trees) (λ t. rw zero-add (queue-whole (threadAt s t) (queue t (s .trees)) (k .queues t))) in
+      let c : every (treeOk image table) (s .trees) ≡ true =
+      each-every (treeOk image table) (s .trees)
+      (member-each _ (s .trees) (λ x m. tree-whole x (each-member TreeIn (s .trees) (k .trees) x m)))
+      in
+      let d : queuesOk image table 0 (s .threads) (s .trees) ≡ true =
+      queues-whole 0 (s .threads) (s .trees) (λ t. rw zero-add (queue-whole (threadAt s t) (queue t (s .trees)) (k .queues t)))
+      in
       rw (a, b, c, d) refl

@@ -11,9 +11,11 @@ use borrow.Author.Tests.{leb-true, leb-false, eqb-true}
 use Rattle.rules.specs.Sizes.{registerCount, returnCount, pendingCount, operandCount, recordSize, recordCount}
 use Rattle.rules.specs.Codes.{returnsFullCode, pendingFullCode}
 use Rattle.rules.specs.Image.{labels, recordAt, opcode, operator, labelA, labelB, operands, Row, rowAt}
-use Rattle.rules.specs.Statements.{operandsFrom, Way, following, branching, transferring, entering, posting, calling, returning, ending, Sources, nothing, carried, pair, usage, way, readFrom, reads, statementOf, dataOf}
+use Rattle.rules.specs.Statements.{operandsFrom, Way, following, branching, transferring, entering, posting, calling, returning, ending}
+use Rattle.rules.specs.Statements.{Sources, nothing, carried, pair, usage, way, readFrom, reads, statementOf, dataOf}
 use Rattle.rules.specs.Machine.{Signal, Job, fill}
-use Rattle.rules.specs.Effects.{Got, trap, got, then, unless, Cells, readAll, read, Results, compute, store, assigned, Next, onA, onB, intoA, callA, back, Going, Outcome, ends, goes, View, leave, overflow, worked, chosen, perform, outcome}
+use Rattle.rules.specs.Effects.{Got, trap, got, then, unless, Cells, readAll, read, Results, compute, store, assigned, Next, onA, onB}
+use Rattle.rules.specs.Effects.{intoA, callA, back, Going, Outcome, ends, goes, View, leave, overflow, worked, chosen, perform, outcome}
 use Rattle.rules.specs.Steps.{Effect, traps, exits, moves, trapIf, older, signalTo, alien, steer, resolve, blockAt, actBy, view}
 use Rattle.rules.specs.declared.statement.Operand.{Operand}
 use Rattle.rules.specs.declared.statement.Operand.the-variants.{Number, Register, Word}
@@ -62,9 +64,11 @@ read-long c (p ∷ ps) = long-cons (length ps) (read c p) (readAll c ps) (read-l
 -- ---- what a statement leaves
 
 pub length-fill : (vs : List ℕ) → length vs ≤ registerCount → length (fill vs) ≡ registerCount
-length-fill vs h = rw (length-append (map some vs), length-map vs some, length-replicate {A = Option ℕ} (registerCount - length vs) none) (omega arith)
+length-fill vs h =
+    rw (length-append (map some vs), length-map vs some, length-replicate {A = Option ℕ} (registerCount - length vs) none) (omega arith)
 
-length-overlaid : (vs : List ℕ) (rs : List (Option ℕ)) → length vs ≤ registerCount → length rs ≡ registerCount → length (map some vs ++ drop (length vs) rs) ≡ registerCount
+length-overlaid : (vs : List ℕ) (rs : List (Option ℕ)) → length vs ≤ registerCount → length rs ≡ registerCount
+    → length (map some vs ++ drop (length vs) rs) ≡ registerCount
 length-overlaid vs rs h k = rw (length-append (map some vs), length-map vs some, length-drop (length vs) rs, k) (omega arith)
 
 length-store : (d : Operand) (v : ℕ) (c : Cells) → length (store d v c .registers) ≡ length (c .registers)
@@ -87,10 +91,12 @@ DepthSized depth back = Unit {0}
 abbrev OutcomeSized : ℕ → ℕ → Got Outcome → Type 0
 OutcomeSized depth pending (trap r) = Unit {0}
 OutcomeSized depth pending (got ends) = Unit {0}
-OutcomeSized depth pending (got (goes g)) = (length (g .cells .registers) ≡ registerCount) × DepthSized depth (g .next) × SentSized pending (g .sent)
+OutcomeSized depth pending (got (goes g)) =
+    (length (g .cells .registers) ≡ registerCount) × DepthSized depth (g .next) × SentSized pending (g .sent)
 
 module _ (depth pending : ℕ) where
-  then-sized : {A : Type 0} (P : A → Type 0) (o : Got A) (f : A → Got Outcome) → Each P o → ((a : A) → P a → OutcomeSized depth pending (f a))
+  then-sized : {A : Type 0} (P : A → Type 0) (o : Got A) (f : A → Got Outcome) → Each P o
+      → ((a : A) → P a → OutcomeSized depth pending (f a))
       → OutcomeSized depth pending (then o f)
   then-sized P (trap r) f h k = tt
   then-sized P (got a) f h k = k a h
@@ -143,7 +149,8 @@ room-for v Return h = tt
 room-for v Transfer h = tt
 room-for v Exit h = tt
 
-leave-sized : (v : View) (w : Way) (c : Bool) (vs : List ℕ) (d : Cells) → length (d .registers) ≡ registerCount → length vs ≤ registerCount → RoomFor v w
+leave-sized : (v : View) (w : Way) (c : Bool) (vs : List ℕ) (d : Cells) → length (d .registers) ≡ registerCount
+    → length vs ≤ registerCount → RoomFor v w
     → OutcomeSized (v .depth) (v .pending) (got (leave w c vs d))
 leave-sized v following c vs d h k r = (h, tt, tt)
 leave-sized v branching true vs d h k r = (h, tt, tt)
@@ -167,12 +174,14 @@ perform-sized v s vs h k = case (overflow v s) refl
         (λ c q. leave-sized v (way s) (chosen s vs) vs c (q ∙ h) k (room-for v s e))
     case (some r) e = tt
 
-outcome-sized : (v : View) (s : Statement) (given : List Operand) → length (v .cells .registers) ≡ registerCount → length given ≤ operandCount
+outcome-sized : (v : View) (s : Statement) (given : List Operand) → length (v .cells .registers) ≡ registerCount
+    → length given ≤ operandCount
     → OutcomeSized (v .depth) (v .pending) (outcome v s given)
 unfolding outcome
 outcome-sized v s given h k =
     let few : length (reads s given) ≤ registerCount = reads-limit (usage s .sources) given k in
-    then-sized (v .depth) (v .pending) (λ (vs : List ℕ). length vs ≡ length (reads s given)) (readAll (v .cells) (reads s given)) (λ vs. perform v s vs)
+    then-sized (v .depth) (v .pending) (λ (vs : List ℕ). length vs ≡ length (reads s given)) (readAll (v .cells) (reads s given))
+    (λ vs. perform v s vs)
     (read-long (v .cells) (reads s given)) (λ vs l. perform-sized v s vs h (rw l few))
 
 -- ---- and the job that it leaves
@@ -184,7 +193,8 @@ SignalSized pending (some g) = (length (g .values) ≤ registerCount) × (pendin
 abbrev pub EffectSized : ℕ → Effect → Type 0
 EffectSized pending (traps r) = Unit {0}
 EffectSized pending exits = Unit {0}
-EffectSized pending (moves j words g want) = (length (j .registers) ≡ registerCount) × (length (j .returns) ≤ returnCount) × SignalSized pending g
+EffectSized pending (moves j words g want) =
+    (length (j .registers) ≡ registerCount) × (length (j .returns) ≤ returnCount) × SignalSized pending g
 
 module _ (pending : ℕ) where
   trap-sized : (c : Bool) (r : ℕ) (e : Effect) → EffectSized pending e → EffectSized pending (trapIf c r e)
@@ -205,26 +215,31 @@ module _ (pending : ℕ) where
     back-sized [] h = tt
     back-sized (r ∷ rs) h = (k, rw (length-older r rs) (omega arith), m)
 
-    steer-sized : (n : Next) (rs : List ℕ) → DepthSized (length rs) n → length rs ≤ returnCount → EffectSized pending (steer block row t a b g n rs)
+    steer-sized : (n : Next) (rs : List ℕ) → DepthSized (length rs) n → length rs ≤ returnCount
+        → EffectSized pending (steer block row t a b g n rs)
     steer-sized onA rs n h = (k, h, m)
     steer-sized onB rs n h = (k, h, m)
     steer-sized intoA rs n h = trap-sized (alien (row (block a)) t) 5 _ (k, h, m)
     steer-sized callA rs n h = trap-sized (alien (row (block a)) t) 5 _ (k, rw (length-append rs (b ∷ [])) (omega arith), m)
     steer-sized back rs n h = back-sized rs h
 
-  resolve-sized : (block : ℕ → ℕ) (row : ℕ → Row) (t a b : ℕ) (rs : List ℕ) (o : Got Outcome) → OutcomeSized (length rs) pending o → length rs ≤ returnCount
+  resolve-sized : (block : ℕ → ℕ) (row : ℕ → Row) (t a b : ℕ) (rs : List ℕ) (o : Got Outcome) → OutcomeSized (length rs) pending o
+      → length rs ≤ returnCount
       → EffectSized pending (resolve block row t rs a b o)
   resolve-sized block row t a b rs (trap r) h k = tt
   resolve-sized block row t a b rs (got ends) h k = tt
-  resolve-sized block row t a b rs (got (goes g)) h k = steer-sized block row t a b g (h .0) (sent-sized a (g .sent) (h .2)) (g .next) rs (h .1) k
+  resolve-sized block row t a b rs (got (goes g)) h k =
+      steer-sized block row t a b g (h .0) (sent-sized a (g .sent) (h .2)) (g .next) rs (h .1) k
 
-pub act-sized : (image table : List ℕ) → Passed image table → (t : ℕ) (j : Job) (words : List ℕ) (n : ℕ) → j .label < labels image → length (j .registers) ≡ registerCount
+pub act-sized : (image table : List ℕ) → Passed image table → (t : ℕ) (j : Job) (words : List ℕ) (n : ℕ) → j .label < labels image
+    → length (j .registers) ≡ registerCount
     → length (j .returns) ≤ returnCount → EffectSized n (actBy image table t j words n)
 unfolding actBy
 act-sized image table ok t j words n l h k =
     let r = recordAt image (j .label) in
     resolve-sized n (blockAt image) (rowAt table) t (labelA r) (labelB r) (j .returns) (outcome (view j words n) (statementOf r) (dataOf r))
-    (outcome-sized (view j words n) (statementOf r) (dataOf r) h (rw (length-operands r 0 (operands r)) (operands-limit image table ok (j .label) l))) k
+    (outcome-sized (view j words n) (statementOf r) (dataOf r) h
+    (rw (length-operands r 0 (operands r)) (operands-limit image table ok (j .label) l))) k
 
 -- labels are below 512, so that no label is the one that says idle
 pub labels-limit : (image : List ℕ) → labels image ≤ recordCount

@@ -15,7 +15,8 @@ use Rattle.rules.specs.Image.{recordAt, entry}
 use Rattle.rules.specs.Check.{Checked}
 use Rattle.rules.specs.Machine.{Machine, fresh}
 use Rattle.rules.specs.Encoding.{signalFrom, encode, wordsFrom, machineFrom}
-use Rattle.rules.specs.Events.{Event, arrive, turn, kindCode, kindOf, Valid, eventFrom, arrivalOk, turnOk, eventOk, eventsIn, eventsLengthOk, eventAtOk, eventsFrom}
+use Rattle.rules.specs.Events.{Event, arrive, turn, kindCode, kindOf, Valid, eventFrom, arrivalOk, turnOk, eventOk, eventsIn}
+use Rattle.rules.specs.Events.{eventsLengthOk, eventAtOk, eventsFrom}
 use Rattle.rules.specs.Steps.{rulesBy, final}
 use Rattle.rules.specs.WellFormed.{stateTidy, machineOk, wellFormed}
 use Rattle.rules.specs.Calls.{stateLengthFault, stateFault, eventsLengthFault, eventFault, freshReturn, freshState, runReturn, runState}
@@ -46,8 +47,10 @@ external : (image b : List ℕ) → eventOk image b ≡ true → External image 
 unfolding eventOk arrivalOk eventFrom signalFrom
 external image b h = case (eqb (getD b eventKindPlace 0) arrivalCode) h
   where
-    case : (c : Bool) → cond c (arrivalOk image b) (eqb (getD b eventKindPlace 0) (kindCode (kindOf (getD b eventKindPlace 0))) && turnOk b) ≡ true
-        → External image (cond c (arrive (signalFrom (drop eventSignalPlace b))) (turn (kindOf (getD b eventKindPlace 0)) (getD b eventThreadPlace 0)))
+    case : (c : Bool)
+        → cond c (arrivalOk image b) (eqb (getD b eventKindPlace 0) (kindCode (kindOf (getD b eventKindPlace 0))) && turnOk b) ≡ true
+        → External image
+        (cond c (arrive (signalFrom (drop eventSignalPlace b))) (turn (kindOf (getD b eventKindPlace 0)) (getD b eventThreadPlace 0)))
     case true k =
         let thread : Bool = eqb (getD b 1 0) 0 in
         let label : Bool = eqb (entry (recordAt image (num16 (drop 2 b)))) 3 in
@@ -56,7 +59,8 @@ external image b h = case (eqb (getD b eventKindPlace 0) arrivalCode) h
         eqb-true _ 3 (both thread label (both (thread && label) count (both (thread && label && count) zeros k .0) .0) .1)
     case false k = tt
 
-pub events-accepted : (image events : List ℕ) → length events ≡ eventSize * eventsIn events → ((i : ℕ) → i < eventsIn events → eventAtOk image events i ≡ true)
+pub events-accepted : (image events : List ℕ) → length events ≡ eventSize * eventsIn events
+    → ((i : ℕ) → i < eventsIn events → eventAtOk image events i ≡ true)
     → Each (Accepted image) (eventsFrom events)
 unfolding eventsFrom eventAtOk
 events-accepted image events l h =
@@ -70,23 +74,29 @@ events-accepted image events l h =
 module _ (image table : List ℕ) where
   pub encoded-well-formed : (s : Machine) → Sized s → Sound image table s → wellFormed image table (encode s) ≡ true
   unfolding wellFormed
-  encoded-well-formed s z k = both-hold (stateTidy (encode s)) (machineOk image table (machineFrom (encode s))) (machine-tidy s z) (rw (machine-back s z) (sound-ok image table s k))
+  encoded-well-formed s z k =
+      both-hold (stateTidy (encode s)) (machineOk image table (machineFrom (encode s))) (machine-tidy s z)
+      (rw (machine-back s z) (sound-ok image table s k))
 
   module _ (checked : Checked image table) where
     -- THE FRESH MACHINE'S BYTES ARE WELL FORMED
     pub fresh-bytes-well-formed : (words : List ℕ) → wellFormed image table (encode (fresh (wordsFrom words))) ≡ true
     fresh-bytes-well-formed words =
-        encoded-well-formed (fresh (wordsFrom words)) (sized-fresh (wordsFrom words) (unfold wordsFrom in length-chunks num16 2 256 words)) (sound-fresh image table checked (wordsFrom words))
+        encoded-well-formed (fresh (wordsFrom words))
+        (sized-fresh (wordsFrom words) (unfold wordsFrom in length-chunks num16 2 256 words))
+        (sound-fresh image table checked (wordsFrom words))
 
     -- EVERY LIST OF ACCEPTED EVENTS KEEPS THEM SO
-    pub bytes-stay-well-formed : (state : List ℕ) (l : List Event) → length state ≡ stateSize → wellFormed image table state ≡ true → Each (Accepted image) l
+    pub bytes-stay-well-formed : (state : List ℕ) (l : List Event) → length state ≡ stateSize → wellFormed image table state ≡ true
+        → Each (Accepted image) l
         → wellFormed image table (encode (final (rulesBy image table) (machineFrom state) l)) ≡ true
     unfolding wellFormed
     bytes-stay-well-formed state l n w h =
         let t = both (stateTidy state) (machineOk image table (machineFrom state)) w in
         let z : Sized (machineFrom state) = machine-sized state n (t .0) in
         let k : Sound image table (machineFrom state) = sound-of image table (machineFrom state) (z .threads) (t .1) in
-        encoded-well-formed (final (rulesBy image table) (machineFrom state) l) (sized-final image table checked (machineFrom state) l k z h) (sound-final image table checked (machineFrom state) l k h)
+        encoded-well-formed (final (rulesBy image table) (machineFrom state) l)
+        (sized-final image table checked (machineFrom state) l k z h) (sound-final image table checked (machineFrom state) l k h)
 
 -- ---- over calls
 
@@ -100,7 +110,8 @@ unfolding stateLengthFault stateFault
 encoded-ready image table s w = record { size = rw (length-encode s) refl; formed = rw w refl }
 
 -- the state that an accepted Fresh left
-pub fresh-leaves-ready : (image table words state : List ℕ) → freshReturn image table words state ≡ 0 → Ready image table (freshState image table words state)
+pub fresh-leaves-ready : (image table words state : List ℕ) → freshReturn image table words state ≡ 0
+    → Ready image table (freshState image table words state)
 unfolding freshReturn freshState
 fresh-leaves-ready image table words state h =
     rw h (encoded-ready image table (fresh (wordsFrom words)) (fresh-bytes-well-formed image table (checked-of image table _ h .0) words))
@@ -126,11 +137,14 @@ given-of image table state events space h =
       checked = four .0;
       size = eqb-true (length state) stateSize (refusal-zero _ 5 0 (omega arith) (five .0));
       formed = refusal-zero _ 6 0 (omega arith) (six .0);
-      accepted = events-accepted image events (eqb-true _ _ length-ok) (fault-free (eventAtOk image events) (eventsIn events) 8 (omega arith) (eight .0));
+      accepted =
+          events-accepted image events (eqb-true _ _ length-ok)
+          (fault-free (eventAtOk image events) (eventsIn events) 8 (omega arith) (eight .0));
     }
 
 -- the state that an accepted Run left
-pub run-leaves-ready : (image table state events space : List ℕ) → runReturn image table state events space ≡ 0 → Ready image table (runState image table state events space)
+pub run-leaves-ready : (image table state events space : List ℕ) → runReturn image table state events space ≡ 0
+    → Ready image table (runState image table state events space)
 unfolding runState
 run-leaves-ready image table state events space h =
     let g : Given image table state events = given-of image table state events space h in

@@ -81,8 +81,12 @@ module _ (R : Rules) where
       case none f = rw (put-missing t none l f .0, append-nil l) (omega arith)
       case (some p) f =
           let k : Place t l = place t l p f in
-          let a : length l ≡ length (k .before) + suc (length (k .after)) = ap length (k .whole) ∙ length-append (k .before) (k .own ∷ k .after) in
-          let b : length (put t none l) ≡ length (k .before) + length (k .after) = ap length (k .changed none) ∙ length-append (k .before) (k .after) in
+          let a : length l ≡ length (k .before) + suc (length (k .after)) =
+          ap length (k .whole) ∙ length-append (k .before) (k .own ∷ k .after)
+          in
+          let b : length (put t none l) ≡ length (k .before) + length (k .after) =
+          ap length (k .changed none) ∙ length-append (k .before) (k .after)
+          in
           rw (length-append (put t none l) (requeued R (some p))) (omega (arith, requeued-one R (some p)))
 
 -- ---- every event
@@ -100,7 +104,8 @@ module _ (image table : List ℕ) (ok : Passed image table) (s : Machine) (k : S
 
   -- what the statement of a running thread leaves
   effect-sized : (t locks : ℕ) (j : Job) (e : Effect) → t < threadCount → threadAt s t ≡ running locks j
-      → R .act t j (window (R .block (j .label)) (s .words)) (length (pendingOf (first t (s .trees)))) ≡ e → EffectSized (length (pendingOf (first t (s .trees)))) e
+      → R .act t j (window (R .block (j .label)) (s .words)) (length (pendingOf (first t (s .trees)))) ≡ e
+      → EffectSized (length (pendingOf (first t (s .trees)))) e
   effect-sized t locks j e v w a =
       let y : SizedJob j = subst SizedThread w (each-at SizedThread (s .threads) t idle (z .eachThread) (rw (z .threads) v)) in
       let p : Each (PlaceIn image table t) (j .label ∷ j .returns) = subst (ThreadIn image table t) w (k .threads t) in
@@ -124,7 +129,8 @@ module _ (image table : List ℕ) (ok : Passed image table) (s : Machine) (k : S
   trees-count : (e : Event) (r : Reply) → Happens R s e r → length (r .state .trees) ≤ treeCount
   trees-count e r (remains f a q) = z .trees
   trees-count e r (founds g room) =
-      rw (length-append (s .trees) (founded R g ∷ [])) (omega (arith, ltb-true (length (treeThreads (s .trees))) treeCount room, length-map (s .trees) (λ (x : Tree). x .thread)))
+      rw (length-append (s .trees) (founded R g ∷ []))
+      (omega (arith, ltb-true (length (treeThreads (s .trees))) treeCount room, length-map (s .trees) (λ (x : Tree). x .thread)))
   trees-count e r (starts t g p w f b) = rw (length-put t p (s .trees)) (z .trees)
   trees-count e r (goes t l j j′ words g want w a b) = rw (length-put t (pendingOf (first t (s .trees)) ++ added g) (s .trees)) (z .trees)
   trees-count e r (ends t l j a w c) = omega (arith, length-finished R t (s .trees), z .trees)
@@ -150,21 +156,25 @@ module _ (image table : List ℕ) (ok : Passed image table) (s : Machine) (k : S
 
   trees-sized : (e : Event) (r : Reply) → Happens R s e r → Accepted image e → Each SizedTree (r .state .trees)
   trees-sized e r (remains f a q) v = z .eachTree
-  trees-sized e r (founds g room) v = each-append SizedTree (s .trees) (founded R g ∷ []) (z .eachTree) (record { count = omega arith; each = (v .1, tt) }, tt)
+  trees-sized e r (founds g room) v =
+      each-append SizedTree (s .trees) (founded R g ∷ []) (z .eachTree) (record { count = omega arith; each = (v .1, tt) }, tt)
   trees-sized e r (starts t g p w f b) v =
       let h : SizedPending (g ∷ p) = subst FirstSized f (firsts t) in
       put-sized t (some p) (s .trees) (record { count = omega (arith, h .count); each = h .each .1 }) (z .eachTree)
   trees-sized e r (goes t l j j′ words g want w a b) v =
       put-sized t (some (pendingOf (first t (s .trees)) ++ added g)) (s .trees)
-      (added-sized (pendingOf (first t (s .trees))) g (pending-sized (first t (s .trees)) (firsts t)) (effect-sized t l j _ v w a .2)) (z .eachTree)
+      (added-sized (pendingOf (first t (s .trees))) g (pending-sized (first t (s .trees)) (firsts t)) (effect-sized t l j _ v w a .2))
+      (z .eachTree)
   trees-sized e r (ends t l j a w c) v =
-      each-append SizedTree (put t none (s .trees)) _ (put-sized t none (s .trees) tt (z .eachTree)) (requeued-sized R (first t (s .trees)) (firsts t))
+      each-append SizedTree (put t none (s .trees)) _ (put-sized t none (s .trees) tt (z .eachTree))
+      (requeued-sized R (first t (s .trees)) (firsts t))
 
 module _ (image table : List ℕ) (checked : Checked image table) where
   ok : Passed image table
   ok = passed image table [] checked .0
 
-  pub sized-react : (s : Machine) (e : Event) → Sound image table s → Sized s → Accepted image e → Sized (react (rulesBy image table) s e .state)
+  pub sized-react : (s : Machine) (e : Event) → Sound image table s → Sized s → Accepted image e
+      → Sized (react (rulesBy image table) s e .state)
   sized-react s e k z h =
       let r = react (rulesBy image table) s e in
       let d : Happens (rulesBy image table) s e r = happens (rulesBy image table) s e in
@@ -176,10 +186,13 @@ module _ (image table : List ℕ) (checked : Checked image table) where
         eachTree = trees-sized image table ok s k z e r d h;
       }
 
-  pub sized-final : (s : Machine) (l : List Event) → Sound image table s → Sized s → Each (Accepted image) l → Sized (final (rulesBy image table) s l)
+  pub sized-final : (s : Machine) (l : List Event) → Sound image table s → Sized s → Each (Accepted image) l
+      → Sized (final (rulesBy image table) s l)
   unfolding final
   sized-final s [] k z h = z
-  sized-final s (e ∷ l) k z h = sized-final (react (rulesBy image table) s e .state) l (sound-react image table checked s e k (h .0)) (sized-react s e k z (h .0)) (h .1)
+  sized-final s (e ∷ l) k z h =
+      sized-final (react (rulesBy image table) s e .state) l (sound-react image table checked s e k (h .0)) (sized-react s e k z (h .0))
+      (h .1)
 
 each-idle : (n : ℕ) → Each SizedThread (replicate n idle)
 each-idle zero = tt

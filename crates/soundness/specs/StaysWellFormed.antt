@@ -12,9 +12,11 @@ use Rattle.rules.specs.Sizes.{threadCount, registerCount}
 use Rattle.rules.specs.Bytes.{has}
 use Rattle.rules.specs.Image.{recordAt, entry, rowAt}
 use Rattle.rules.specs.Check.{Checked}
-use Rattle.rules.specs.Machine.{Signal, Job, ThreadState, idle, running, Machine, threadAt, locksOf, jobOf, fresh, queue, first, put, window}
+use Rattle.rules.specs.Machine.{Signal, Job, ThreadState, idle, running, Machine, threadAt, locksOf, jobOf, fresh, queue, first, put}
+use Rattle.rules.specs.Machine.{window}
 use Rattle.rules.specs.Events.{Event, arrive, turn, threadOf, Valid}
-use Rattle.rules.specs.Steps.{Rules, Effect, Move, Reply, added, pendingOf, founded, requeued, rulesBy, grant, applied, finished, react, final}
+use Rattle.rules.specs.Steps.{Rules, Effect, Move, Reply, added, pendingOf, founded, requeued, rulesBy, grant, applied, finished, react}
+use Rattle.rules.specs.Steps.{final}
 use Rattle.rules.specs.WellFormed.{pendingOk, machineOk}
 use Rattle.fields.specs.Each.{Each, each-append}
 use Rattle.laws.specs.Logic.{never, getD-same}
@@ -28,7 +30,8 @@ use Rattle.soundness.specs.Queues.{first-queue, queue-append, queue-put,
 use Rattle.soundness.specs.Members.{getD-set}
 use Rattle.soundness.specs.Sound.{PlaceIn, ThreadIn, PendingIn, TreeIn, QueueIn, Sound, sound-of, sound-ok}
 use Rattle.soundness.specs.Destinations.{SentIn, EffectIn, act-in}
-use Rattle.soundness.specs.Trees.{FirstIn, first-in, put-trees, on-home, home-open, requeued-trees, requeued-homed, queue-homed, first-home, queue-longer, queue-runs, queue-idle}
+use Rattle.soundness.specs.Trees.{FirstIn, first-in, put-trees, on-home, home-open, requeued-trees, requeued-homed, queue-homed}
+use Rattle.soundness.specs.Trees.{first-home, queue-longer, queue-runs, queue-idle}
 
 -- an event that the image accepts: an arrival's label has entry 3 and it has at most 25 values; a step and a cut name a thread 0 to 7
 abbrev pub Accepted : List ℕ → Event → Type 0
@@ -57,7 +60,8 @@ module _ (image table : List ℕ) (ok : Passed image table) (s : Machine) (k : S
   -- what the statement of a running thread leaves
   pub effect-in : (t locks : ℕ) (j : Job) (e : Effect) → threadAt s t ≡ running locks j
       → R .act t j (window (R .block (j .label)) (s .words)) (length (pendingOf (first t (s .trees)))) ≡ e → EffectIn image table ok t e
-  effect-in t locks j e w a = subst (EffectIn image table ok t) a (act-in image table ok t j _ _ (subst (ThreadIn image table t) w (k .threads t)))
+  effect-in t locks j e w a =
+      subst (EffectIn image table ok t) a (act-in image table ok t j _ _ (subst (ThreadIn image table t) w (k .threads t)))
 
   -- an arrival's signal is one that may be pending
   arrival-in : (g : Signal) → Accepted image (arrive g) → PendingIn image table g
@@ -65,10 +69,12 @@ module _ (image table : List ℕ) (ok : Passed image table) (s : Machine) (k : S
   arrival-in g h = rw (h .0) refl
 
   -- the label that a thread starts at
-  pub start-in : (t : ℕ) (g : Signal) (p : List Signal) → threadAt s t ≡ idle → first t (s .trees) ≡ some (g ∷ p) → PlaceIn image table t (g .label)
+  pub start-in : (t : ℕ) (g : Signal) (p : List Signal) → threadAt s t ≡ idle → first t (s .trees) ≡ some (g ∷ p)
+      → PlaceIn image table t (g .label)
   start-in t g p w f =
       let h : Each (PendingIn image table) (g ∷ p) = subst (FirstIn image table) f (firsts t) in
-      home-open image table t g (h .0) (first-home image table t (s .trees) g p (subst (λ (z : ThreadState). QueueIn image table z (queue t (s .trees))) w (k .queues t)) f)
+      home-open image table t g (h .0)
+      (first-home image table t (s .trees) g p (subst (λ (z : ThreadState). QueueIn image table z (queue t (s .trees))) w (k .queues t)) f)
 
   -- ---- threads
 
@@ -76,19 +82,23 @@ module _ (image table : List ℕ) (ok : Passed image table) (s : Machine) (k : S
   threads-kept e r (remains f a q) = k .threads
   threads-kept e r (founds g room) = k .threads
   threads-kept e r (starts t g p w f b) = getD-set idle (ThreadIn image table) (s .threads) t _ (k .threads) (start-in t g p w f, tt)
-  threads-kept e r (goes t l j j′ words g want w a b) = getD-set idle (ThreadIn image table) (s .threads) t _ (k .threads) (effect-in t l j _ w a .0)
+  threads-kept e r (goes t l j j′ words g want w a b) =
+      getD-set idle (ThreadIn image table) (s .threads) t _ (k .threads) (effect-in t l j _ w a .0)
   threads-kept e r (ends t l j a w c) = getD-set idle (ThreadIn image table) (s .threads) t idle (k .threads) tt
 
   -- ---- trees
 
   trees-kept : (e : Event) (r : Reply) → Happens R s e r → Accepted image e → Valid e → Each (TreeIn image table) (r .state .trees)
   trees-kept e r (remains f a q) h v = k .trees
-  trees-kept e r (founds g room) h v = each-append (TreeIn image table) (s .trees) _ (k .trees) (on-home image table ok g [] (arrival-in g h, tt), tt)
-  trees-kept e r (starts t g p w f b) h v = put-trees image table t (some p) (s .trees) (subst (FirstIn image table) f (firsts t) .1) h (k .trees)
+  trees-kept e r (founds g room) h v =
+      each-append (TreeIn image table) (s .trees) _ (k .trees) (on-home image table ok g [] (arrival-in g h, tt), tt)
+  trees-kept e r (starts t g p w f b) h v =
+      put-trees image table t (some p) (s .trees) (subst (FirstIn image table) f (firsts t) .1) h (k .trees)
   trees-kept e r (goes t l j j′ words g want w a b) h v =
       let old = pending-in (first t (s .trees)) (firsts t) in
       let new = added-in g (effect-in t l j _ w a .1) in
-      put-trees image table t (some (pendingOf (first t (s .trees)) ++ added g)) (s .trees) (each-append (PendingIn image table) (pendingOf (first t (s .trees))) (added g) old new) h (k .trees)
+      put-trees image table t (some (pendingOf (first t (s .trees)) ++ added g)) (s .trees)
+      (each-append (PendingIn image table) (pendingOf (first t (s .trees))) (added g) old new) h (k .trees)
   trees-kept e r (ends t l j a w c) h v =
       each-append (TreeIn image table) (put t none (s .trees)) _
       (put-trees image table t none (s .trees) tt h (k .trees))
@@ -102,34 +112,53 @@ module _ (image table : List ℕ) (ok : Passed image table) (s : Machine) (k : S
     where
       case : Dec (u ≡ t) → QueueIn image table (threadAt (applied R t m s) u) (queue u (put t (some (m .pending)) (s .trees)))
       case (yes e) =
-          rw (e, getD-set-same (s .threads) t (running (grant R (m .want) (locksOf (threadAt s t))) (m .job)) idle (rw (k .invariant .size) v), queue-put t (some (m .pending)) (s .trees))
-          (queue-runs image table (threadAt s t) (queue t (s .trees)) t (grant R (m .want) (locksOf (threadAt s t))) (m .job) p (m .pending) (sym (first-queue t (s .trees)) ∙ f) (k .queues t))
-      case (no e) = rw (getD-set-other (s .threads) t u (running (grant R (m .want) (locksOf (threadAt s t))) (m .job)) idle e, queue-put-other u t (some (m .pending)) (s .trees) e) (k .queues u)
+          rw (
+            e,
+            getD-set-same (s .threads) t (running (grant R (m .want) (locksOf (threadAt s t))) (m .job)) idle
+                (rw (k .invariant .size) v),
+            queue-put t (some (m .pending)) (s .trees),
+          )
+          (queue-runs image table (threadAt s t) (queue t (s .trees)) t (grant R (m .want) (locksOf (threadAt s t))) (m .job) p
+          (m .pending) (sym (first-queue t (s .trees)) ∙ f) (k .queues t))
+      case (no e) =
+          rw (
+            getD-set-other (s .threads) t u (running (grant R (m .want) (locksOf (threadAt s t))) (m .job)) idle e,
+            queue-put-other u t
+                (some (m .pending)) (s .trees) e,
+          )
+          (k .queues u)
 
   queue-finished : (t u : ℕ) → QueueIn image table (threadAt (finished R t s) u) (queue u (finished R t s .trees))
   queue-finished t u =
       rw (queue-append u (put t none (s .trees)) (requeued R (first t (s .trees))))
-      (queue-longer image table (threadAt (finished R t s) u) _ _ (case (ℕ-discrete u t)) (queue-homed image table u _ (requeued-homed image table (first t (s .trees)))))
+      (queue-longer image table (threadAt (finished R t s) u) _ _ (case (ℕ-discrete u t))
+      (queue-homed image table u _ (requeued-homed image table (first t (s .trees)))))
     where
       case : Dec (u ≡ t) → QueueIn image table (threadAt (finished R t s) u) (queue u (put t none (s .trees)))
-      case (yes e) = rw (e, getD-set-idle (s .threads) t, queue-put t none (s .trees)) (queue-idle image table (threadAt s t) (queue t (s .trees)) t (k .queues t))
+      case (yes e) =
+          rw (e, getD-set-idle (s .threads) t, queue-put t none (s .trees))
+          (queue-idle image table (threadAt s t) (queue t (s .trees)) t (k .queues t))
       case (no e) = rw (getD-set-other (s .threads) t u idle idle e, queue-put-other u t none (s .trees) e) (k .queues u)
 
-  queues-kept : (e : Event) (r : Reply) → Happens R s e r → Accepted image e → (u : ℕ) → QueueIn image table (threadAt (r .state) u) (queue u (r .state .trees))
+  queues-kept : (e : Event) (r : Reply) → Happens R s e r → Accepted image e → (u : ℕ)
+      → QueueIn image table (threadAt (r .state) u) (queue u (r .state .trees))
   queues-kept e r (remains f a q) h = k .queues
   queues-kept e r (founds g room) h =
       λ u. rw (queue-append u (s .trees) (founded R g ∷ []))
-      (queue-longer image table (threadAt s u) _ _ (k .queues u) (queue-homed image table u (founded R g ∷ []) (requeued-homed image table (some (g ∷ [])))))
+      (queue-longer image table (threadAt s u) _ _ (k .queues u)
+      (queue-homed image table u (founded R g ∷ []) (requeued-homed image table (some (g ∷ [])))))
   queues-kept e r (starts t g p w f b) h = queue-applied t (startOf R g p) (g ∷ p) h f
   queues-kept e r (goes t l j j′ words g want w a b) h =
-      let root = k .invariant .rooted t j (ap jobOf w) in queue-applied t (goOf (R .block (j .label)) (pendingOf (first t (s .trees))) j′ words g want) (root .0) h (root .1)
+      let root = k .invariant .rooted t j (ap jobOf w) in
+      queue-applied t (goOf (R .block (j .label)) (pendingOf (first t (s .trees))) j′ words g want) (root .0) h (root .1)
   queues-kept e r (ends t l j a w c) h = queue-finished t
 
 module _ (image table : List ℕ) (checked : Checked image table) where
   ok : Passed image table
   ok = passed image table [] checked .0
 
-  pub sound-react : (s : Machine) (e : Event) → Sound image table s → Accepted image e → Sound image table (react (rulesBy image table) s e .state)
+  pub sound-react : (s : Machine) (e : Event) → Sound image table s → Accepted image e
+      → Sound image table (react (rulesBy image table) s e .state)
   sound-react s e k h =
       let r = react (rulesBy image table) s e in
       let d : Happens (rulesBy image table) s e r = happens (rulesBy image table) s e in
@@ -141,7 +170,8 @@ module _ (image table : List ℕ) (checked : Checked image table) where
         queues = queues-kept image table ok s k e r d h;
       }
 
-  pub sound-final : (s : Machine) (l : List Event) → Sound image table s → Each (Accepted image) l → Sound image table (final (rulesBy image table) s l)
+  pub sound-final : (s : Machine) (l : List Event) → Sound image table s → Each (Accepted image) l
+      → Sound image table (final (rulesBy image table) s l)
   unfolding final
   sound-final s [] k h = k
   sound-final s (e ∷ l) k h = sound-final (react (rulesBy image table) s e .state) l (sound-react s e k (h .0)) (h .1)
@@ -164,12 +194,15 @@ module _ (image table : List ℕ) (checked : Checked image table) where
       → machineOk image table (react (rulesBy image table) s e .state) ≡ true
   well-formed-stays s e size m h = sound-ok image table _ (sound-react s e (sound-of image table s size m) h)
 
-  pub well-formed-to-the-end : (s : Machine) (l : List Event) → length (s .threads) ≡ threadCount → machineOk image table s ≡ true → Each (Accepted image) l
+  pub well-formed-to-the-end : (s : Machine) (l : List Event) → length (s .threads) ≡ threadCount → machineOk image table s ≡ true
+      → Each (Accepted image) l
       → machineOk image table (final (rulesBy image table) s l) ≡ true
   well-formed-to-the-end s l size m h = sound-ok image table _ (sound-final s l (sound-of image table s size m) h)
 
 -- of a well formed machine, as of any that has the invariant: a block whose lock the event's own thread does not hold keeps all its words
-pub words-of-other-blocks : (image table : List ℕ) (s : Machine) (e : Event) (b : ℕ) → length (s .threads) ≡ threadCount → machineOk image table s ≡ true
+pub words-of-other-blocks : (image table : List ℕ) (s : Machine) (e : Event) (b : ℕ) → length (s .threads) ≡ threadCount
+    → machineOk image table s ≡ true
     → ((t : ℕ) → threadOf e ≡ some t → has (rowAt table b .lock) (locksOf (threadAt s t)) ≡ false)
     → window b (react (rulesBy image table) s e .state .words) ≡ window b (s .words)
-words-of-other-blocks image table s e b size m n = words-of-other-blocks-stay (rulesBy image table) s (sound-of image table s size m .invariant) e b n
+words-of-other-blocks image table s e b size m n =
+    words-of-other-blocks-stay (rulesBy image table) s (sound-of image table s size m .invariant) e b n

@@ -37,7 +37,10 @@ module _ (image table : List ℕ) where
 
   -- a signal of the thread's own block starts a job that may be there
   pub home-open : (t : ℕ) (g : Signal) → PendingIn image table g → t ≡ home (rulesBy image table) g → PlaceIn image table t (g .label)
-  home-open t g h e = record { below = pending-below g h; allowed = own (eqb (rowAt table (blockAt image (g .label)) .kind) 1) (eq-eqb _ t (sym e)) }
+  home-open t g h e = record {
+    below = pending-below g h;
+    allowed = own (eqb (rowAt table (blockAt image (g .label)) .kind) 1) (eq-eqb _ t (sym e));
+  }
     where
       own : (a : Bool) {b : Bool} → b ≡ true → (a || b) ≡ true
       own true q = refl
@@ -52,14 +55,16 @@ module _ (image table : List ℕ) where
   pub first-in : (t : ℕ) (l : List Tree) → Each (TreeIn image table) l → FirstIn (first t l)
   first-in = first-has (TreeIn image table) (Each (PendingIn image table)) (λ x h. h .pending)
 
-  pub put-trees : (t : ℕ) (o : Option (List Signal)) (l : List Tree) → FirstIn o → t < threadCount → Each (TreeIn image table) l → Each (TreeIn image table) (put t o l)
+  pub put-trees : (t : ℕ) (o : Option (List Signal)) (l : List Tree) → FirstIn o → t < threadCount → Each (TreeIn image table) l
+      → Each (TreeIn image table) (put t o l)
   put-trees t o l k v h = put-each (TreeIn image table) (Each (PendingIn image table)) t (λ p q. record { thread = v; pending = q }) o l k h
 
   module _ (checked : Passed image table) where
     home-below : (g : Signal) → PendingIn image table g → home (rulesBy image table) g < threadCount
     home-below g h = row-in image table _ checked (block-below image table checked (g .label) (pending-below g h)) .thread
 
-    pub on-home : (g : Signal) (p : List Signal) → Each (PendingIn image table) (g ∷ p) → TreeIn image table (record { thread = home (rulesBy image table) g; pending = g ∷ p })
+    pub on-home : (g : Signal) (p : List Signal) → Each (PendingIn image table) (g ∷ p)
+        → TreeIn image table (record { thread = home (rulesBy image table) g; pending = g ∷ p })
     on-home g p h = record { thread = home-below g (h .0); pending = h }
 
     pub requeued-trees : (o : Option (List Signal)) → FirstIn o → Each (TreeIn image table) (requeued (rulesBy image table) o)
@@ -69,7 +74,8 @@ module _ (image table : List ℕ) where
 
   -- ---- queues
 
-  homed-at : (t : ℕ) (g : Signal) (p : List Signal) → t ≡ home (rulesBy image table) g → Homed image table (record { thread = t; pending = g ∷ p })
+  homed-at : (t : ℕ) (g : Signal) (p : List Signal) → t ≡ home (rulesBy image table) g
+      → Homed image table (record { thread = t; pending = g ∷ p })
   unfolding homed
   homed-at t g p e = eq-eqb t _ e
 
@@ -87,7 +93,8 @@ module _ (image table : List ℕ) where
       case (no e) ih = rw (queue-there t x l e) ih
 
   -- the first tree of a queue of trees at home belongs to the thread of its oldest signal's block
-  pub first-home : (t : ℕ) (l : List Tree) (g : Signal) (p : List Signal) → Each (Homed image table) (queue t l) → first t l ≡ some (g ∷ p) → t ≡ home (rulesBy image table) g
+  pub first-home : (t : ℕ) (l : List Tree) (g : Signal) (p : List Signal) → Each (Homed image table) (queue t l)
+      → first t l ≡ some (g ∷ p) → t ≡ home (rulesBy image table) g
   first-home t [] g p h f = never (unfold first in cc)
   first-home t (x ∷ l) g p h f = case (ℕ-discrete (x .thread) t) (first-home t l g p)
     where
@@ -95,19 +102,22 @@ module _ (image table : List ℕ) where
       head [] k e = never (cc)
       head (a ∷ q) k e = let z : a ≡ g = cc in eqb-true _ _ k ∙ ap (home (rulesBy image table)) z
 
-      case : Dec (x .thread ≡ t) → (Each (Homed image table) (queue t l) → first t l ≡ some (g ∷ p) → t ≡ home (rulesBy image table) g) → t ≡ home (rulesBy image table) g
+      case : Dec (x .thread ≡ t) → (Each (Homed image table) (queue t l) → first t l ≡ some (g ∷ p) → t ≡ home (rulesBy image table) g)
+          → t ≡ home (rulesBy image table) g
       case (yes e) ih =
           let q : x .pending ≡ g ∷ p = cc (first-here t x l e) in
           sym e ∙ head (x .pending) (unfold homed in (rw (queue-here t x l e) at h) .0) q
       case (no e) ih = ih (rw (queue-there t x l e) at h) (sym (first-there t x l e) ∙ f)
 
-  pub queue-longer : (w : ThreadState) (q r : List Tree) → QueueIn image table w q → Each (Homed image table) r → QueueIn image table w (q ++ r)
+  pub queue-longer : (w : ThreadState) (q r : List Tree) → QueueIn image table w q → Each (Homed image table) r
+      → QueueIn image table w (q ++ r)
   queue-longer idle q r h k = each-append (Homed image table) q r h k
   queue-longer (running locks j) [] r h k = absurd h
   queue-longer (running locks j) (x ∷ q) r h k = each-append (Homed image table) q r h k
 
   -- the thread runs on with its first tree changed, or is idle with that tree gone
-  pub queue-runs : (w : ThreadState) (q : List Tree) (t locks : ℕ) (j : Job) (p p′ : List Signal) → headPending q ≡ some p → QueueIn image table w q
+  pub queue-runs : (w : ThreadState) (q : List Tree) (t locks : ℕ) (j : Job) (p p′ : List Signal) → headPending q ≡ some p
+      → QueueIn image table w q
       → QueueIn image table (running locks j) (refitted t (some p′) q)
   queue-runs w [] t locks j p p′ f h = never (cc)
   queue-runs idle (x ∷ q) t locks j p p′ f h = h .1

@@ -33,7 +33,8 @@ module _ (R : Rules) (s : Machine) where
   abbrev Locked : Event → ℕ → Type 0
   Locked e b = (t : ℕ) → threadOf e ≡ some t → has (R .lock b) (locksOf (threadAt s t)) ≡ false
 
-  block-kept : Invariant R s → (b : ℕ) (e : Event) (r : Reply) → Happens R s e r → Locked e b → window b (r .state .words) ≡ window b (s .words)
+  block-kept : Invariant R s → (b : ℕ) (e : Event) (r : Reply) → Happens R s e r → Locked e b
+      → window b (r .state .words) ≡ window b (s .words)
   block-kept i b e r (remains f a q) n = refl
   block-kept i b e r (founds g room) n = refl
   block-kept i b e r (starts t g p w f k) n = refl
@@ -42,7 +43,8 @@ module _ (R : Rules) (s : Machine) where
       (λ c. true≢false (sym (i .keeps t j (ap jobOf w) (R .block (j .label)) (List·Memᴰ·head refl)) ∙ rw c at (n t refl)))
   block-kept i b e r (ends t l j a w c) n = refl
 
-  pub words-of-other-blocks-stay : Invariant R s → (e : Event) (b : ℕ) → ((t : ℕ) → threadOf e ≡ some t → has (R .lock b) (locksOf (threadAt s t)) ≡ false)
+  pub words-of-other-blocks-stay : Invariant R s → (e : Event) (b : ℕ)
+      → ((t : ℕ) → threadOf e ≡ some t → has (R .lock b) (locksOf (threadAt s t)) ≡ false)
       → window b (react R s e .state .words) ≡ window b (s .words)
   words-of-other-blocks-stay i e b n = block-kept i b e (react R s e) (happens R s e) n
 

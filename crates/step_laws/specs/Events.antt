@@ -7,15 +7,13 @@ use Prim.Native.Nat.{ℕ, _^_}
 use lib.Bits.{bitOr}
 use lib.ListN.{set}
 use Rattle.rules.specs.Sorts
-use Rattle.rules.specs.Machine.{Signal, Job, ThreadState, idle, running, Machine, threadAt, first, put, treeThreads}
+use Rattle.rules.specs.Machine.{Signal, Job, idle, running, Machine, threadAt, first, put, treeThreads}
+pub use Rattle.rules.specs.Machine.{withThread}
 use Rattle.rules.specs.Events.{arrive, step, cut}
-use Rattle.rules.specs.Steps.{Rules, Reply, Move, begin, home, founded, planArrive, planIdle, planStep, planCut, plan, held, blocked, finished, grown, attempt, carry, react}
+use Rattle.rules.specs.Steps.{Rules, Reply, Move, begin, home, founded, planArrive, planIdle, planStep, planCut, plan, held, blocked}
+use Rattle.rules.specs.Steps.{finished, grown, attempt, carry, react}
 use Rattle.rules.specs.declared.answer.Answer.{Answer}
 use Rattle.rules.specs.declared.answer.Answer.the-variants.{Taken, ListFull, NoWork, Waiting, Started, WasCut, NothingToCut}
-
--- a machine with another thread state, or other trees besides
-abbrev pub withThread : Machine → ℕ → ThreadState → Machine
-withThread s t w = record { words = s .words; threads = set (s .threads) t w; trees = s .trees }
 
 abbrev pub reply : Machine → Answer → Reply
 reply s a = record { state = s; answer = a }
@@ -23,7 +21,8 @@ reply s a = record { state = s; answer = a }
 module _ (R : Rules) (s : Machine) where
   -- ---- arrival
 
-  pub arrives : (g : Signal) → R .room (treeThreads (s .trees)) (home R g) ≡ true → react R s (arrive g) ≡ reply (grown (founded R g) s) Taken
+  pub arrives : (g : Signal) → R .room (treeThreads (s .trees)) (home R g) ≡ true
+      → react R s (arrive g) ≡ reply (grown (founded R g) s) Taken
   unfolding react plan planArrive carry
   arrives g e = rw e refl
 
@@ -63,5 +62,10 @@ module _ (R : Rules) (s : Machine) where
       start-waits h = starts ∙ unfold attempt in rw h refl
 
       pub start-runs : held lock (set (s .threads) t idle) ≡ false
-          → react R s (step t) ≡ reply (record { words = s .words; threads = set (s .threads) t (running (bitOr 0 (2 ^ lock)) (begin g)); trees = put t (some p) (s .trees) }) Started
+          → react R s (step t) ≡ reply
+          (record {
+            words = s .words;
+            threads = set (s .threads) t (running (bitOr 0 (2 ^ lock)) (begin g));
+            trees = put t (some p) (s .trees);
+          }) Started
       start-runs h = starts ∙ unfold attempt start in rw (h, rests) refl

@@ -9,12 +9,14 @@ use lib.ListN.{length, set}
 use Rattle.rules.specs.Sorts
 use Rattle.rules.specs.Machine.{Signal, Job, idle, running, Machine, threadAt, first, put, window, keep}
 use Rattle.rules.specs.Events.{step}
-use Rattle.rules.specs.Steps.{Rules, Effect, traps, exits, moves, added, planRunning, planStep, plan, held, blocked, finished, attempt, carry, react}
+use Rattle.rules.specs.Steps.{Rules, Effect, traps, exits, moves, added, planRunning, planStep, plan, held, blocked, finished, attempt}
+use Rattle.rules.specs.Steps.{carry, react}
 use Rattle.rules.specs.declared.answer.Answer.the-variants.{Waiting, Moved, Exited, Trapped}
 use Rattle.step_laws.specs.Same.{keep-window, put-same}
 use Rattle.step_laws.specs.Events.{withThread, reply}
 
-module _ (R : Rules) (s : Machine) (t l : ℕ) (j : Job) (p : List Signal) (runs : threadAt s t ≡ running l j) (tree : first t (s .trees) ≡ some p) where
+module _ (R : Rules) (s : Machine) (t l : ℕ) (j : Job) (p : List Signal) (runs : threadAt s t ≡ running l j)
+    (tree : first t (s .trees) ≡ some p) where
   abbrev pub block : ℕ
   block = R .block (j .label)
 
@@ -34,13 +36,19 @@ module _ (R : Rules) (s : Machine) (t l : ℕ) (j : Job) (p : List Signal) (runs
 
   -- the machine after a move: the block's words, the thread with these locks, and its tree's signals
   abbrev moved : ℕ → Job → List ℕ → Option Signal → Machine
-  moved locks k ws g = record { words = keep block ws (s .words); threads = set (s .threads) t (running locks k); trees = put t (some (p ++ added g)) (s .trees) }
+  moved locks k ws g = record {
+    words = keep block ws (s .words);
+    threads = set (s .threads) t (running locks k);
+    trees = put t (some (p ++ added g)) (s .trees);
+  }
 
-  pub moves-by : (k : Job) (ws : List ℕ) (g : Option Signal) → effect ≡ moves k ws g none → react R s (step t) ≡ reply (moved l k ws g) Moved
+  pub moves-by : (k : Job) (ws : List ℕ) (g : Option Signal) → effect ≡ moves k ws g none
+      → react R s (step t) ≡ reply (moved l k ws g) Moved
   moves-by k ws g h = by-effect (moves k ws g none) h ∙ unfold carry planRunning blocked attempt in rw runs refl
 
   -- no word of the block and no signal changes
-  pub moves-on : (k : Job) → effect ≡ moves k (window block (s .words)) none none → react R s (step t) ≡ reply (withThread s t (running l k)) Moved
+  pub moves-on : (k : Job) → effect ≡ moves k (window block (s .words)) none none
+      → react R s (step t) ≡ reply (withThread s t (running l k)) Moved
   moves-on k h =
       moves-by k (window block (s .words)) none h
       ∙ rw (keep-window block (s .words), append-nil p, put-same t p (s .trees) tree) refl
@@ -49,7 +57,9 @@ module _ (R : Rules) (s : Machine) (t l : ℕ) (j : Job) (p : List Signal) (runs
     pub waits-for : held (R .lock c) (set (s .threads) t idle) ≡ true → react R s (step t) ≡ reply s (Waiting (Sorts.lock (R .lock c)))
     waits-for e = by-effect (moves k (window block (s .words)) none (some c)) h ∙ unfold carry planRunning blocked attempt in rw e refl
 
-    pub enters : held (R .lock c) (set (s .threads) t idle) ≡ false → react R s (step t) ≡ reply (withThread s t (running (bitOr l (2 ^ R .lock c)) k)) Moved
+    pub enters : held (R .lock c) (set (s .threads) t idle) ≡ false
+        → react R s (step t) ≡ reply (withThread s t (running (bitOr l (2 ^ R .lock c)) k)) Moved
     enters e =
         by-effect (moves k (window block (s .words)) none (some c)) h
-        ∙ unfold carry planRunning blocked attempt in rw (e, runs, keep-window block (s .words), append-nil p, put-same t p (s .trees) tree) refl
+        ∙ unfold carry planRunning blocked attempt in rw
+        (e, runs, keep-window block (s .words), append-nil p, put-same t p (s .trees) tree) refl

@@ -27,7 +27,9 @@ stores-below : (n i k v : ℕ) (ws vs : List ℕ) → k < i → set (stores n i 
 unfolding stores
 stores-below zero i k v ws vs h = refl
 stores-below (suc n) i k v ws [] h = refl
-stores-below (suc n) i k v ws (x ∷ vs) h = set-comm (stores n (suc i) vs ws) i k x v (omega arith) ∙ ap (λ (z : List ℕ). set z i x) (stores-below n (suc i) k v ws vs (omega arith))
+stores-below (suc n) i k v ws (x ∷ vs) h =
+    set-comm (stores n (suc i) vs ws) i k x v (omega arith)
+    ∙ ap (λ (z : List ℕ). set z i x) (stores-below n (suc i) k v ws vs (omega arith))
 
 stores-set : (n i k v : ℕ) (ws : List ℕ) → k < n → stores n i (set (cells n i ws) k v) ws ≡ set ws (i + k) v
 unfolding stores cells
@@ -35,7 +37,8 @@ stores-set zero i k v ws h = absurd (omega arith)
 stores-set (suc n) i zero v ws h = let e : i + 0 ≡ i = omega arith in rw (stores-cells n (suc i) ws, e) refl
 stores-set (suc n) i (suc k) v ws h =
     let e : suc i + k ≡ i + suc k = omega arith in
-    rw (stores-set n (suc i) k v ws (omega arith), e) (set-comm ws (i + suc k) i v (getD ws i 0) (omega arith) ∙ ap (λ (z : List ℕ). set z (i + suc k) v) (set-getD ws i 0))
+    rw (stores-set n (suc i) k v ws (omega arith), e)
+    (set-comm ws (i + suc k) i v (getD ws i 0) (omega arith) ∙ ap (λ (z : List ℕ). set z (i + suc k) v) (set-getD ws i 0))
 
 -- one word of a block stored to
 pub keep-set : (b w v : ℕ) (ws : List ℕ) → w < wordCount → keep b (set (window b ws) w v) ws ≡ set ws (wordCount * b + w) v
@@ -54,7 +57,8 @@ stores-more (suc n) i (suc k) v (x ∷ vs) ws h l =
     set-comm (stores n (suc i) vs ws) i (i + suc k) x v (omega arith) ∙ ap (λ (z : List ℕ). set z i x) m
 
 -- one word more of a block stored to
-pub keep-more : (b w v : ℕ) (vs ws : List ℕ) → w < wordCount → length vs ≡ wordCount → set (keep b vs ws) (wordCount * b + w) v ≡ keep b (set vs w v) ws
+pub keep-more : (b w v : ℕ) (vs ws : List ℕ) → w < wordCount → length vs ≡ wordCount
+    → set (keep b vs ws) (wordCount * b + w) v ≡ keep b (set vs w v) ws
 unfolding keep
 keep-more b w v vs ws h l = stores-more wordCount (wordCount * b) w v vs ws h (omega (arith, l))
 

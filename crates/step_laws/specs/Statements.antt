@@ -24,7 +24,8 @@ use Rattle.step_laws.specs.Same.{keep-window, put-same}
 use Rattle.step_laws.specs.Events.{withThread, reply}
 use Rattle.step_laws.specs.Running.{traps-by, exits-by, moves-by, moves-on, waits-for, enters}
 
-module _ (image table : List ℕ) (s : Machine) (t l : ℕ) (j : Job) (p : List Signal) (runs : threadAt s t ≡ running l j) (tree : first t (s .trees) ≡ some p) where
+module _ (image table : List ℕ) (s : Machine) (t l : ℕ) (j : Job) (p : List Signal) (runs : threadAt s t ≡ running l j)
+    (tree : first t (s .trees) ≡ some p) where
   abbrev R : Rules
   R = rulesBy image table
 
@@ -41,10 +42,12 @@ module _ (image table : List ℕ) (s : Machine) (t l : ℕ) (j : Job) (p : List 
   effect = actBy image table t j (window own (s .words)) (length p)
 
   -- an operand that cannot be read
-  pub unread : (S : Statement) (k : ℕ) → statementOf r ≡ S → readAll cellsOf (reads S (dataOf r)) ≡ trap k → react R s (step t) ≡ reply (finished R t s) (Trapped k)
+  pub unread : (S : Statement) (k : ℕ) → statementOf r ≡ S → readAll cellsOf (reads S (dataOf r)) ≡ trap k
+      → react R s (step t) ≡ reply (finished R t s) (Trapped k)
   unread S k e h = traps-by R s t l j p runs tree k (unfold actBy outcome in rw (e, h) refl)
 
-  pub skips : statementOf r ≡ Skip → react R s (step t) ≡ reply (withThread s t (running l (job (labelA r) (j .returns) (j .registers)))) Moved
+  pub skips : statementOf r ≡ Skip
+      → react R s (step t) ≡ reply (withThread s t (running l (job (labelA r) (j .returns) (j .registers)))) Moved
   skips e = moves-on R s t l j p runs tree _ (unfold actBy outcome readAll perform in rw e refl)
 
   pub leaves : statementOf r ≡ Exit → react R s (step t) ≡ reply (finished R t s) Exited
@@ -66,18 +69,26 @@ module _ (image table : List ℕ) (s : Machine) (t l : ℕ) (j : Job) (p : List 
 
       pub assigns : (z : Results) → compute (a .operation) x y ≡ got z
           → react R s (step t)
-          ≡ reply (record { words = keep own (assigned a z cellsOf .words) (s .words); threads = set (s .threads) t (running l (job (labelA r) (j .returns) (assigned a z cellsOf .registers))); trees = s .trees }) Moved
+          ≡ reply
+          (record {
+            words = keep own (assigned a z cellsOf .words) (s .words);
+            threads = set (s .threads) t (running l (job (labelA r) (j .returns) (assigned a z cellsOf .registers)));
+            trees = s .trees;
+          }) Moved
       assigns z c =
-          moves-by R s t l j p runs tree (job (labelA r) (j .returns) (assigned a z cellsOf .registers)) (assigned a z cellsOf .words) none (unfold actBy outcome perform in rw (e, h, c) refl)
+          moves-by R s t l j p runs tree (job (labelA r) (j .returns) (assigned a z cellsOf .registers))
+          (assigned a z cellsOf .words) none (unfold actBy outcome perform in rw (e, h, c) refl)
           ∙ rw (append-nil p, put-same t p (s .trees) tree) refl
 
     -- ---- IF
 
     pub branches : (c : Condition) → statementOf r ≡ If c → readAll cellsOf (reads (If c) (dataOf r)) ≡ got vs
-        → react R s (step t) ≡ reply (withThread s t (running l (job (cond (holds (c .relation) x y) (labelA r) (labelB r)) (j .returns) (j .registers)))) Moved
+        → react R s (step t) ≡ reply
+        (withThread s t (running l (job (cond (holds (c .relation) x y) (labelA r) (labelB r)) (j .returns) (j .registers)))) Moved
     branches c e h = case (holds (c .relation) x y) refl
       where
-        case : (b : Bool) → holds (c .relation) x y ≡ b → react R s (step t) ≡ reply (withThread s t (running l (job (cond b (labelA r) (labelB r)) (j .returns) (j .registers)))) Moved
+        case : (b : Bool) → holds (c .relation) x y ≡ b
+            → react R s (step t) ≡ reply (withThread s t (running l (job (cond b (labelA r) (labelB r)) (j .returns) (j .registers)))) Moved
         case true q = moves-on R s t l j p runs tree _ (unfold actBy outcome perform in rw (e, h, q) refl)
         case false q = moves-on R s t l j p runs tree _ (unfold actBy outcome perform in rw (e, h, q) refl)
 
@@ -118,7 +129,8 @@ module _ (image table : List ℕ) (s : Machine) (t l : ℕ) (j : Job) (p : List 
             trees = put t (some (p ++ record { label = labelA r; values = vs } ∷ [])) (s .trees);
           }) Moved
       buffers q =
-          moves-by R s t l j p runs tree (job (labelB r) (j .returns) (j .registers)) (window own (s .words)) (some (record { label = labelA r; values = vs })) (unfold actBy outcome perform in rw (e, h, q) refl)
+          moves-by R s t l j p runs tree (job (labelB r) (j .returns) (j .registers)) (window own (s .words))
+          (some (record { label = labelA r; values = vs })) (unfold actBy outcome perform in rw (e, h, q) refl)
           ∙ rw (keep-window own (s .words)) refl
 
     -- ---- CALL: 8 return labels, an FD block of another thread, then the lock
@@ -139,7 +151,8 @@ module _ (image table : List ℕ) (s : Machine) (t l : ℕ) (j : Job) (p : List 
           call-waits w = waits-for R s t l j p runs tree _ into calls w
 
           pub call-enters : held lock (set (s .threads) t idle) ≡ false
-              → react R s (step t) ≡ reply (withThread s t (running (bitOr l (2 ^ lock)) (job (labelA r) (j .returns ++ labelB r ∷ []) (fill vs)))) Moved
+              → react R s (step t) ≡ reply
+              (withThread s t (running (bitOr l (2 ^ lock)) (job (labelA r) (j .returns ++ labelB r ∷ []) (fill vs)))) Moved
           call-enters w = enters R s t l j p runs tree _ into calls w
 
     -- ---- RETURN

@@ -2,7 +2,8 @@
 use mathlib.Core.Path.{_≡_, refl, sym, _∙_, subst}
 use mathlib.Core.Logic.{_⊎_, inl, inr, ite, if-neg, if-pos, _≢_}
 use mathlib.Core.Bool.{Bool, true, false, cond}
-use mathlib.Core.List.{List, [], _∷_, _++_, List·Memᴰ, List·Memᴰ·head, List·Memᴰ·tail, List·Memᴰ·not-nil, List·Memᴰ·cases-cons, List·Memᴰ·append-cases, List·Memᴰ·eq-of-singleton}
+use mathlib.Core.List.{List, [], _∷_, _++_, List·Memᴰ, List·Memᴰ·head, List·Memᴰ·tail, List·Memᴰ·not-nil, List·Memᴰ·cases-cons}
+use mathlib.Core.List.{List·Memᴰ·append-cases, List·Memᴰ·eq-of-singleton}
 use Prim.Native.Nat.{ℕ, zero, suc, _+_, _<_, _≤_}
 use native.Mathlib.Decide.{ℕ-discrete}
 use native.Mathlib.Omega.{arith}
@@ -38,17 +39,22 @@ module _ (x : ℕ) (p : ℕ → Bool) where
   count-without zero h e = absurd (omega arith)
   count-without (suc n) h e = go (ℕ-discrete n x) (count-without n)
     where
-      go : Dec (n ≡ x) → (x < n → p x ≡ true → count p n ≡ suc (count (without x p) n)) → cond (p n) 1 0 + count p n ≡ suc (cond (without x p n) 1 0 + count (without x p) n)
+      go : Dec (n ≡ x) → (x < n → p x ≡ true → count p n ≡ suc (count (without x p) n))
+          → cond (p n) 1 0 + count p n ≡ suc (cond (without x p n) 1 0 + count (without x p) n)
       go (yes q) ih = rw (without-same n q, q, e, count-below x (omega arith)) (omega arith)
       go (no q) ih = rw (without-other n q, ih (omega arith) e) (omega arith)
 
 -- so many different numbers pass the test
-pub distinct-count : (p : ℕ → Bool) (n : ℕ) (l : List ℕ) → Distinct l → ((x : ℕ) → List·Memᴰ x l → (x < n) × (p x ≡ true)) → length l ≤ count p n
+pub distinct-count : (p : ℕ → Bool) (n : ℕ) (l : List ℕ) → Distinct l → ((x : ℕ) → List·Memᴰ x l → (x < n) × (p x ≡ true))
+    → length l ≤ count p n
 distinct-count p n [] d h = omega arith
 distinct-count p n (x ∷ l) d h =
     let k = h x (List·Memᴰ·head refl) in
     let e : count p n ≡ suc (count (without x p) n) = count-without x p n (k .0) (k .1) in
-    let i : length l ≤ count (without x p) n = distinct-count (without x p) n l (d .1) (λ y m. (h y (List·Memᴰ·tail m) .0, without-other x p y (λ q. d .0 (subst (λ (z : ℕ). List·Memᴰ z l) q m)) ∙ h y (List·Memᴰ·tail m) .1)) in
+    let i : length l ≤ count (without x p) n =
+    distinct-count (without x p) n l (d .1)
+    (λ y m. (h y (List·Memᴰ·tail m) .0, without-other x p y (λ q. d .0 (subst (λ (z : ℕ). List·Memᴰ z l) q m)) ∙ h y (List·Memᴰ·tail m) .1))
+    in
     omega arith
 
 unfoldable all : ℕ → Bool

@@ -40,7 +40,9 @@ module _ (next : ℕ → Option ℕ) (t : ℕ) (w : Walk) (g : Walked next threa
 
   pub met-length : length (metBytes w) ≡ threadCount
   unfolding metBytes
-  met-length = length-append (w .threads) (replicate (threadCount - length (w .threads)) 255) ∙ omega (arith, at-most, length-replicate {A = ℕ} (threadCount - length (w .threads)) 255)
+  met-length =
+      length-append (w .threads) (replicate (threadCount - length (w .threads)) 255)
+      ∙ omega (arith, at-most, length-replicate {A = ℕ} (threadCount - length (w .threads)) 255)
 
   -- the number returned: the count, with 256 more exactly if a ring closed
   pub met-count : metCount w ≡ written (metBytes w) + cond (w .ring) 256 0

@@ -13,13 +13,15 @@ use Rattle.rules.specs.Sorts
 use Rattle.rules.specs.Sizes.{threadCount}
 use Rattle.rules.specs.Bytes.{has}
 use Rattle.rules.specs.Machine.{Signal, ThreadState, idle, running, Machine, threadAt, locksOf, first}
-use Rattle.rules.specs.Steps.{Rules, Effect, traps, exits, moves, Move, Plan, stay, grow, move, finish, planIdle, planRunning, planStep, plan, held, blocked, attempt, carry, react}
+use Rattle.rules.specs.Steps.{Rules, Effect, traps, exits, moves, Move, Plan, stay, grow, move, finish, planIdle, planRunning, planStep}
+use Rattle.rules.specs.Steps.{plan, held, blocked, attempt, carry, react}
 use Rattle.rules.specs.Walk.{nextTurn, asked, holder, awaits, walkFrom}
 use Rattle.rules.specs.declared.answer.Answer.{Answer}
-use Rattle.rules.specs.declared.answer.Answer.the-variants.{Taken, ListFull, NoWork, Waiting, Started, Moved, Exited, Trapped, WasCut, NothingToCut}
+use Rattle.rules.specs.declared.answer.Answer.the-variants.{Taken, ListFull, NoWork, Waiting, Started, Moved, Exited, Trapped, WasCut}
+use Rattle.rules.specs.declared.answer.Answer.the-variants.{NothingToCut}
 use Rattle.laws.specs.Sets.{has-none}
 use Rattle.laws.specs.Locks.{getD-set-idle}
-use Rattle.laws.specs.Logic.{never}
+use Rattle.laws.specs.Logic.{never, or-cases}
 use Rattle.walk_laws.specs.Walked.{Walked, walked}
 
 module _ (R : Rules) where
@@ -37,18 +39,21 @@ module _ (R : Rules) where
   Turned s t WasCut = ⊥
   Turned s t NothingToCut = ⊥
 
-  turned-blocked : (s : Machine) (t : ℕ) (m : Move) (b : ℕ) (h : Bool) → held (R .lock b) (set (s .threads) t idle) ≡ h → Turned s t (m .answer)
+  turned-blocked : (s : Machine) (t : ℕ) (m : Move) (b : ℕ) (h : Bool) → held (R .lock b) (set (s .threads) t idle) ≡ h
+      → Turned s t (m .answer)
       → Turned s t (attempt R t m s (cond h (some (R .lock b)) none) .answer)
   unfolding attempt
   turned-blocked s t m b true e k = e
   turned-blocked s t m b false e k = k
 
-  turned-move : (s : Machine) (t : ℕ) (m : Move) (w : Option ℕ) → Turned s t (m .answer) → Turned s t (attempt R t m s (blocked R t (s .threads) w) .answer)
+  turned-move : (s : Machine) (t : ℕ) (m : Move) (w : Option ℕ) → Turned s t (m .answer)
+      → Turned s t (attempt R t m s (blocked R t (s .threads) w) .answer)
   unfolding attempt blocked
   turned-move s t m none k = k
   turned-move s t m (some b) k = turned-blocked s t m b _ refl k
 
-  turned-idle : (s : Machine) (t : ℕ) (f : Option (List Signal)) → threadAt s t ≡ idle → first t (s .trees) ≡ f → Turned s t (carry R s (planIdle R t f) .answer)
+  turned-idle : (s : Machine) (t : ℕ) (f : Option (List Signal)) → threadAt s t ≡ idle → first t (s .trees) ≡ f
+      → Turned s t (carry R s (planIdle R t f) .answer)
   unfolding carry planIdle
   turned-idle s t none i e = (i, λ p h. never (cc))
   turned-idle s t (some []) i e = (i, λ p h. cc)
@@ -108,17 +113,22 @@ module _ (R : Rules) where
       case idle e = unfold plan planStep in rw e (plain-idle t _)
       case (running l j) e = unfold plan planStep in rw e (plain-running t _ _ _)
 
-  carried : (s : Machine) (t : ℕ) (p : Plan) → Plain t p → Option·map (λ l. holder l (s .threads)) (asked (carry R s p .answer)) ≡ heldBy (s .threads) t (wants R p)
+  carried : (s : Machine) (t : ℕ) (p : Plan) → Plain t p
+      → Option·map (λ l. holder l (s .threads)) (asked (carry R s p .answer)) ≡ heldBy (s .threads) t (wants R p)
   unfolding carry attempt blocked
   carried s t (stay a) h = rw h refl
   carried s t (grow x) h = absurd h
   carried s t (move u m) h = rw (h .0) (case (m .want))
     where
-      free : (b : ℕ) (z : Bool) → Option·map (λ l. holder l (s .threads)) (asked (attempt R t m s (cond z (some (R .lock b)) none) .answer)) ≡ cond z (some (holder (R .lock b) (s .threads))) none
+      free : (b : ℕ) (z : Bool)
+          → Option·map (λ l. holder l (s .threads)) (asked (attempt R t m s (cond z (some (R .lock b)) none) .answer)) ≡ cond z
+          (some (holder (R .lock b) (s .threads))) none
       free b true = refl
       free b false = rw (h .1) refl
 
-      case : (w : Option ℕ) → Option·map (λ l. holder l (s .threads)) (asked (attempt R t m s (blocked R t (s .threads) w) .answer)) ≡ heldBy (s .threads) t (Option·map (R .lock) w)
+      case : (w : Option ℕ)
+          → Option·map (λ l. holder l (s .threads)) (asked (attempt R t m s (blocked R t (s .threads) w) .answer)) ≡ heldBy (s .threads) t
+          (Option·map (R .lock) w)
       case none = rw (h .1) refl
       case (some b) = free b (held (R .lock b) (set (s .threads) t idle))
   carried s t (finish u a) h = rw h refl
@@ -132,10 +142,6 @@ module _ (R : Rules) where
 abbrev pub runs : ThreadState → Bool
 runs idle = false
 runs (running l j) = true
-
-or-cases : (a b : Bool) → a || b ≡ true → (a ≡ true) ⊎ (b ≡ true)
-or-cases true b h = inl refl
-or-cases false b h = inr h
 
 -- a thread that holds a lock runs
 pub holds-runs : (l : ℕ) (w : ThreadState) → has l (locksOf w) ≡ true → runs w ≡ true
@@ -168,17 +174,20 @@ module _ (R : Rules) where
       case (inr e) ih = (suc (ih e .0), ih e .1)
 
   -- held by a thread other than t
-  held-other : (l : ℕ) (ws : List ThreadState) (t : ℕ) → held l (set ws t idle) ≡ true → (k : ℕ) × (k ≢ t) × (has l (locksOf (getD ws k idle)) ≡ true)
+  held-other : (l : ℕ) (ws : List ThreadState) (t : ℕ) → held l (set ws t idle) ≡ true
+      → (k : ℕ) × (k ≢ t) × (has l (locksOf (getD ws k idle)) ≡ true)
   held-other l ws t h = case (held-some l (set ws t idle) h)
     where
-      case : ((k : ℕ) × (has l (locksOf (getD (set ws t idle) k idle)) ≡ true)) → (k : ℕ) × (k ≢ t) × (has l (locksOf (getD ws k idle)) ≡ true)
+      case : ((k : ℕ) × (has l (locksOf (getD (set ws t idle) k idle)) ≡ true))
+          → (k : ℕ) × (k ≢ t) × (has l (locksOf (getD ws k idle)) ≡ true)
       case q = on (ℕ-discrete (q .0) t)
         where
           on : Dec (q .0 ≡ t) → (k : ℕ) × (k ≢ t) × (has l (locksOf (getD ws k idle)) ≡ true)
           on (yes e) = absurd (true≢false (sym (q .1) ∙ rw (e, getD-set-idle ws t) (has-none l)))
           on (no e) = (q .0, e, rw (getD-set-other ws t (q .0) idle idle e) at (q .1))
 
-  -- a thread waits for another: its next step would be answered 4 with a lock that another thread has, and the one waited for is the first that holds it
+  -- a thread waits for another: its next step would be answered 4 with a lock that another thread has, and the one waited for is the
+  -- first that holds it
   pub record Awaited (s : Machine) (t u : ℕ) : Type 0 where
     pub lock : ℕ
     pub answer : react R s (nextTurn s t) .answer ≡ Waiting (Sorts.lock lock)
@@ -190,14 +199,16 @@ module _ (R : Rules) where
   unfolding awaits
   awaited s t u e = case (react R s (nextTurn s t) .answer) refl (turned R s t) e
     where
-      from : (l : ℕ) → react R s (nextTurn s t) .answer ≡ Waiting (Sorts.lock l) → held l (set (s .threads) t idle) ≡ true → Option·map (λ k. holder k (s .threads)) (some l) ≡ some u → Awaited s t u
+      from : (l : ℕ) → react R s (nextTurn s t) .answer ≡ Waiting (Sorts.lock l) → held l (set (s .threads) t idle) ≡ true
+          → Option·map (λ k. holder k (s .threads)) (some l) ≡ some u → Awaited s t u
       from l a h q =
           let k = held-other l (s .threads) t h in
           let g : u ≡ holder l (s .threads) = cc in
           let f = holder-holds l (s .threads) (k .0) (k .2) in
           record { lock = l; answer = a; holds = rw g (f .1); inside = rw g (f .0); other = h }
 
-      case : (a : Answer) → react R s (nextTurn s t) .answer ≡ a → Turned R s t a → Option·map (λ k. holder k (s .threads)) (asked a) ≡ some u → Awaited s t u
+      case : (a : Answer) → react R s (nextTurn s t) .answer ≡ a → Turned R s t a
+          → Option·map (λ k. holder k (s .threads)) (asked a) ≡ some u → Awaited s t u
       case Taken p h q = never (cc)
       case ListFull p h q = never (cc)
       case NoWork p h q = never (cc)
@@ -222,10 +233,13 @@ module _ (R : Rules) where
   awaits-other s apart t u e q =
       let h = awaited s t u e in
       let k = held-other (h .lock) (s .threads) t (h .other) in
-      let m : has (h .lock) (locksOf (threadAt s t)) ≡ true = subst (λ (z : ℕ). has (h .lock) (locksOf (threadAt s z)) ≡ true) q (h .holds) in
+      let m : has (h .lock) (locksOf (threadAt s t)) ≡ true =
+      subst (λ (z : ℕ). has (h .lock) (locksOf (threadAt s z)) ≡ true) q (h .holds)
+      in
       true≢false (sym m ∙ apart (k .0) t (h .lock) (k .1) (k .2))
 
   -- the walk over any machine of eight threads
-  pub walk-right : (s : Machine) (t : ℕ) → length (s .threads) ≡ threadCount → t < threadCount → Walked (awaits R s) threadCount t (walkFrom R s t)
+  pub walk-right : (s : Machine) (t : ℕ) → length (s .threads) ≡ threadCount → t < threadCount
+      → Walked (awaits R s) threadCount t (walkFrom R s t)
   unfolding walkFrom
   walk-right s t n h = walked (awaits R s) threadCount (awaits-inside s n) t h

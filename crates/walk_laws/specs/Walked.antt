@@ -1,10 +1,13 @@
--- The walk along any relation "waits for" that stays among n threads: no thread is written twice; each thread written after the first is the one that the
--- one before it waits for; a ring closed exactly if the last one waits for a thread already written, and otherwise the last one does not wait.
+-- The walk along any relation "waits for" that stays among n threads: no thread is written twice; each thread written after the first is
+-- the one that the
+-- one before it waits for; a ring closed exactly if the last one waits for a thread already written, and otherwise the last one does not
+-- wait.
 use mathlib.Core.Path.{_≡_, refl}
 use mathlib.Core.Logic.{_⊎_, inl, inr, ite}
 use mathlib.Core.Bool.{Bool, true, false}
 use mathlib.Core.Option.{Option, none, some, Option·elim}
-use mathlib.Core.List.{List, [], _∷_, _++_, List·Memᴰ, List·Memᴰ·head, List·Memᴰ·tail, List·Memᴰ·not-nil, List·Memᴰ·append-cases, List·Memᴰ·eq-of-singleton, Memᴰ·append-left, Memᴰ·append-right}
+use mathlib.Core.List.{List, [], _∷_, _++_, List·Memᴰ, List·Memᴰ·head, List·Memᴰ·tail, List·Memᴰ·not-nil, List·Memᴰ·append-cases}
+use mathlib.Core.List.{List·Memᴰ·eq-of-singleton, Memᴰ·append-left, Memᴰ·append-right}
 use Prim.Native.Nat.{ℕ, zero, suc, _+_, _<_}
 use native.Mathlib.Omega.{arith}
 use lib.ListN.{length, length-append}
@@ -73,7 +76,8 @@ module _ (next : ℕ → Option ℕ) (n : ℕ) (bound : (t u : ℕ) → next t �
     inside = λ x k. absurd (List·Memᴰ·not-nil k);
   }
 
-  ended : (met : List ℕ) (t : ℕ) → t < n → (List·Memᴰ t met → ⊥) → next t ≡ none → Going next n met t (record { threads = t ∷ []; ring = false })
+  ended : (met : List ℕ) (t : ℕ) → t < n → (List·Memᴰ t met → ⊥) → next t ≡ none
+      → Going next n met t (record { threads = t ∷ []; ring = false })
   ended met t h m e = record {
     last = none;
     trail = (refl, e);
@@ -83,7 +87,8 @@ module _ (next : ℕ → Option ℕ) (n : ℕ) (bound : (t u : ℕ) → next t �
     inside = cons-cases {P = λ x. x < n} t [] h (λ x k. absurd (List·Memᴰ·not-nil k));
   }
 
-  more : (met : List ℕ) (t u : ℕ) (w : Walk) → t < n → (List·Memᴰ t met → ⊥) → next t ≡ some u → Going next n (met ++ t ∷ []) u w → Going next n met t (onto t w)
+  more : (met : List ℕ) (t u : ℕ) (w : Walk) → t < n → (List·Memᴰ t met → ⊥) → next t ≡ some u → Going next n (met ++ t ∷ []) u w
+      → Going next n met t (onto t w)
   more met t u w h m e g = record {
     last = g .last;
     trail = (refl, rw e (g .trail));
@@ -93,21 +98,30 @@ module _ (next : ℕ → Option ℕ) (n : ℕ) (bound : (t u : ℕ) → next t �
     inside = cons-cases {P = λ x. x < n} t (w .threads) h (g .inside);
   }
 
-  going : (left : ℕ) (met : List ℕ) (t : ℕ) → t < n → Distinct met → ((x : ℕ) → List·Memᴰ x met → x < n) → length met + left ≡ n → Going next n met t (walkOn next left met t)
+  going : (left : ℕ) (met : List ℕ) (t : ℕ) → t < n → Distinct met → ((x : ℕ) → List·Memᴰ x met → x < n) → length met + left ≡ n
+      → Going next n met t (walkOn next left met t)
   unfolding walkOn Option·elim
   going zero met t h d i l = here met t (go (mem? t met))
     where
       go : Dec (List·Memᴰ t met) → List·Memᴰ t met
       go (yes m) = m
       go (no m) = absurd (omega (arith, distinct-short n (t ∷ met) (m, d) (cons-cases {P = λ x. x < n} t met h i)))
-  going (suc left) met t h d i l = go (mem? t met) (λ u m e. going left (met ++ t ∷ []) u (bound t u e) (distinct-snoc met t d m) (snoc-cases {P = λ x. x < n} t met h i) (omega (arith, length-append met (t ∷ []))))
+  going (suc left) met t h d i l =
+      go (mem? t met)
+      (λ u m e. going left (met ++ t ∷ []) u (bound t u e) (distinct-snoc met t d m) (snoc-cases {P = λ x. x < n} t met h i)
+      (omega (arith, length-append met (t ∷ []))))
     where
-      go : (k : Dec (List·Memᴰ t met)) → ((u : ℕ) → (List·Memᴰ t met → ⊥) → next t ≡ some u → Going next n (met ++ t ∷ []) u (walkOn next left (met ++ t ∷ []) u))
-          → Going next n met t (ite k (record { threads = []; ring = true }) (onto t (Option·elim (next t) (record { threads = []; ring = false }) (λ u. walkOn next left (met ++ t ∷ []) u))))
+      go : (k : Dec (List·Memᴰ t met))
+          → ((u : ℕ) → (List·Memᴰ t met → ⊥) → next t ≡ some u → Going next n (met ++ t ∷ []) u (walkOn next left (met ++ t ∷ []) u))
+          → Going next n met t
+          (ite k (record { threads = []; ring = true })
+          (onto t (Option·elim (next t) (record { threads = []; ring = false }) (λ u. walkOn next left (met ++ t ∷ []) u))))
       go (yes m) ih = here met t m
       go (no m) ih = on (next t) refl
         where
-          on : (o : Option ℕ) → next t ≡ o → Going next n met t (onto t (Option·elim o (record { threads = []; ring = false }) (λ u. walkOn next left (met ++ t ∷ []) u)))
+          on : (o : Option ℕ) → next t ≡ o
+              → Going next n met t
+              (onto t (Option·elim o (record { threads = []; ring = false }) (λ u. walkOn next left (met ++ t ∷ []) u)))
           on none e = ended met t h m e
           on (some u) e = more met t u _ h m e (ih u m e)
 
@@ -115,4 +129,10 @@ module _ (next : ℕ → Option ℕ) (n : ℕ) (bound : (t u : ℕ) → next t �
   unfolding walk
   walked t h =
       let g : Going next n [] t (walkOn next n [] t) = going n [] t h tt (λ x k. absurd (List·Memᴰ·not-nil k)) (omega arith) in
-      record { last = g .last; trail = g .trail; closes = closes-all (walkOn next n [] t .ring) (g .last) (walkOn next n [] t .threads) (g .closes); distinct = g .distinct; inside = g .inside }
+      record {
+        last = g .last;
+        trail = g .trail;
+        closes = closes-all (walkOn next n [] t .ring) (g .last) (walkOn next n [] t .threads) (g .closes);
+        distinct = g .distinct;
+        inside = g .inside;
+      }
