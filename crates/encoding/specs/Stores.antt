@@ -6,7 +6,7 @@ use native.Mathlib.Omega.{arith}
 use lib.ListN.{length, set, length-set}
 use Rattle.rules.specs.Sizes.{threadCount, blockCount, wordCount, wordTotal, threadSize, wordsSize, threadsPlace}
 use Rattle.rules.specs.Bytes.{le16, blocks, pad}
-use Rattle.rules.specs.Machine.{ThreadState, idle, Machine, threadAt}
+use Rattle.rules.specs.Machine.{ThreadState, idle, Machine, threadAt, withThread}
 use Rattle.rules.specs.Encoding.{threadBytes, encode}
 use Rattle.fields.specs.Each.{each-at, each-set}
 use Rattle.fields.specs.Put.{put, put-whole}

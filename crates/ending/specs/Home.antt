@@ -22,9 +22,8 @@ use Rattle.threads.specs.Records.{threadPlace, rawBytes}
 use Rattle.threads.specs.declared.thread.ThreadState.{ThreadState}
 use Rattle.step_ready.specs.Ready.{Ready, written}
 use Rattle.step_ready.specs.At.{Busy}
-use Rattle.rules.specs.Machine.{Signal, Tree, Machine, idle, first}
+use Rattle.rules.specs.Machine.{Signal, Tree, Machine, idle, first, withThread}
 use Rattle.rules.specs.Steps.{rulesBy, blockAt, requeued, finished}
-use Rattle.encoding.specs.Stores.{withThread}
 use Rattle.encoding.specs.FirstTree.{firstTree, first-some, first-none}
 use Rattle.trees.specs.Canon.{pendingAt}
 use Rattle.trees.specs.Changes.{requeuedOn, ended}

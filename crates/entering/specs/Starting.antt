@@ -12,7 +12,7 @@ use Rattle.rules.specs.Sorts
 use Rattle.rules.specs.Sizes.{lockCount, threadCount, idleLabel}
 use Rattle.rules.specs.Image.{labels, rowAt}
 use Rattle.rules.specs.Machine as law
-use Rattle.rules.specs.Machine.{Signal, Tree, Machine, idle, running, threadAt, first, queue}
+use Rattle.rules.specs.Machine.{Signal, Tree, Machine, idle, running, threadAt, first, queue, withThread}
 use Rattle.rules.specs.Encoding.{noSignal, machineFrom}
 use Rattle.rules.specs.WellFormed.{homed, homedAs}
 use Rattle.rules.specs.Events.{step}
@@ -22,7 +22,6 @@ use Rattle.rules.specs.declared.answer.Answer.the-variants.{NoWork, Waiting, St
 use Rattle.fields.specs.Each.{Each}
 use Rattle.fields.specs.Put.{put}
 use Rattle.encoding.specs.Encoded.{Encodes, Canonical, encoded-machine, encoded-canonical}
-use Rattle.encoding.specs.Stores.{withThread}
 use Rattle.encoding.specs.FirstTree.{firstTree, first-some}
 use Rattle.laws.specs.Passed.{passed}
 use Rattle.laws.specs.Logic.{never}

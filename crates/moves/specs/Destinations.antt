@@ -6,14 +6,14 @@ use Prim.Native.Nat.{ℕ, _+_, _*_}
 use lib.ListN.{length, set, length-set}
 use Rattle.rules.specs.Sizes.{wordCount}
 use Rattle.rules.specs.Image.{blockField, labelA}
-use Rattle.rules.specs.Machine.{Machine, ThreadState, Tree, Job, running, cells, window, keep}
+use Rattle.rules.specs.Machine.{Machine, ThreadState, Tree, Job, running, cells, window, keep, withThread}
 use Rattle.rules.specs.Encoding.{machineFrom}
 use Rattle.rules.specs.Effects.{Cells, store, assigned}
 use Rattle.rules.specs.declared.statement.Assignment.{Assignment}
 use Rattle.rules.specs.declared.statement.Operand.{Operand}
 use Rattle.rules.specs.declared.statement.Operand.the-variants.{Number, Register, Word}
 use Rattle.encoding.specs.Encoded.{Encodes, encoded-machine}
-use Rattle.encoding.specs.Stores.{withThread, withWord}
+use Rattle.encoding.specs.Stores.{withWord}
 use Rattle.step_laws.specs.Same.{keep-window, keep-more}
 use Rattle.threads.specs.Threads.{Runs, job, jobOf, returnsOf, registersOf, runs-fields, runs-then}
 use Rattle.threads.specs.declared.thread.ThreadState as code

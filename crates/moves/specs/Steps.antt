@@ -12,7 +12,7 @@ use Rattle.rules.specs.Codes.{noReturnLabelCode}
 use Rattle.rules.specs.Image.{labels, recordAt, labelA, labelB}
 use Rattle.rules.specs.Statements.{statementOf, dataOf, reads, conditionOf}
 use Rattle.rules.specs.Effects.{Got, trap, got, Cells, readAll, holds}
-use Rattle.rules.specs.Machine.{Machine, Job, running, window, fill}
+use Rattle.rules.specs.Machine.{Machine, Job, running, window, fill, withThread}
 use Rattle.rules.specs.Encoding.{machineFrom}
 use Rattle.rules.specs.Events.{step}
 use Rattle.rules.specs.Steps.{blockAt, newest, rulesBy, finished}
@@ -24,7 +24,6 @@ use Rattle.rules.specs.declared.statement.Statement.the-variants.{Skip, If, Ret
 use Rattle.fields.specs.Each.{Each}
 use Rattle.fields.specs.Put.{put}
 use Rattle.encoding.specs.Encoded.{Encodes, Canonical}
-use Rattle.encoding.specs.Stores.{withThread}
 use Rattle.soundness.specs.Sound.{PlaceIn, ThreadIn}
 use Rattle.step_laws.specs.Events.{reply}
 use Rattle.step_laws.specs.Statements as law

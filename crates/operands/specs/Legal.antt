@@ -33,10 +33,6 @@ pub record Readable (r : List ℕ) : Type 0 where
   pub few : operands r ≤ operandCount
   pub slots : allFrom (slotOk r) 0 operandCount ≡ true
 
-pub or-cases : (a b : Bool) → a || b ≡ true → (a ≡ true) ⊎ (b ≡ true)
-or-cases true b h = inl refl
-or-cases false b h = inr h
-
 operand-fits : (k v : ℕ) → operandOk k v ≡ true → Fits (operandOf k v)
 unfolding operandOf
 operand-fits k v h = first (or-cases (eqb k 1 || (eqb k 2 && ltb v registerCount)) (eqb k 3 && ltb v wordCount) h)

@@ -4,10 +4,12 @@ use mathlib.Core.List.{List}
 use Prim.Native.Nat.{ℕ}
 use lib.Dec.{ltb}
 use Rattle.rules.specs.Sizes.{blockCount}
-use Rattle.rules.specs.Image.{opcode, blockField, entry, operator, labelA, labelB}
+use Rattle.rules.specs.Image.{opcode, blockField, entry, operator, labelA, labelB, kind, value}
 use Rattle.rules.specs.Statements.{operationAt, statementOf, roleA, roleB}
 use Rattle.rules.specs.declared.statement.Statement.{Statement}
-use Rattle.rules.specs.Check.{shapeOk, labelOk}
+use Rattle.rules.specs.declared.statement.Role.{Role}
+use Rattle.rules.specs.declared.statement.Shape.{Shape}
+use Rattle.rules.specs.Check.{assignOk, shapeOk, labelOk}
 
 -- what the opcode asks of the operator, the operands and the labels
 abbrev pub bothOk : List ℕ → List ℕ → Role → Role → Bool

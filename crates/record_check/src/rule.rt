@@ -7,6 +7,16 @@ use image::decode::operation_at;
 use image::decode::shape_of;
 use image::records::block_at;
 use image::records::entry_at;
+use rules::codes::BUFFERED;
+use rules::codes::DIRECT;
+use rules::codes::LESS;
+use rules::layout::BLOCK_PLACE;
+use rules::layout::ENTRY_PLACE;
+use rules::layout::LABEL_A_PLACE;
+use rules::layout::LABEL_B_PLACE;
+use rules::layout::OPCODE_PLACE;
+use rules::layout::OPERAND_COUNT_PLACE;
+use rules::layout::OPERATOR_PLACE;
 use rules::limits::Image;
 use rules::sorts::Block;
 use rules::sorts::block_of;
@@ -22,8 +32,8 @@ ghost use lib.ListN.{length};
 ghost use Rattle.rules.specs.Sizes.{recordSize, operandCount};
 ghost use Rattle.rules.specs.Image.{labels, recordAt, blockField, entry, operands};
 ghost use Rattle.rules.specs.Statements.{otherOf};
-ghost use Rattle.rules.specs.Check.{assignOk, otherOk, labelOk};
-ghost use Rattle.record_check.specs.Forms.{labelsOk, formOk, outlineOk};
+ghost use Rattle.rules.specs.Check.{otherOk, labelOk};
+ghost use Rattle.record_check.specs.Forms.{bothOk, labelsOk, assignmentOk, formOk, outlineOk};
 
 // A label is below n, and its record is in this block.
 pub fn in_block(image: &[u8], n: usize, own: Block, v: u16) -> bool

@@ -10,14 +10,13 @@ use Rattle.rules.specs.Codes.{pendingFullCode}
 use Rattle.rules.specs.Image.{recordAt, operands, labelA, labelB}
 use Rattle.rules.specs.Statements.{statementOf, dataOf}
 use Rattle.rules.specs.Effects.{got, readAll}
-use Rattle.rules.specs.Machine.{Machine, running, first}
+use Rattle.rules.specs.Machine.{Machine, running, first, withThread}
 use Rattle.rules.specs.Encoding.{machineFrom}
 use Rattle.rules.specs.Steps.{rulesBy, finished}
 use Rattle.rules.specs.declared.answer.Answer.{Answer}
 use Rattle.rules.specs.declared.answer.Answer.the-variants.{Moved, Trapped}
 use Rattle.rules.specs.declared.statement.Statement.the-variants.{SendBuffered}
 use Rattle.encoding.specs.Encoded.{Encodes, Canonical, encoded-machine}
-use Rattle.encoding.specs.Stores.{withThread}
 use Rattle.encoding.specs.FirstTree.{firstTree, first-some}
 use Rattle.threads.specs.Threads.{jobOf, job, returnsOf, registersOf}
 use Rattle.threads.specs.declared.thread.ThreadState.{ThreadState}

@@ -5,11 +5,11 @@ use Prim.Native.Nat.{ℕ, _+_, _*_, _<_}
 use lib.ListN.{drop}
 use Rattle.rules.specs.Sizes.{threadCount, wordCount, wordTotal}
 use Rattle.rules.specs.Bytes.{le16}
-use Rattle.rules.specs.Machine.{Machine, threadAt}
+use Rattle.rules.specs.Machine.{Machine, threadAt, withThread}
 use Rattle.fields.specs.Put.{put}
 use Rattle.encoding.specs.Encoded.{Encodes, encodes}
 use Rattle.encoding.specs.Layout.{thread-on}
-use Rattle.encoding.specs.Stores.{withWord, withThread, sized-word, sized-thread, thread-at-sized, word-then, thread-then}
+use Rattle.encoding.specs.Stores.{withWord, sized-word, sized-thread, thread-at-sized, word-then, thread-then}
 use Rattle.threads.specs.Threads.{stateOf, Tidy, Says}
 use Rattle.threads.specs.Records.{threadPlace, rawThread, rawBytes, bytes-are, bytes-of, tidy-sized}
 use Rattle.threads.specs.declared.thread.ThreadState.{ThreadState}

@@ -7,13 +7,13 @@ use Prim.Native.Nat.{ℕ, _^_}
 use lib.Bits.{bitOr}
 use lib.ListN.{length, set}
 use Rattle.rules.specs.Sorts
-use Rattle.rules.specs.Machine.{Signal, Job, idle, running, Machine, threadAt, first, put, window, keep}
+use Rattle.rules.specs.Machine.{Signal, Job, idle, running, Machine, threadAt, first, put, window, keep, withThread}
 use Rattle.rules.specs.Events.{step}
 use Rattle.rules.specs.Steps.{Rules, Effect, traps, exits, moves, added, planRunning, planStep, plan, held, blocked, finished, attempt}
 use Rattle.rules.specs.Steps.{carry, react}
 use Rattle.rules.specs.declared.answer.Answer.the-variants.{Waiting, Moved, Exited, Trapped}
 use Rattle.step_laws.specs.Same.{keep-window, put-same}
-use Rattle.step_laws.specs.Events.{withThread, reply}
+use Rattle.step_laws.specs.Events.{reply}
 
 module _ (R : Rules) (s : Machine) (t l : ℕ) (j : Job) (p : List Signal) (runs : threadAt s t ≡ running l j)
     (tree : first t (s .trees) ≡ some p) where

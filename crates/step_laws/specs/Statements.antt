@@ -12,7 +12,7 @@ use Rattle.rules.specs.Sizes.{returnCount, pendingCount}
 use Rattle.rules.specs.Image.{recordAt, labelA, labelB, rowAt}
 use Rattle.rules.specs.Statements.{statementOf, dataOf, reads}
 use Rattle.rules.specs.Effects.{trap, got, Cells, readAll, Results, compute, holds, assigned, overlaid, perform, outcome}
-use Rattle.rules.specs.Machine.{Signal, Job, job, idle, running, Machine, threadAt, fill, first, put, window, keep}
+use Rattle.rules.specs.Machine.{Signal, Job, job, idle, running, Machine, threadAt, fill, first, put, window, keep, withThread}
 use Rattle.rules.specs.Events.{step}
 use Rattle.rules.specs.Steps.{Rules, Effect, moves, newest, older, alien, blockAt, actBy, rulesBy, held, finished, react}
 use Rattle.rules.specs.declared.statement.Assignment.{Assignment}
@@ -21,7 +21,7 @@ use Rattle.rules.specs.declared.statement.Statement.{Statement}
 use Rattle.rules.specs.declared.statement.Statement.the-variants.{Skip, Assign, If, SendDirect, SendBuffered, Call, Return, Transfer, Exit}
 use Rattle.rules.specs.declared.answer.Answer.the-variants.{Waiting, Moved, Exited, Trapped}
 use Rattle.step_laws.specs.Same.{keep-window, put-same}
-use Rattle.step_laws.specs.Events.{withThread, reply}
+use Rattle.step_laws.specs.Events.{reply}
 use Rattle.step_laws.specs.Running.{traps-by, exits-by, moves-by, moves-on, waits-for, enters}
 
 module _ (image table : List ℕ) (s : Machine) (t l : ℕ) (j : Job) (p : List Signal) (runs : threadAt s t ≡ running l j)

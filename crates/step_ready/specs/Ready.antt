@@ -6,14 +6,13 @@ use Prim.Native.Nat.{ℕ, _<_}
 use lib.ListN.{drop}
 use Rattle.rules.specs.Sizes.{threadCount}
 use Rattle.rules.specs.Check.{Checked}
-use Rattle.rules.specs.Machine.{Machine, Job, threadAt, running}
+use Rattle.rules.specs.Machine.{Machine, Job, threadAt, running, withThread}
 use Rattle.rules.specs.Encoding.{machineFrom}
 use Rattle.rules.specs.Events.{Event, step}
 use Rattle.rules.specs.Steps.{rulesBy, Reply, react, finished}
 use Rattle.rules.specs.declared.answer.Answer.{Answer}
 use Rattle.fields.specs.Put.{put}
 use Rattle.encoding.specs.Encoded.{Encodes, Canonical, encoded-machine, encoded-canonical}
-use Rattle.encoding.specs.Stores.{withThread}
 use Rattle.soundness.specs.Sound.{Sound}
 use Rattle.soundness.specs.StaysWellFormed.{Accepted, sound-react}
 use Rattle.threads.specs.Threads.{stateOf, Tidy, Says, Runs}

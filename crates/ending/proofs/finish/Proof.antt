@@ -4,11 +4,10 @@ use Prim.Native.Nat.{_≤_, _<_}
 use native.Mathlib.Omega.{arith}
 use lib.ListN.{length}
 use Rattle.rules.specs.Sizes.{returnCount}
-use Rattle.rules.specs.Machine.{Machine, idle}
+use Rattle.rules.specs.Machine.{Machine, idle, withThread}
 use Rattle.rules.specs.Encoding.{machineFrom}
 use Rattle.rules.specs.Steps.{rulesBy, finished}
 use Rattle.encoding.specs.Encoded.{Encodes, encoded-machine, encoded-canonical}
-use Rattle.encoding.specs.Stores.{withThread}
 use Rattle.encoding.specs.FirstTree.{firstTree}
 use Rattle.trees.specs.Changes.{ended}
 use Rattle.ending.specs.Home.{cleared, tree-inside, finished-is}
