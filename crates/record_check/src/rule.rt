@@ -5,22 +5,36 @@ use image::decode::Assigns;
 use image::decode::destinations_of;
 use image::decode::operation_at;
 use image::decode::shape_of;
+use image::record_fields::block_field;
+use image::record_fields::label_a;
+use image::record_fields::label_b;
 use image::records::block_at;
 use image::records::entry_at;
+use image::records::index_of;
 use rules::codes::BUFFERED;
+use rules::codes::CALL;
 use rules::codes::DIRECT;
+use rules::codes::EQUAL;
+use rules::codes::EXIT;
+use rules::codes::GOTO;
+use rules::codes::IF;
 use rules::codes::LESS;
+use rules::codes::REGISTER_OPERAND;
+use rules::codes::RETURN;
+use rules::codes::SEND_BUFFERED;
+use rules::codes::SEND_DIRECT;
+use rules::codes::SKIP;
+use rules::codes::TRANSFER;
 use rules::layout::BLOCK_PLACE;
 use rules::layout::ENTRY_PLACE;
-use rules::layout::LABEL_A_PLACE;
-use rules::layout::LABEL_B_PLACE;
 use rules::layout::OPCODE_PLACE;
+use rules::layout::OPERANDS_PLACE;
 use rules::layout::OPERAND_COUNT_PLACE;
+use rules::layout::OPERAND_SIZE;
 use rules::layout::OPERATOR_PLACE;
 use rules::limits::Image;
 use rules::sorts::Block;
-use rules::sorts::block_of;
-use rules::sorts::label_of;
+use rules::sorts::Label;
 use rules::sorts::same_block;
 use rules::statement::Role;
 use rules::statement::Shape;
@@ -36,12 +50,12 @@ ghost use Rattle.rules.specs.Check.{otherOk, labelOk};
 ghost use Rattle.record_check.specs.Forms.{bothOk, labelsOk, assignmentOk, formOk, outlineOk};
 
 // A label is below n, and its record is in this block.
-pub fn in_block(image: &[u8], n: usize, own: Block, v: u16) -> bool
+pub fn in_block(image: &[u8], n: usize, own: Block, v: Label) -> bool
     requires { ⌜ n ≡ labels (now image) ⌝ }
-    ensures { λ z. ⌜ z ≡ (ltb v (labels (now (image .entry))) && eqb (blockField (recordAt (now (image .entry)) v)) (own .0)) ⌝ }
+    ensures { λ z. ⌜ z ≡ (ltb (v .0) (labels (now (image .entry))) && eqb (blockField (recordAt (now (image .entry)) (v .0))) (own .0)) ⌝ }
 {
-    if (v as usize) < n {
-        let there = block_at(image, label_of(v));
+    if index_of(v) < n {
+        let there = block_at(image, v);
         same_block(there, own)
     } else {
         false
@@ -49,24 +63,24 @@ pub fn in_block(image: &[u8], n: usize, own: Block, v: u16) -> bool
 }
 
 // A label is below n, and its record has this entry.
-pub fn has_entry(image: &[u8], n: usize, e: u8, v: u16) -> bool
+pub fn has_entry(image: &[u8], n: usize, e: u8, v: Label) -> bool
     requires { ⌜ n ≡ labels (now image) ⌝ }
-    ensures { λ z. ⌜ z ≡ (ltb v (labels (now (image .entry))) && eqb (entry (recordAt (now (image .entry)) v)) e) ⌝ }
+    ensures { λ z. ⌜ z ≡ (ltb (v .0) (labels (now (image .entry))) && eqb (entry (recordAt (now (image .entry)) (v .0))) e) ⌝ }
 {
-    if (v as usize) < n {
-        entry_at(image, label_of(v)) == e
+    if index_of(v) < n {
+        entry_at(image, v) == e
     } else {
         false
     }
 }
 
 // A label of this role, in a record of this block.
-pub fn label_ok(image: &[u8], n: usize, role: Role, own: Block, v: u16) -> bool
+pub fn label_ok(image: &[u8], n: usize, role: Role, own: Block, v: Label) -> bool
     requires { ⌜ n ≡ labels (now image) ⌝ }
-    ensures { λ z. ⌜ z ≡ labelOk (now (image .entry)) role (own .0) v ⌝ }
+    ensures { λ z. ⌜ z ≡ labelOk (now (image .entry)) role (own .0) (v .0) ⌝ }
 {
     match role {
-        Role::Unused => v == 0,
+        Role::Unused => index_of(v) == 0,
         Role::Inner => in_block(image, n, own, v),
         Role::Direct => has_entry(image, n, DIRECT, v),
         Role::Local => in_block(image, n, own, v) & has_entry(image, n, DIRECT, v),
@@ -79,20 +93,28 @@ pub fn labels_ok(image: &[u8], n: usize, r: &[u8], a: Role, b: Role) -> bool
     requires { ⌜ (n ≡ labels (now image)) × (length (now r) ≡ recordSize) ⌝ }
     ensures { λ z. ⌜ z ≡ bothOk (now (image .entry)) (now (r .entry)) a b ⌝ }
 {
-    let own = block_of(r[BLOCK_PLACE]);
-    label_ok(image, n, a, own, get16(r, LABEL_A_PLACE))
-        & label_ok(image, n, b, own, get16(r, LABEL_B_PLACE))
+    let own = block_field(r);
+    label_ok(image, n, a, own, label_a(r)) & label_ok(image, n, b, own, label_b(r))
 }
+
+// The places of the second operand and of the first two operands' values.
+const SECOND_PLACE: usize = OPERANDS_PLACE + OPERAND_SIZE;
+
+const FIRST_VALUE_PLACE: usize = OPERANDS_PLACE + 1;
+
+const SECOND_VALUE_PLACE: usize = SECOND_PLACE + 1;
 
 // An opcode of ASSIGN's kind: the operand count; no destination is a number, and two are not equal.
 pub fn assign_ok(r: &[u8], s: Shape, c: usize) -> bool
     requires { ⌜ length (now r) ≡ recordSize ⌝ }
     ensures { λ z. ⌜ z ≡ assignmentOk s c (now (r .entry)) ⌝ }
 {
-    let first = (c == destinations_of(s.second) + destinations_of(s.right)) & (2 <= r[9]);
+    let first = (c == destinations_of(s.second) + destinations_of(s.right))
+        & (REGISTER_OPERAND <= r[OPERANDS_PLACE]);
     if s.second {
-        let same = (r[9] == r[12]) & (get16(r, 10) == get16(r, 13));
-        first & ((2 <= r[12]) & !same)
+        let same = (r[OPERANDS_PLACE] == r[SECOND_PLACE])
+            & (get16(r, FIRST_VALUE_PLACE) == get16(r, SECOND_VALUE_PLACE));
+        first & ((REGISTER_OPERAND <= r[SECOND_PLACE]) & !same)
     } else {
         first
     }
@@ -105,14 +127,14 @@ pub fn other_ok(image: &[u8], n: usize, r: &[u8], c: usize) -> bool
 {
     let o = r[OPERATOR_PLACE];
     match r[OPCODE_PLACE] {
-        1 | 3 => (o == 0) & (c == 0) & labels_ok(image, n, r, Role::Inner, Role::Unused),
-        4 => (1 <= o) & (o <= LESS) & (c == 2) & labels_ok(image, n, r, Role::Inner, Role::Inner),
-        5 => (o == 0) & labels_ok(image, n, r, Role::Direct, Role::Unused),
-        6 => (o == 0) & labels_ok(image, n, r, Role::Buffered, Role::Inner),
-        7 => (o == 0) & labels_ok(image, n, r, Role::Direct, Role::Inner),
-        8 => (o == 0) & labels_ok(image, n, r, Role::Unused, Role::Unused),
-        9 => (o == 0) & labels_ok(image, n, r, Role::Local, Role::Unused),
-        10 => (o == 0) & (c == 0) & labels_ok(image, n, r, Role::Unused, Role::Unused),
+        SKIP | GOTO => (o == 0) & (c == 0) & labels_ok(image, n, r, Role::Inner, Role::Unused),
+        IF => (EQUAL <= o) & (o <= LESS) & (c == 2) & labels_ok(image, n, r, Role::Inner, Role::Inner),
+        SEND_DIRECT => (o == 0) & labels_ok(image, n, r, Role::Direct, Role::Unused),
+        SEND_BUFFERED => (o == 0) & labels_ok(image, n, r, Role::Buffered, Role::Inner),
+        CALL => (o == 0) & labels_ok(image, n, r, Role::Direct, Role::Inner),
+        RETURN => (o == 0) & labels_ok(image, n, r, Role::Unused, Role::Unused),
+        TRANSFER => (o == 0) & labels_ok(image, n, r, Role::Local, Role::Unused),
+        EXIT => (o == 0) & (c == 0) & labels_ok(image, n, r, Role::Unused, Role::Unused),
         _ => false,
     }
 }

@@ -6,19 +6,16 @@ use borrow.Author.Needs.{needs}
 use Rattle.record_check.proofs.rule.has_entry.Statement.{statement}
 use Rattle.record_check.proofs.rule.has_entry.Tie as tie
 
-entry-at-requires : tie.Need-entry-at-requires
-entry-at-requires c κs = rw (c .label-of .ensures) (omega arith)
-
 returns : tie.Need-returns
 returns c =
     let a = c .before .before .before .before .args in
-    let h : a .v < labels (a .image .now) = omega arith in
-    simp (lt-ltb _ _ h, c .entry-at .ensures, c .before .label-of .ensures)
+    let h : a .v .0 < labels (a .image .now) = omega arith in
+    simp (lt-ltb _ _ h, c .entry-at .ensures)
 
 returns-2 : tie.Need-returns-2
 returns-2 c =
-    let a = c .before .before .args in
-    simp (le-ltb (a .v) (labels (a .image .now)) (omega arith))
+    let a = c .before .before .before .args in
+    simp (le-ltb (a .v .0) (labels (a .image .now)) (omega arith))
 
 pub has-entry-spec : {M : Type 1} → statement M
-has-entry-spec = tie.close (tie.spec (λ c κs. search needs) entry-at-requires returns returns-2)
+has-entry-spec = tie.close (tie.spec (λ c κs. search needs) (λ c κs. omega arith) returns returns-2)

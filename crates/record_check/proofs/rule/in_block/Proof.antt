@@ -6,20 +6,17 @@ use borrow.Author.Needs.{needs}
 use Rattle.record_check.proofs.rule.in_block.Statement.{statement}
 use Rattle.record_check.proofs.rule.in_block.Tie as tie
 
-block-at-requires : tie.Need-block-at-requires
-block-at-requires c κs = rw (c .label-of .ensures) (omega arith)
-
 returns : tie.Need-returns
 returns c =
     let a = c .before .before .before .before .before .args in
-    let h : a .v < labels (a .image .now) = omega arith in
-    simp (lt-ltb _ _ h, c .same-block .ensures, c .before .block-at .ensures, c .before .before .label-of .ensures)
+    let h : a .v .0 < labels (a .image .now) = omega arith in
+    simp (lt-ltb _ _ h, c .same-block .ensures, c .before .block-at .ensures)
 
 returns-2 : tie.Need-returns-2
 returns-2 c =
-    let a = c .before .before .args in
-    simp (le-ltb (a .v) (labels (a .image .now)) (omega arith))
+    let a = c .before .before .before .args in
+    simp (le-ltb (a .v .0) (labels (a .image .now)) (omega arith))
 
 pub in-block-spec : {M : Type 1} → statement M
 in-block-spec =
-    tie.close (tie.spec (λ c κs. search needs) block-at-requires (λ c κs. search needs) returns returns-2)
+    tie.close (tie.spec (λ c κs. search needs) (λ c κs. omega arith) (λ c κs. search needs) returns returns-2)

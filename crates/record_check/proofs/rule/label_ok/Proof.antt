@@ -1,4 +1,5 @@
 use lib.Dec.{eqb, ltb}
+use Rattle.rules.specs.Codes.{directCode}
 use Rattle.rules.specs.Image.{labels, recordAt, blockField, entry}
 use Rattle.rules.specs.Check.{labelOk}
 use Rattle.record_check.proofs.Forms.{within}
@@ -8,7 +9,7 @@ use Rattle.record_check.proofs.rule.label_ok.Tie as tie
 
 returns : tie.Need-returns
 unfolding labelOk
-returns c = rw (c .enum-told .given .1)
+returns c = rw (c .before .enum-told .given .1, c .index-of .ensures)
 
 returns-2 : tie.Need-returns-2
 unfolding labelOk
@@ -23,7 +24,8 @@ unfolding labelOk
 returns-4 c =
     let a = c .before .before .before .before .before .args in
     rw (c .before .before .enum-told4 .given .1, c .has-entry2 .ensures, c .before .in-block2 .ensures)
-    (within (ltb (a .v) (labels (a .image .now))) (eqb (blockField (recordAt (a .image .now) (a .v))) (a .own .0)) (eqb (entry (recordAt (a .image .now) (a .v))) 1))
+    (within (ltb (a .v .0) (labels (a .image .now))) (eqb (blockField (recordAt (a .image .now) (a .v .0))) (a .own .0))
+    (eqb (entry (recordAt (a .image .now) (a .v .0))) directCode))
 
 returns-5 : tie.Need-returns-5
 unfolding labelOk
@@ -34,6 +36,7 @@ label-ok-spec =
     tie.close
     (tie.spec
     (λ c. search needs)
+    (λ c κs. search needs)
     (λ c. search needs)
     (λ c κs. search needs)
     (λ c. search needs)
