@@ -7,11 +7,12 @@ use rules::sorts::Block;
 use rules::sorts::Label;
 use rules::sorts::block_of;
 use rules::sorts::label_number;
+use rules::sorts::label_of;
 ghost use mathlib.Core.Path.{_≡_};
 ghost use Prim.Native.Nat.{_<_};
 ghost use lib.ListN.{length};
-ghost use Rattle.rules.specs.Sizes.{recordSize};
-ghost use Rattle.rules.specs.Sorts.{block};
+ghost use Rattle.rules.specs.Sizes.{recordCount, recordSize};
+ghost use Rattle.rules.specs.Sorts.{block, label};
 ghost use Rattle.rules.specs.Image.{labels, recordAt, blockField, entry};
 
 // How many records an image has: none where its length is bad.
@@ -34,24 +35,31 @@ pub fn index_of(at: Label) -> usize
     number as usize
 }
 
+// The label of a record at an index.
+pub fn label_at(index: usize) -> Label
+    requires { ⌜ index < recordCount ⌝ }
+    ensures { λ r. ⌜ r ≡ label index ⌝ }
+{
+    label_of(index as u16)
+}
+
 // The record at a label: that part of the image, or its empty part.
 pub fn record_at(image: &[u8], at: Label) -> &[u8]
     ensures { λ r. ⌜ now r ≡ recordAt (now (image .entry)) (at .0) ⌝ }
 {
-    let l = index_of(at);
-    if l < count_labels(image) {
-        record_of(image, l)
+    if index_of(at) < count_labels(image) {
+        record_of(image, at)
     } else {
         &image[..0]
     }
 }
 
 // The same at a label that the image has.
-pub fn record_of(image: &[u8], l: usize) -> &[u8]
-    requires { ⌜ l < labels (now image) ⌝ }
-    ensures { λ r. ⌜ (now r ≡ recordAt (now (image .entry)) l) × (length (now r) ≡ recordSize) ⌝ }
+pub fn record_of(image: &[u8], at: Label) -> &[u8]
+    requires { ⌜ at .0 < labels (now image) ⌝ }
+    ensures { λ r. ⌜ (now r ≡ recordAt (now (image .entry)) (at .0)) × (length (now r) ≡ recordSize) ⌝ }
 {
-    let from = RECORD_SIZE * l;
+    let from = RECORD_SIZE * index_of(at);
     &image[from..from + RECORD_SIZE]
 }
 

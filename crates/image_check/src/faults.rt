@@ -3,6 +3,7 @@ use crate::marks::MARKS;
 use crate::marks::ROOM;
 use fields::read::wide;
 use image::records::count_labels;
+use image::records::label_at;
 use image::records::record_of;
 use image::table::first_bad_row;
 use image::table::rows_ok;
@@ -48,7 +49,7 @@ pub fn first_bad_outline(image: &[u8], n: usize) -> usize
 {
     let mut l = 0;
     while l < n {
-        let r = record_of(image, l);
+        let r = record_of(image, label_at(l));
         if !outline_ok(image, n, r) {
             return l;
         }
@@ -66,7 +67,7 @@ pub fn first_bad_slots(image: &[u8], from: usize, m: usize) -> usize
     let room = ROOM;
     let mut l = from;
     while l < m {
-        let r = record_of(image, l);
+        let r = record_of(image, label_at(l));
         if !slots_ok(r, &marks, &room, wide(r[OPERAND_COUNT_PLACE])) {
             return l;
         }
@@ -83,7 +84,7 @@ pub fn first_bad_operand(image: &[u8], m: usize) -> usize
     let room = ROOM;
     let mut l: usize = 0;
     while l < m {
-        let r = record_of(image, l);
+        let r = record_of(image, label_at(l));
         let c = wide(r[OPERAND_COUNT_PLACE]);
         if FEW < c {
             return first_bad_slots(image, l, m);

@@ -28,9 +28,9 @@ use rules::codes::TRANSFER;
 use rules::layout::BLOCK_PLACE;
 use rules::layout::ENTRY_PLACE;
 use rules::layout::OPCODE_PLACE;
-use rules::layout::OPERANDS_PLACE;
 use rules::layout::OPERAND_COUNT_PLACE;
 use rules::layout::OPERAND_SIZE;
+use rules::layout::OPERANDS_PLACE;
 use rules::layout::OPERATOR_PLACE;
 use rules::limits::Image;
 use rules::sorts::Block;
@@ -128,7 +128,10 @@ pub fn other_ok(image: &[u8], n: usize, r: &[u8], c: usize) -> bool
     let o = r[OPERATOR_PLACE];
     match r[OPCODE_PLACE] {
         SKIP | GOTO => (o == 0) & (c == 0) & labels_ok(image, n, r, Role::Inner, Role::Unused),
-        IF => (EQUAL <= o) & (o <= LESS) & (c == 2) & labels_ok(image, n, r, Role::Inner, Role::Inner),
+        IF => (EQUAL <= o)
+            & (o <= LESS)
+            & (c == 2)
+            & labels_ok(image, n, r, Role::Inner, Role::Inner),
         SEND_DIRECT => (o == 0) & labels_ok(image, n, r, Role::Direct, Role::Unused),
         SEND_BUFFERED => (o == 0) & labels_ok(image, n, r, Role::Buffered, Role::Inner),
         CALL => (o == 0) & labels_ok(image, n, r, Role::Direct, Role::Inner),

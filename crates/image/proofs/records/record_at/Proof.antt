@@ -6,7 +6,7 @@ use Rattle.image.proofs.records.record_at.Statement.{statement}
 use Rattle.image.proofs.records.record_at.Tie as tie
 
 returns : tie.Need-returns
-returns c = rw (← c .before .before .before .index-of .ensures) (c .record-of .ensures .0)
+returns c = c .record-of .ensures .0
 
 returns-2 : tie.Need-returns-2
 returns-2 c = sym (no-record _ _ (omega arith))

@@ -8,20 +8,21 @@ use Rattle.image.proofs.records.record_of.Statement.{statement}
 use Rattle.image.proofs.records.record_of.Tie as tie
 
 mul-from : tie.Need-mul-from
-mul-from c = omega (arith, record-fits (c .args .image .now) (c .args .l) (c .pre))
+mul-from c = let s = c .before .before in omega (arith, c .index-of .ensures, record-fits (s .args .image .now) (s .args .at .0) (s .pre))
 
 add-result : tie.Need-add-result
-add-result c = omega (arith, record-fits (c .args .image .now) (c .args .l) (c .pre))
+add-result c = let s = c .before .before in omega (arith, c .index-of .ensures, record-fits (s .args .image .now) (s .args .at .0) (s .pre))
 
 part-result-end : tie.Need-part-result-end
-part-result-end c = omega (arith, record-fits (c .args .image .now) (c .args .l) (c .pre))
+part-result-end c = let s = c .before .before in omega (arith, c .index-of .ensures, record-fits (s .args .image .now) (s .args .at .0) (s .pre))
 
 returns : tie.Need-returns
 returns c =
-    let a = c .before .args in
-    let e : recordSize * a .l + recordSize - recordSize * a .l ≡ recordSize = omega arith in
-    rw (e, ← record-part (a .image .now) (a .l) (c .before .pre)) (refl, length-record (a .image .now) (a .l) (c .before .pre))
+    let s = c .before .before .before in
+    let a = s .args in
+    let e : recordSize * a .at .0 + recordSize - recordSize * a .at .0 ≡ recordSize = omega arith in
+    rw (c .before .index-of .ensures, e, ← record-part (a .image .now) (a .at .0) (s .pre)) (refl, length-record (a .image .now) (a .at .0) (s .pre))
 
 pub record-of-spec : {M : Type 1} → statement M
 record-of-spec =
-    tie.close (tie.spec mul-from add-result (λ c. search needs) (λ c. search needs) part-result-end returns)
+    tie.close (tie.spec (λ c κs. search needs) mul-from add-result (λ c. search needs) (λ c. search needs) part-result-end returns)

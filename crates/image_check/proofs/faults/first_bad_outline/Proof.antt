@@ -2,6 +2,7 @@ use Prim.Native.Nat.{_-_}
 use mathlib.Core.Path.{_≡_, _∙_}
 use native.Mathlib.Omega.{arith}
 use Rattle.fields.specs.Tests.{Searching, begin, next, here, none}
+use Rattle.image.specs.Records.{labels-small}
 use Rattle.image_check.specs.Labels.{outlineAt}
 use Rattle.image_check.proofs.faults.first_bad_outline.Statement.{statement}
 use Rattle.image_check.proofs.faults.first_bad_outline.Tie as tie
@@ -15,24 +16,30 @@ abbrev μ-loop : tie.MeasureT-loop
 loop-holds : tie.Need-loop-holds Inv-loop μ-loop
 loop-holds c = begin _ _
 
+label-at-requires : tie.Need-label-at-requires Inv-loop μ-loop
+label-at-requires c κs = let s = c .before .before .before in omega (arith, labels-small (s .args .image .now))
+
+record-of-requires : tie.Need-record-of-requires Inv-loop μ-loop
+record-of-requires c κs = rw (c .label-at .ensures) (omega arith)
+
 outline-ok-requires : tie.Need-outline-ok-requires Inv-loop μ-loop
-outline-ok-requires c κs = (c .before .before .before .before .pre, c .record-of .ensures .1)
+outline-ok-requires c κs = (c .before .before .before .before .before .pre, c .record-of .ensures .1)
 
 returns : tie.Need-returns Inv-loop μ-loop
 returns c =
-    let s = c .before .before .before .before .before .before in
-    let l = c .before .before .before .before .loop in
+    let s = c .before .before .before .before .before .before .before in
+    let l = c .before .before .before .before .before .loop in
     let e : c .before .outline-ok .result ≡ outlineAt (s .args .image .now) (l .l) = c .before .outline-ok .ensures
-    ∙ rw (c .before .before .record-of .ensures .0) in
-    here (outlineAt (s .args .image .now)) (s .args .n) (l .l) (l .inv) _ (c .before .before .before .loop-test .taken) e (c .if1 .taken)
+    ∙ rw (c .before .before .record-of .ensures .0, c .before .before .before .label-at .ensures) in
+    here (outlineAt (s .args .image .now)) (s .args .n) (l .l) (l .inv) _ (c .before .before .before .before .loop-test .taken) e (c .if1 .taken)
 
 loop-again : tie.Need-loop-again Inv-loop μ-loop
 loop-again c =
-    let s = c .before .before .before .before .before .before in
-    let l = c .before .before .before .before .loop in
+    let s = c .before .before .before .before .before .before .before in
+    let l = c .before .before .before .before .before .loop in
     let e : c .before .outline-ok .result ≡ outlineAt (s .args .image .now) (l .l) = c .before .outline-ok .ensures
-    ∙ rw (c .before .before .record-of .ensures .0) in
-    next (outlineAt (s .args .image .now)) (s .args .n) (l .l) (l .inv) _ (c .before .before .before .loop-test .taken) e (c .if1 .left)
+    ∙ rw (c .before .before .record-of .ensures .0, c .before .before .before .label-at .ensures) in
+    next (outlineAt (s .args .image .now)) (s .args .n) (l .l) (l .inv) _ (c .before .before .before .before .loop-test .taken) e (c .if1 .left)
 
 returns-2 : tie.Need-returns-2 Inv-loop μ-loop
 returns-2 c =
@@ -46,7 +53,8 @@ first-bad-outline-spec =
     Inv-loop
     μ-loop
     loop-holds
-    (λ c κs. omega arith)
+    label-at-requires
+    record-of-requires
     outline-ok-requires
     returns
     (λ c. omega arith)

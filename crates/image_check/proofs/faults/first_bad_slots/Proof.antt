@@ -5,6 +5,7 @@ use Rattle.rules.specs.Bytes.{allFrom, firstBad}
 use Rattle.fields.specs.Tests.{goes-on, stops, ends}
 use borrow.Author.Tests.{not-true, not-false}
 use Rattle.operand_check.specs.Operands.{Marks}
+use Rattle.image.specs.Records.{labels-small}
 use Rattle.image_check.specs.Labels.{slotsAt}
 use Rattle.image_check.proofs.faults.first_bad_slots.Statement.{statement}
 use Rattle.image_check.proofs.faults.first_bad_slots.Tie as tie
@@ -18,8 +19,11 @@ abbrev μ-loop : tie.MeasureT-loop
 loop-holds : tie.Need-loop-holds Inv-loop μ-loop
 loop-holds c = (c .before .pre .0, refl)
 
+label-at-requires : tie.Need-label-at-requires Inv-loop μ-loop
+label-at-requires c κs = let s = c .before .before .before in omega (arith, s .pre .1, labels-small (s .args .image .now))
+
 record-of-requires : tie.Need-record-of-requires Inv-loop μ-loop
-record-of-requires c κs = omega (arith, c .before .before .before .pre .1)
+record-of-requires c κs = rw (c .label-at .ensures) (omega (arith, c .before .before .before .before .pre .1))
 
 shared-slice-read-wide : tie.Need-shared-slice-read-wide Inv-loop μ-loop
 shared-slice-read-wide c = omega (arith, c .before .before .before .record-of .ensures .1)
@@ -28,28 +32,28 @@ slots-ok-requires : tie.Need-slots-ok-requires Inv-loop μ-loop
 unfolding Marks allFrom
 slots-ok-requires c κs =
     let r = c .before .before .before .before .record-of in
-    let few = c .before .before .before .before .before .before .before .before .pre .2
-    (c .before .before .before .before .before .before .loop .l) (c .before .before .before .before .before .loop-test .taken) in
-    (r .ensures .1, c .wide .ensures .0, rw (c .wide .ensures .0, r .ensures .0) few, refl, refl)
+    let few = c .before .before .before .before .before .before .before .before .before .pre .2
+    (c .before .before .before .before .before .before .before .loop .l) (c .before .before .before .before .before .before .loop-test .taken) in
+    (r .ensures .1, c .wide .ensures .0, rw (c .wide .ensures .0, r .ensures .0, c .before .before .before .before .before .label-at .ensures) few, refl, refl)
 
 returns : tie.Need-returns Inv-loop μ-loop
 returns c =
-    let s = c .before .before .before .before .before .before .before .before .before .before in
-    let l = c .before .before .before .before .before .before .before .before .loop in
+    let s = c .before .before .before .before .before .before .before .before .before .before .before in
+    let l = c .before .before .before .before .before .before .before .before .before .loop in
     let e : c .before .slots-ok .result ≡ slotsAt (s .args .image .now) (l .l) =
-    c .before .slots-ok .ensures ∙ rw (c .before .before .before .before .before .before .record-of .ensures .0) refl in
+    c .before .slots-ok .ensures ∙ rw (c .before .before .before .before .before .before .record-of .ensures .0, c .before .before .before .before .before .before .before .label-at .ensures) refl in
     sym (l .inv .1 ∙ stops (slotsAt (s .args .image .now)) (l .l) (s .args .m)
-    (c .before .before .before .before .before .before .before .loop-test .taken) (sym e ∙ not-true _ (c .if1 .taken)))
+    (c .before .before .before .before .before .before .before .before .loop-test .taken) (sym e ∙ not-true _ (c .if1 .taken)))
 
 loop-again : tie.Need-loop-again Inv-loop μ-loop
 loop-again c =
-    let s = c .before .before .before .before .before .before .before .before .before .before in
-    let l = c .before .before .before .before .before .before .before .before .loop in
+    let s = c .before .before .before .before .before .before .before .before .before .before .before in
+    let l = c .before .before .before .before .before .before .before .before .before .loop in
     let e : c .before .slots-ok .result ≡ slotsAt (s .args .image .now) (l .l) =
-    c .before .slots-ok .ensures ∙ rw (c .before .before .before .before .before .before .record-of .ensures .0) refl in (
+    c .before .slots-ok .ensures ∙ rw (c .before .before .before .before .before .before .record-of .ensures .0, c .before .before .before .before .before .before .before .label-at .ensures) refl in (
       omega arith,
       l .inv .1 ∙ goes-on (slotsAt (s .args .image .now)) (l .l) (s .args .m)
-          (c .before .before .before .before .before .before .before .loop-test .taken) (sym e ∙ not-false _ (c .if1 .left)),
+          (c .before .before .before .before .before .before .before .before .loop-test .taken) (sym e ∙ not-false _ (c .if1 .left)),
     )
 
 returns-2 : tie.Need-returns-2 Inv-loop μ-loop
@@ -64,6 +68,7 @@ first-bad-slots-spec =
     Inv-loop
     μ-loop
     loop-holds
+    label-at-requires
     record-of-requires
     shared-slice-read-wide
     (λ c κs. omega arith)
