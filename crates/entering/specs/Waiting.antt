@@ -14,7 +14,8 @@ use Rattle.rules.specs.Statements.{operationAt, conditionOf, otherOf, statement
 use Rattle.rules.specs.Machine.{Signal, Job, Machine, idle, running, threadAt, first}
 use Rattle.rules.specs.Encoding.{machineFrom}
 use Rattle.rules.specs.Events.{step}
-use Rattle.rules.specs.Effects.{Got, trap, got, then, unless, Cells, readAll, Results, compute, holds, onA, onB, goes, View, go, perform, outcome}
+use Rattle.rules.specs.Effects.{Got, trap, got, then, unless, Cells, readAll, Results}
+use Rattle.rules.specs.Effects.{compute, holds, onA, onB, goes, View, go, perform, outcome}
 use Rattle.rules.specs.Steps.{Rules, Reply, Effect, traps, exits, moves, rulesBy, blockAt, resolve, view, actBy, react}
 use Rattle.rules.specs.Walk.{asked, holder, awaits}
 use Rattle.rules.specs.declared.sorts.Lock as sorts
@@ -75,7 +76,8 @@ answered s a e = ap (λ (q : Reply). asked (q .answer)) e
 
 -- ---- direct SEND and CALL
 
-pub wants-passage : {image table b : List ℕ} {t : ℕ} {w : State.ThreadState} {r returns vs : List ℕ} {p : Passage} → Enters image table b t w r returns vs p → Wants image table (machineFrom b) t (lockOf p)
+pub wants-passage : {image table b : List ℕ} {t : ℕ} {w : State.ThreadState} {r returns vs : List ℕ} {p : Passage}
+    → Enters image table b t w r returns vs p → Wants image table (machineFrom b) t (lockOf p)
 wants-passage {image} {table} {b} {t} {w} {p = p} e = case _ p (e .passes)
   where
     case : (k : Job) (p : Passage) → Passes image table (machineFrom b) t (w .locks) k p → Wants image table (machineFrom b) t (lockOf p)
@@ -121,7 +123,8 @@ module _ (r : List ℕ) where
       by none h = h
       by (some k) h = tt
 
-      case : (a c d e f : Bool) → Lockless (cond a Skip (cond c (If (conditionOf r)) (cond d SendBuffered (cond e Return (cond f Transfer Exit)))))
+      case : (a c d e f : Bool) → Lockless
+          (cond a Skip (cond c (If (conditionOf r)) (cond d SendBuffered (cond e Return (cond f Transfer Exit)))))
       case true c d e f = tt
       case false true d e f = tt
       case false false true e f = tt
@@ -138,7 +141,8 @@ module _ (block : ℕ → ℕ) (row : ℕ → Row) (t a b : ℕ) (v : View) wher
   quiet-if true rs c = tt
   quiet-if false rs c = tt
 
-  quiet-buffered : (full : Bool) (rs vs : List ℕ) → Quiet (resolve block row t rs a b (unless full 4 (got (goes (record { next = onB; cells = v .cells; sent = some vs })))))
+  quiet-buffered : (full : Bool) (rs vs : List ℕ)
+      → Quiet (resolve block row t rs a b (unless full 4 (got (goes (record { next = onB; cells = v .cells; sent = some vs })))))
   quiet-buffered true rs vs = tt
   quiet-buffered false rs vs = tt
 
@@ -163,11 +167,14 @@ module _ (block : ℕ → ℕ) (row : ℕ → Row) (t a b : ℕ) (v : View) wher
       case (trap r) = tt
       case (got vs) = quiet-perform S rs vs h
 
-quiet-act : (image table : List ℕ) (t : ℕ) (j : Job) (words : List ℕ) (pending : ℕ) → Lockless (statementOf (recordAt image (j .label))) → Quiet (actBy image table t j words pending)
+quiet-act : (image table : List ℕ) (t : ℕ) (j : Job) (words : List ℕ) (pending : ℕ) → Lockless (statementOf (recordAt image (j .label)))
+    → Quiet (actBy image table t j words pending)
 unfolding actBy
-quiet-act image table t j words pending h = quiet-outcome (blockAt image) (rowAt table) t _ _ (view j words pending) (statementOf (recordAt image (j .label))) _ (j .returns) h
+quiet-act image table t j words pending h =
+    quiet-outcome (blockAt image) (rowAt table) t _ _ (view j words pending) (statementOf (recordAt image (j .label))) _ (j .returns) h
 
-module _ (R : Rules) (s : Machine) (t l : ℕ) (j : Job) (p : List Signal) (runs : threadAt s t ≡ running l j) (own : first t (s .trees) ≡ some p) where
+module _ (R : Rules) (s : Machine) (t l : ℕ) (j : Job) (p : List Signal) (runs : threadAt s t ≡ running l j)
+    (own : first t (s .trees) ≡ some p) where
   quiet-asks : Quiet (effect R s t l j p runs own) → asked (react R s (step t) .answer) ≡ none
   quiet-asks h = case (effect R s t l j p runs own) refl h
     where
@@ -177,14 +184,16 @@ module _ (R : Rules) (s : Machine) (t l : ℕ) (j : Job) (p : List Signal) (runs
       case (moves k ws g none) e q = answered _ _ (moves-by R s t l j p runs own k ws g e)
       case (moves k ws g (some b)) e q = absurd q
 
-pub wants-nothing : {image table b : List ℕ} {t : ℕ} {w : State.ThreadState} {r : List ℕ} → At image table b t w r → Lockless (statementOf r) → Wants image table (machineFrom b) t Nothing
+pub wants-nothing : {image table b : List ℕ} {t : ℕ} {w : State.ThreadState} {r : List ℕ} → At image table b t w r
+    → Lockless (statementOf r) → Wants image table (machineFrom b) t Nothing
 wants-nothing {image} {table} {b} {t} {w} {r} h q =
     quiet-asks (rulesBy image table) (machineFrom b) t (w .locks) (jobOf w) (tree h .0) (h .runs) (tree h .1)
     (quiet-act image table t (jobOf w) _ _ (subst (λ (x : List ℕ). Lockless (statementOf x)) (h .here) q))
 
 -- ---- the start of a job
 
-pub wants-first : {image table b : List ℕ} (h : Ready image table b) (t : ℕ) → threadAt (machineFrom b) t ≡ idle → (f : First) → FirstOf image table (machineFrom b) t f → Wants image table (machineFrom b) t (firstLock f)
+pub wants-first : {image table b : List ℕ} (h : Ready image table b) (t : ℕ) → threadAt (machineFrom b) t ≡ idle → (f : First)
+    → FirstOf image table (machineFrom b) t f → Wants image table (machineFrom b) t (firstLock f)
 wants-first {image} {table} {b} h t rests found.Nothing k = answered _ _ (no-tree (rulesBy image table) (machineFrom b) t rests k)
 wants-first h t rests (found.Wait l) k = (k .1 .small, answered _ _ (start-waiting h t rests (k .1) (k .2)))
 wants-first h t rests (found.Go i l) k = answered _ _ (start-running h t rests (k .0) (k .1))
@@ -204,12 +213,14 @@ module _ (image table : List ℕ) (s : Machine) (t : ℕ) where
     holder-is : holderOf (holder (l .0) (s .threads)) ≡ Held (Sorts.thread (holder (l .0) (s .threads)))
     holder-is = sym (holder-held _ (awaits-inside (rulesBy image table) s sized t _ awaits-some))
 
-    pub awaits-holder : (x : Holder) (u : sorts-thread.Thread) → x ≡ holderOf (holder (l .0) (s .threads)) → x ≡ Held u → For u ≡ waitsOf (awaits (rulesBy image table) s t)
+    pub awaits-holder : (x : Holder) (u : sorts-thread.Thread) → x ≡ holderOf (holder (l .0) (s .threads)) → x ≡ Held u
+        → For u ≡ waitsOf (awaits (rulesBy image table) s t)
     awaits-holder x u e f =
         let g : Held u ≡ Held (Sorts.thread (holder (l .0) (s .threads))) = sym f ∙ e ∙ holder-is in
         let n : u ≡ Sorts.thread (holder (l .0) (s .threads)) = cc in
         ap For n ∙ ap waitsOf (sym awaits-some)
 
     -- a lock that is waited for is held
-    pub awaits-free : (x : Holder) → x ≡ holderOf (holder (l .0) (s .threads)) → x ≡ Free → Nobody ≡ waitsOf (awaits (rulesBy image table) s t)
+    pub awaits-free : (x : Holder) → x ≡ holderOf (holder (l .0) (s .threads)) → x ≡ Free
+        → Nobody ≡ waitsOf (awaits (rulesBy image table) s t)
     awaits-free x e f = let g : Free ≡ Held (Sorts.thread (holder (l .0) (s .threads))) = sym f ∙ e ∙ holder-is in never (cc)
