@@ -39,7 +39,13 @@ module _ {image events : List ℕ} {i : ℕ} (h : EventAt image events i) where
   unfolding eventFrom
   step-is e = let k : getD bytes eventKindPlace 0 ≡ stepCode = kind ∙ e in rw (k, thread) refl
 
-  pub cut-is : (getD events (eventSize * i) 0 ≡ arrivalCode → ⊥) → (getD events (eventSize * i) 0 ≡ stepCode → ⊥) → eventFrom bytes ≡ cut (getD events (eventSize * i + eventThreadPlace) 0)
+  pub cut-is : (getD events (eventSize * i) 0 ≡ arrivalCode → ⊥) → (getD events (eventSize * i) 0 ≡ stepCode → ⊥)
+      → eventFrom bytes ≡ cut (getD events (eventSize * i + eventThreadPlace) 0)
   unfolding eventFrom
   cut-is m n =
-      rw (ne-eqb (getD bytes eventKindPlace 0) arrivalCode (λ e. m (sym kind ∙ e)), ne-eqb (getD bytes eventKindPlace 0) stepCode (λ e. n (sym kind ∙ e)), thread) refl
+      rw (
+        ne-eqb (getD bytes eventKindPlace 0) arrivalCode (λ e. m (sym kind ∙ e)),
+        ne-eqb (getD bytes eventKindPlace 0) stepCode
+            (λ e. n (sym kind ∙ e)),
+        thread,
+      ) refl

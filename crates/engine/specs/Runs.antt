@@ -38,7 +38,8 @@ event-at {image} {events} h i l = record {
   ok = h .ok i l;
   accepted =
       let all : Each (Accepted image) (eventsFrom events) = events-accepted image events (h .whole) (h .ok) in
-      subst (Accepted image) (chunks-at eventFrom eventSize (eventsIn events) events (step 0) i l) (each-at (Accepted image) (eventsFrom events) i (step 0) all (omega (arith, length-events events)));
+      subst (Accepted image) (chunks-at eventFrom eventSize (eventsIn events) events (step 0) i l)
+      (each-at (Accepted image) (eventsFrom events) i (step 0) all (omega (arith, length-events events)));
 }
 
 module _ (R : Rules) where
@@ -66,7 +67,8 @@ module _ (image table events b₀ a₀ : List ℕ) where
   abbrev R : Rules
   R = rulesBy image table
 
-  next : (s₀ : Machine) (before : List Event) (e : Event) {s : Machine} → s ≡ final R s₀ before → react R s e .state ≡ final R s₀ (before ++ e ∷ [])
+  next : (s₀ : Machine) (before : List Event) (e : Event) {s : Machine} → s ≡ final R s₀ before
+      → react R s e .state ≡ final R s₀ (before ++ e ∷ [])
   unfolding final
   next s₀ before e m = rw (final-append R s₀ before (e ∷ []), ← m) refl
 
@@ -79,7 +81,8 @@ module _ (image table events b₀ a₀ : List ℕ) where
   ran-none h = record { ready = h; machine = refl; answered = refl }
 
   pub ran-more : {b a b′ a′ : List ℕ} {x : Answer} (i : ℕ) → Ran image table events b₀ a₀ i b a → EventAt image events i
-      → Done (replyTo image table b (eventFrom (drop (eventSize * i) events))) b′ x → a′ ≡ put a (answerSize * i) (answerBytes x) → Ran image table events b₀ a₀ (i + 1) b′ a′
+      → Done (replyTo image table b (eventFrom (drop (eventSize * i) events))) b′ x → a′ ≡ put a (answerSize * i) (answerBytes x)
+      → Ran image table events b₀ a₀ (i + 1) b′ a′
   ran-more {b} {a} {b′} {a′} {x} i h k d w =
       let s₀ = machineFrom b₀ in
       let before : List Event = firstEvents events i in
@@ -87,10 +90,13 @@ module _ (image table events b₀ a₀ : List ℕ) where
       let more : firstEvents events (i + 1) ≡ before ++ e ∷ [] = rw add-one (chunks-suc eventFrom eventSize i events) in
       let m : machineFrom b′ ≡ final R s₀ (before ++ e ∷ []) = d .machine ∙ next s₀ before e (h .machine) in
       let past : List ℕ = blocks answerBytes (answers R s₀ before) in
-      let n : length past ≡ answerSize * i = length-blocks answerBytes answerSize length-answer (answers R s₀ before) ∙ rw (length-answers R s₀ before, length-chunks eventFrom eventSize i events) refl in
+      let n : length past ≡ answerSize * i = length-blocks answerBytes answerSize length-answer (answers R s₀ before)
+      ∙ rw (length-answers R s₀ before, length-chunks eventFrom eventSize i events) refl in
       let last : blocks answerBytes (answers R s₀ (before ++ e ∷ [])) ≡ past ++ answerBytes x =
       ap (blocks answerBytes) (answers-append R s₀ before (e ∷ [])) ∙ blocks-append answerBytes (answers R s₀ before) _
-      ∙ ap (λ (z : List ℕ). past ++ z) (last-answer (final R s₀ before) e ∙ ap answerBytes (ap (λ (z : Machine). react R z e .answer) (sym (h .machine)) ∙ sym (d .answer))) in
+      ∙ ap (λ (z : List ℕ). past ++ z)
+      (last-answer (final R s₀ before) e
+      ∙ ap answerBytes (ap (λ (z : Machine). react R z e .answer) (sym (h .machine)) ∙ sym (d .answer))) in
       record {
         ready = ready-again (h .ready) e (k .accepted) d;
         machine = rw more m;
@@ -107,5 +113,6 @@ module _ (image table events b₀ a₀ : List ℕ) where
     ran-answers l =
         let all : List Event = firstEvents events (eventsIn events) in
         let n : length (blocks answerBytes (answers R (machineFrom b₀) all)) ≡ answerSize * eventsIn events =
-        length-blocks answerBytes answerSize length-answer _ ∙ rw (length-answers R (machineFrom b₀) all, length-chunks eventFrom eventSize (eventsIn events) events) refl in
+        length-blocks answerBytes answerSize length-answer _
+        ∙ rw (length-answers R (machineFrom b₀) all, length-chunks eventFrom eventSize (eventsIn events) events) refl in
         h .answered ∙ put-whole a₀ _ (l ∙ sym n)

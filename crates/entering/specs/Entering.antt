@@ -46,7 +46,8 @@ use Rattle.entering.specs.declared.passage.Passage.the-variants.{Trap, W
 abbrev pub Passes : List ℕ → List ℕ → Machine → ℕ → ℕ → Job → Passage → Type 0
 Passes image table s t locks k (Trap x) = react (rulesBy image table) s (step t) ≡ reply (finished (rulesBy image table) t s) (Trapped x)
 Passes image table s t locks k (Wait l) = (l .0 < lockCount) × (react (rulesBy image table) s (step t) ≡ reply s (Waiting l))
-Passes image table s t locks k (Go l) = (l .0 < lockCount) × (react (rulesBy image table) s (step t) ≡ reply (withThread s t (running (bitOr locks (2 ^ l .0)) k)) Moved)
+Passes image table s t locks k (Go l) =
+    (l .0 < lockCount) × (react (rulesBy image table) s (step t) ≡ reply (withThread s t (running (bitOr locks (2 ^ l .0)) k)) Moved)
 
 -- the passage of the statement in the record r, with the return labels and the values with which the thread goes in
 pub record Enters (image table b : List ℕ) (t : ℕ) (w : ThreadState) (r returns vs : List ℕ) (p : Passage) : Type 0 where
@@ -62,12 +63,14 @@ module _ (image table : List ℕ) (s : Machine) (t locks : ℕ) (k : Job) (row :
   taken = held (row .lock) (set (s .threads) t idle)
 
   -- an earlier test made a trap
-  trapped-before : (x : ℕ) → (x ≡ 0 → ⊥) → stepped ≡ reply (finished (rulesBy image table) t s) (Trapped x) → Passes image table s t locks k (passageTo s row t x)
+  trapped-before : (x : ℕ) → (x ≡ 0 → ⊥) → stepped ≡ reply (finished (rulesBy image table) t s) (Trapped x)
+      → Passes image table s t locks k (passageTo s row t x)
   unfolding passageTo
   trapped-before x n e = rw (ne-eqb x 0 n) e
 
   -- none did
-  none-before : row .lock < lockCount → (alien row t ≡ true → stepped ≡ reply (finished (rulesBy image table) t s) (Trapped foreignFdBlockCode))
+  none-before : row .lock < lockCount
+      → (alien row t ≡ true → stepped ≡ reply (finished (rulesBy image table) t s) (Trapped foreignFdBlockCode))
       → (alien row t ≡ false → taken ≡ true → stepped ≡ reply s (Waiting (lock (row .lock))))
       → (alien row t ≡ false → taken ≡ false → stepped ≡ reply (withThread s t (running (bitOr locks (2 ^ row .lock)) k)) Moved)
       → Passes image table s t locks k (passageTo s row t 0)
@@ -83,28 +86,35 @@ module _ (image table : List ℕ) (s : Machine) (t locks : ℕ) (k : Job) (row :
       case false false f g h = (inside, h refl refl)
 
 -- the record at the label of a running thread, and the data that it reads
-module _ (image table b : List ℕ) (t : ℕ) (w : ThreadState) (p : List Signal) (runs : threadAt (machineFrom b) t ≡ running (w .locks) (jobOf w)) (own : first t (machineFrom b .trees) ≡ some p) where
+module _ (image table b : List ℕ) (t : ℕ) (w : ThreadState) (p : List Signal)
+    (runs : threadAt (machineFrom b) t ≡ running (w .locks) (jobOf w)) (own : first t (machineFrom b .trees) ≡ some p) where
   abbrev r : List ℕ
   r = recordAt image (w .label .0)
 
   abbrev into : Row
   into = rowAt table (blockAt image (labelA r))
 
-  module _ {x n : ℕ} {before vs : List ℕ} (g : Reads (readAll (cellsOf b w r) (dataOf r)) x n before vs) (inside : into .lock < lockCount) where
-    send-by : statementOf r ≡ SendDirect → Passes image table (machineFrom b) t (w .locks) (job (labelA r) (returnsOf w) (fill (take n vs))) (passageTo (machineFrom b) into t x)
+  module _ {x n : ℕ} {before vs : List ℕ} (g : Reads (readAll (cellsOf b w r) (dataOf r)) x n before vs)
+      (inside : into .lock < lockCount) where
+    send-by : statementOf r ≡ SendDirect
+        → Passes image table (machineFrom b) t (w .locks) (job (labelA r) (returnsOf w) (fill (take n vs)))
+        (passageTo (machineFrom b) into t x)
     unfolding machineFrom
     send-by e = case (ℕ-discrete x 0)
       where
-        case : Dec (x ≡ 0) → Passes image table (machineFrom b) t (w .locks) (job (labelA r) (returnsOf w) (fill (take n vs))) (passageTo (machineFrom b) into t x)
+        case : Dec (x ≡ 0) → Passes image table (machineFrom b) t (w .locks) (job (labelA r) (returnsOf w) (fill (take n vs)))
+            (passageTo (machineFrom b) into t x)
         case (yes z) =
             rw z (none-before image table (machineFrom b) t (w .locks) (job (labelA r) (returnsOf w) (fill (take n vs))) into inside
             (send-alien image table (machineFrom b) t (w .locks) (jobOf w) p runs own (take n vs) e (g .values z))
             (send-waits image table (machineFrom b) t (w .locks) (jobOf w) p runs own (take n vs) e (g .values z))
             (send-enters image table (machineFrom b) t (w .locks) (jobOf w) p runs own (take n vs) e (g .values z)))
-        case (no m) = trapped-before image table (machineFrom b) t (w .locks) _ into x m (unread image table (machineFrom b) t (w .locks) (jobOf w) p runs own SendDirect x e (g .trapped m))
+        case (no m) = trapped-before image table (machineFrom b) t (w .locks) _ into x m
+            (unread image table (machineFrom b) t (w .locks) (jobOf w) p runs own SendDirect x e (g .trapped m))
 
     call-by : length (returnsOf w) ≡ w .depth → statementOf r ≡ Call
-        → Passes image table (machineFrom b) t (w .locks) (job (labelA r) (returnsOf w ++ labelB r ∷ []) (fill (take n vs))) (passageTo (machineFrom b) into t (callTrap x (w .depth)))
+        → Passes image table (machineFrom b) t (w .locks) (job (labelA r) (returnsOf w ++ labelB r ∷ []) (fill (take n vs)))
+        (passageTo (machineFrom b) into t (callTrap x (w .depth)))
     unfolding machineFrom callTrap
     call-by deep e = case (ℕ-discrete x 0) (leb returnCount (w .depth)) refl
       where
@@ -119,7 +129,9 @@ module _ (image table b : List ℕ) (t : ℕ) (w : ThreadState) (p : List Signal
             (call-alien image table (machineFrom b) t (w .locks) (jobOf w) p runs own (take n vs) e (g .values z) (rw deep f))
             (call-waits image table (machineFrom b) t (w .locks) (jobOf w) p runs own (take n vs) e (g .values z) (rw deep f))
             (call-enters image table (machineFrom b) t (w .locks) (jobOf w) p runs own (take n vs) e (g .values z) (rw deep f)))
-        case (no m) f q = rw (ne-eqb x 0 m) (trapped-before image table (machineFrom b) t (w .locks) _ into x m (unread image table (machineFrom b) t (w .locks) (jobOf w) p runs own Call x e (g .trapped m)))
+        case (no m) f q = rw (ne-eqb x 0 m)
+            (trapped-before image table (machineFrom b) t (w .locks) _ into x m
+            (unread image table (machineFrom b) t (w .locks) (jobOf w) p runs own Call x e (g .trapped m)))
 
 module _ {image table b : List ℕ} {t : ℕ} {w : ThreadState} {r : List ℕ} (h : At image table b t w r) where
   -- the signal of a direct SEND or a CALL is below n, and its lock is one of the 16
@@ -132,20 +144,26 @@ module _ {image table b : List ℕ} {t : ℕ} {w : ThreadState} {r : List ℕ} (
   lock-inside : (q : List ℕ) → labelA q < labels image → rowAt table (blockAt image (labelA q)) .lock < lockCount
   lock-inside q l = lock-below image table (passed image table [] (h .ready .checked) .0) (labelA q) l
 
-  module _ {x : ℕ} {vs : List ℕ} (g : Reads (readAll (cellsOf b w r) (dataOf r)) x (operands r) (replicate operandCount 0) vs) (q : Passage) where
-    pub send-enters-as : statementOf r ≡ SendDirect → q ≡ passageTo (machineFrom b) (rowAt table (blockAt image (labelA r))) t x → Enters image table b t w r (returnsOf w) vs q
+  module _ {x : ℕ} {vs : List ℕ} (g : Reads (readAll (cellsOf b w r) (dataOf r)) x (operands r) (replicate operandCount 0) vs)
+      (q : Passage) where
+    pub send-enters-as : statementOf r ≡ SendDirect → q ≡ passageTo (machineFrom b) (rowAt table (blockAt image (labelA r))) t x
+        → Enters image table b t w r (returnsOf w) vs q
     send-enters-as e f = record {
       passes = rw f (go r (h .here) g e (lock-inside r (send-below e)));
       zeros = λ l z. zeros-stay g (go-clear _ _ _ _ l (sym f ∙ z));
       room = λ l z. omega (arith, depth-is h, h .thread .tidy .returns .within);
     }
       where
-        go : (q : List ℕ) → q ≡ recordAt image (w .label .0) → Reads (readAll (cellsOf b w q) (dataOf q)) x (operands q) (replicate operandCount 0) vs → statementOf q ≡ SendDirect
+        go : (q : List ℕ) → q ≡ recordAt image (w .label .0)
+            → Reads (readAll (cellsOf b w q) (dataOf q)) x (operands q) (replicate operandCount 0) vs → statementOf q ≡ SendDirect
             → rowAt table (blockAt image (labelA q)) .lock < lockCount
-            → Passes image table (machineFrom b) t (w .locks) (job (labelA q) (returnsOf w) (fill (take (operands q) vs))) (passageTo (machineFrom b) (rowAt table (blockAt image (labelA q))) t x)
+            → Passes image table (machineFrom b) t (w .locks) (job (labelA q) (returnsOf w) (fill (take (operands q) vs)))
+            (passageTo (machineFrom b) (rowAt table (blockAt image (labelA q))) t x)
         go q i = rw i (λ g e l. send-by image table b t w (tree h .0) (h .runs) (tree h .1) g l e)
 
-    pub call-enters-as : statementOf r ≡ Call → q ≡ passageTo (machineFrom b) (rowAt table (blockAt image (labelA r))) t (callTrap x (w .depth)) → Enters image table b t w r (returnsOf w ++ labelB r ∷ []) vs q
+    pub call-enters-as : statementOf r ≡ Call
+        → q ≡ passageTo (machineFrom b) (rowAt table (blockAt image (labelA r))) t (callTrap x (w .depth))
+        → Enters image table b t w r (returnsOf w ++ labelB r ∷ []) vs q
     call-enters-as e f = record {
       passes = rw f (go r (h .here) g e (lock-inside r (call-below e)));
       zeros = λ l z. zeros-stay g (clear l z .0);
@@ -155,7 +173,8 @@ module _ {image table b : List ℕ} {t : ℕ} {w : ThreadState} {r : List ℕ} (
         clear : (l : Lock) → q ≡ Go l → (x ≡ 0) × (w .depth < returnCount)
         clear l z = call-clear x (w .depth) (go-clear _ _ _ _ l (sym f ∙ z))
 
-        go : (q : List ℕ) → q ≡ recordAt image (w .label .0) → Reads (readAll (cellsOf b w q) (dataOf q)) x (operands q) (replicate operandCount 0) vs → statementOf q ≡ Call
+        go : (q : List ℕ) → q ≡ recordAt image (w .label .0)
+            → Reads (readAll (cellsOf b w q) (dataOf q)) x (operands q) (replicate operandCount 0) vs → statementOf q ≡ Call
             → rowAt table (blockAt image (labelA q)) .lock < lockCount
             → Passes image table (machineFrom b) t (w .locks) (job (labelA q) (returnsOf w ++ labelB q ∷ []) (fill (take (operands q) vs)))
             (passageTo (machineFrom b) (rowAt table (blockAt image (labelA q))) t (callTrap x (w .depth)))
@@ -164,14 +183,19 @@ module _ {image table b : List ℕ} {t : ℕ} {w : ThreadState} {r : List ℕ} (
 -- ---- carried out
 
 -- a thread that holds one lock more
-pub holds-more : {x y : ThreadState} {locks : ℕ} {j : Job} (k : ℕ) → Runs x locks j → Runs y (bitOr (x .locks) (2 ^ k)) (jobOf x) → Runs y (bitOr locks (2 ^ k)) j
+pub holds-more : {x y : ThreadState} {locks : ℕ} {j : Job} (k : ℕ) → Runs x locks j → Runs y (bitOr (x .locks) (2 ^ k)) (jobOf x)
+    → Runs y (bitOr locks (2 ^ k)) j
 holds-more k m n = runs-then (λ z. bitOr z (2 ^ k)) (λ j. j) m n
 
-module _ {image table b : List ℕ} {t : ℕ} {w : ThreadState} {r returns vs : List ℕ} {p : Passage} (h : At image table b t w r) (e : Enters image table b t w r returns vs p) where
-  passes-as : (q : Passage) → p ≡ q → Passes image table (machineFrom b) t (w .locks) (job (labelA r) returns (fill (take (operands r) vs))) q
-  passes-as q f = subst (Passes image table (machineFrom b) t (w .locks) (job (labelA r) returns (fill (take (operands r) vs)))) f (e .passes)
+module _ {image table b : List ℕ} {t : ℕ} {w : ThreadState} {r returns vs : List ℕ} {p : Passage} (h : At image table b t w r)
+    (e : Enters image table b t w r returns vs p) where
+  passes-as : (q : Passage) → p ≡ q
+      → Passes image table (machineFrom b) t (w .locks) (job (labelA r) returns (fill (take (operands r) vs))) q
+  passes-as q f = subst (Passes image table (machineFrom b) t (w .locks) (job (labelA r) returns (fill (take (operands r) vs)))) f
+      (e .passes)
 
-  pub trap-stepped : (x : ℕ) {b′ : List ℕ} {a : Answer} → p ≡ Trap x → a ≡ Trapped x → Ended image table b t b′ → Stepped image table b t b′ a
+  pub trap-stepped : (x : ℕ) {b′ : List ℕ} {a : Answer} → p ≡ Trap x → a ≡ Trapped x → Ended image table b t b′
+      → Stepped image table b t b′ a
   trap-stepped x f g z = done (finished (rulesBy image table) t (machineFrom b)) (Trapped x) (passes-as (Trap x) f) g z
 
   pub wait-stepped : (l : Lock) → p ≡ Wait l → Stepped image table b t b (Waiting l)
@@ -181,6 +205,7 @@ module _ {image table b : List ℕ} {t : ℕ} {w : ThreadState} {r returns vs : 
   pub go-lock : (l : Lock) → p ≡ Go l → l .0 < lockCount
   go-lock l f = passes-as (Go l) f .0
 
-  pub go-stepped : (l : Lock) → p ≡ Go l → {x y : ThreadState} {b′ : List ℕ} → Runs x (w .locks) (job (labelA r) returns (fill (take (operands r) vs))) → Runs y (bitOr (x .locks) (2 ^ l .0)) (jobOf x)
+  pub go-stepped : (l : Lock) → p ≡ Go l → {x y : ThreadState} {b′ : List ℕ}
+      → Runs x (w .locks) (job (labelA r) returns (fill (take (operands r) vs))) → Runs y (bitOr (x .locks) (2 ^ l .0)) (jobOf x)
       → b′ ≡ put b (threadPlace t) (rawBytes y) → Stepped image table b t b′ Moved
   go-stepped l f m n z = thread-stepped (h .ready) t Moved (h .inside) (passes-as (Go l) f .1) (holds-more (l .0) m n) z

@@ -27,10 +27,12 @@ byLock h l = cond h (Wait l) (Go l)
 -- an earlier trap, an FD block of another thread, or the block's lock
 unfoldable pub passageTo : Machine → Row → ℕ → ℕ → Passage
 passageTo s row t earlier =
-    cond (eqb earlier 0) (cond (alien row t) (Trap foreignFdBlockCode) (byLock (held (row .lock) (set (s .threads) t idle)) (lock (row .lock)))) (Trap earlier)
+    cond (eqb earlier 0) (cond (alien row t) (Trap foreignFdBlockCode)
+    (byLock (held (row .lock) (set (s .threads) t idle)) (lock (row .lock)))) (Trap earlier)
 
 -- no earlier trap
-pub passage-on : (s : Machine) (row : Row) (t x : ℕ) → x ≡ 0 → (a h : Bool) → alien row t ≡ a → held (row .lock) (set (s .threads) t idle) ≡ h
+pub passage-on : (s : Machine) (row : Row) (t x : ℕ) → x ≡ 0 → (a h : Bool) → alien row t ≡ a
+    → held (row .lock) (set (s .threads) t idle) ≡ h
     → passageTo s row t x ≡ cond a (Trap foreignFdBlockCode) (byLock h (lock (row .lock)))
 unfolding passageTo
 passage-on s row t x z a h e f = rw (z, e, f)
@@ -40,7 +42,9 @@ pub go-clear : (s : Machine) (row : Row) (t x : ℕ) (l : Lock) → passageTo s 
 unfolding passageTo
 go-clear s row t x l e = case (eqb x 0) refl e
   where
-    case : (z : Bool) → eqb x 0 ≡ z → cond z (cond (alien row t) (Trap foreignFdBlockCode) (byLock (held (row .lock) (set (s .threads) t idle)) (lock (row .lock)))) (Trap x) ≡ Go l → x ≡ 0
+    case : (z : Bool) → eqb x 0 ≡ z
+        → cond z (cond (alien row t) (Trap foreignFdBlockCode) (byLock (held (row .lock) (set (s .threads) t idle)) (lock (row .lock))))
+        (Trap x) ≡ Go l → x ≡ 0
     case true z e = eqb-true x 0 z
     case false z e = never (cc)
 
@@ -49,7 +53,8 @@ pub call-clear : (u depth : ℕ) → callTrap u depth ≡ 0 → (u ≡ 0) × (de
 unfolding callTrap
 call-clear u depth e = case (eqb u 0) (leb returnCount depth) refl refl e
   where
-    case : (z f : Bool) → eqb u 0 ≡ z → leb returnCount depth ≡ f → cond z (cond f returnsFullCode 0) u ≡ 0 → (u ≡ 0) × (depth < returnCount)
+    case : (z f : Bool) → eqb u 0 ≡ z → leb returnCount depth ≡ f → cond z (cond f returnsFullCode 0) u ≡ 0
+        → (u ≡ 0) × (depth < returnCount)
     case true true z f e = never (cc)
     case true false z f e = (eqb-true u 0 z, leb-false returnCount depth f)
     case false f z q e = never (let k : _≡_ {A = Bool} true false = rw e at z in cc)

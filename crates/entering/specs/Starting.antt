@@ -72,7 +72,8 @@ module _ {image table b : List ℕ} (h : Ready image table b) (t : ℕ) (rests :
   pub idle-pending : (i : ℕ) → i ≡ firstTree t (s .trees) → i < length (s .trees) → 0 < length (pendingAt s i)
   idle-pending i e l =
       let f : first t (s .trees) ≡ some (pendingAt s i) = rw e (first-some t (s .trees) (rw e at l)) in
-      let q : Each (λ x. homed image table x ≡ true) (queue t (s .trees)) = subst (λ (w : law.ThreadState). QueueIn image table w (queue t (s .trees))) rests (h .sound .queues t) in
+      let q : Each (λ x. homed image table x ≡ true) (queue t (s .trees)) =
+      subst (λ (w : law.ThreadState). QueueIn image table w (queue t (s .trees))) rests (h .sound .queues t) in
       case (queue t (s .trees)) q (sym (first-queue t (s .trees)) ∙ f)
     where
       case : (q : List Tree) → Each (λ x. homed image table x ≡ true) q → headPending q ≡ some (pendingAt s i) → 0 < length (pendingAt s i)
@@ -82,10 +83,18 @@ module _ {image table b : List ℕ} (h : Ready image table b) (t : ℕ) (rests :
           rw e at (homed-some image table x (k .0))
 
   -- the first tree, by its place and the label of its oldest signal
-  pub first-is : (i : ℕ) (l : Lock) → i ≡ firstTree t (s .trees) → i < length (s .trees) → l ≡ Sorts.lock (rowAt table (blockAt image (getD (pendingAt s i) 0 noSignal .label)) .lock) → FirstIs image table s t i l
+  pub first-is : (i : ℕ) (l : Lock) → i ≡ firstTree t (s .trees) → i < length (s .trees)
+      → l ≡ Sorts.lock (rowAt table (blockAt image (getD (pendingAt s i) 0 noSignal .label)) .lock) → FirstIs image table s t i l
   first-is i l e k f =
       let some = idle-pending i e k in
-      record { place = e; inside = k; some = some; lock = f; small = rw f (lock-below image table (passed image table [] (h .checked) .0) _ (oldest-below h i k some)) }
+      record {
+        place = e;
+        inside = k;
+        some = some;
+        lock = f;
+        small =
+            rw f (lock-below image table (passed image table [] (h .checked) .0) _ (oldest-below h i k some));
+      }
 
   -- ---- what its step comes to
 
@@ -103,7 +112,8 @@ module _ {image table b : List ℕ} (h : Ready image table b) (t : ℕ) (rests :
 
     -- another thread holds the lock
     pub start-waiting : held (l .0) (set (s .threads) t idle) ≡ true → replyTo image table b (step t) ≡ reply s (Waiting l)
-    start-waiting e = rw (k .lock) (start-waits (rulesBy image table) s t oldest (drop 1 (pendingAt s i)) rests first-oldest (rw (k .lock) at e))
+    start-waiting e = rw (k .lock) (start-waits (rulesBy image table) s t oldest (drop 1 (pendingAt s i)) rests first-oldest
+        (rw (k .lock) at e))
 
     pub waits-on : held (l .0) (set (s .threads) t idle) ≡ true → Stepped image table b t b (Waiting l)
     waits-on e = done s (Waiting l) (start-waiting e) refl (h .canonical)
@@ -119,18 +129,27 @@ module _ {image table b : List ℕ} (h : Ready image table b) (t : ℕ) (rests :
     begun = withThread s t (running (bitOr 0 (2 ^ l .0)) (begin oldest))
 
     pub start-running : held (l .0) (set (s .threads) t idle) ≡ false → replyTo image table b (step t) ≡ reply (taken t i begun) Started
-    start-running e = rw (k .lock) (start-runs (rulesBy image table) s t oldest (drop 1 (pendingAt s i)) rests first-oldest (rw (k .lock) at e))
+    start-running e = rw (k .lock) (start-runs (rulesBy image table) s t oldest (drop 1 (pendingAt s i)) rests first-oldest
+        (rw (k .lock) at e))
 
-    pub begins : {b′ : List ℕ} {x y : ThreadState} (g : Value.Signal) → t < threadCount → signalOf g ≡ oldest → Runs x 0 (begin (signalOf g)) → Runs y (bitOr (x .locks) (2 ^ l .0)) (jobOf x)
+    pub begins : {b′ : List ℕ} {x y : ThreadState} (g : Value.Signal) → t < threadCount → signalOf g ≡ oldest
+        → Runs x 0 (begin (signalOf g)) → Runs y (bitOr (x .locks) (2 ^ l .0)) (jobOf x)
         → b′ ≡ put b (threadPlace t) (rawBytes y) → Encodes b′ begun
     begins g inside e m n z = runs-written h t inside (runs-as (holds-more (l .0) m n) refl (ap begin e)) z
 
     -- its tree is there still, and the signal leaves it
-    pub tree-stays : {b′ : List ℕ} → Encodes b′ begun → Canonical b′ × (i < length (machineFrom b′ .trees)) × (0 < length (pendingAt (machineFrom b′) i))
-    tree-stays {b′} z = (encoded-canonical b′ begun z, rw (encoded-machine b′ begun z) (k .inside), rw (encoded-machine b′ begun z) (k .some))
+    pub tree-stays : {b′ : List ℕ} → Encodes b′ begun
+        → Canonical b′ × (i < length (machineFrom b′ .trees)) × (0 < length (pendingAt (machineFrom b′) i))
+    tree-stays {b′} z = (
+      encoded-canonical b′ begun z,
+      rw (encoded-machine b′ begun z) (k .inside),
+      rw (encoded-machine b′ begun z)
+          (k .some),
+    )
 
     pub started : {b′ b″ : List ℕ} → held (l .0) (set (s .threads) t idle) ≡ false → Encodes b′ begun → Canonical b″
-        → ((u : ℕ) → i ≡ firstTree u (machineFrom b′ .trees) → machineFrom b″ ≡ taken u i (machineFrom b′)) → Stepped image table b t b″ Started
+        → ((u : ℕ) → i ≡ firstTree u (machineFrom b′ .trees) → machineFrom b″ ≡ taken u i (machineFrom b′))
+        → Stepped image table b t b″ Started
     started {b′} {b″} e z c f =
         let same : machineFrom b′ ≡ begun = encoded-machine b′ begun z in
         let m : machineFrom b″ ≡ taken t i begun = f t (rw same (k .place)) ∙ ap (taken t i) same in

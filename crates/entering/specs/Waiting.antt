@@ -78,7 +78,8 @@ answered s a e = ap (λ (q : Reply). asked (q .answer)) e
 
 -- ---- direct SEND and CALL
 
-pub wants-passage : {image table b : List ℕ} {t : ℕ} {w : State.ThreadState} {r returns vs : List ℕ} {p : Passage} → Enters image table b t w r returns vs p → Wants image table (machineFrom b) t (lockOf p)
+pub wants-passage : {image table b : List ℕ} {t : ℕ} {w : State.ThreadState} {r returns vs : List ℕ} {p : Passage}
+    → Enters image table b t w r returns vs p → Wants image table (machineFrom b) t (lockOf p)
 wants-passage {image} {table} {b} {t} {w} {p = p} e = case _ p (e .passes)
   where
     case : (k : Job) (p : Passage) → Passes image table (machineFrom b) t (w .locks) k p → Wants image table (machineFrom b) t (lockOf p)
@@ -165,7 +166,8 @@ quiet-act image table t j words pending h =
     quiet-resolve (blockAt image) (rowAt table) t (labelA r) (labelB r) (roleA s) (roleB s) (outcome (view j words pending) s (dataOf r)) (j .returns)
     (refers (view j words pending) s (dataOf r)) h
 
-module _ (R : Rules) (s : Machine) (t l : ℕ) (j : Job) (p : List Signal) (runs : threadAt s t ≡ running l j) (own : first t (s .trees) ≡ some p) where
+module _ (R : Rules) (s : Machine) (t l : ℕ) (j : Job) (p : List Signal) (runs : threadAt s t ≡ running l j)
+    (own : first t (s .trees) ≡ some p) where
   quiet-asks : Quiet (effect R s t l j p runs own) → asked (react R s (step t) .answer) ≡ none
   quiet-asks h = case (effect R s t l j p runs own) refl h
     where
@@ -182,7 +184,8 @@ wants-nothing {image} {table} {b} {t} {w} {r} h q =
 
 -- ---- the start of a job
 
-pub wants-first : {image table b : List ℕ} (h : Ready image table b) (t : ℕ) → threadAt (machineFrom b) t ≡ idle → (f : First) → FirstOf image table (machineFrom b) t f → Wants image table (machineFrom b) t (firstLock f)
+pub wants-first : {image table b : List ℕ} (h : Ready image table b) (t : ℕ) → threadAt (machineFrom b) t ≡ idle → (f : First)
+    → FirstOf image table (machineFrom b) t f → Wants image table (machineFrom b) t (firstLock f)
 wants-first {image} {table} {b} h t rests found.Nothing k = answered _ _ (no-tree (rulesBy image table) (machineFrom b) t rests k)
 wants-first h t rests (found.Wait l) k = (k .1 .small, answered _ _ (start-waiting h t rests (k .1) (k .2)))
 wants-first h t rests (found.Go i l) k = answered _ _ (start-running h t rests (k .0) (k .1))
@@ -202,12 +205,14 @@ module _ (image table : List ℕ) (s : Machine) (t : ℕ) where
     holder-is : holderOf (holder (l .0) (s .threads)) ≡ Held (Sorts.thread (holder (l .0) (s .threads)))
     holder-is = sym (holder-held _ (awaits-inside (rulesBy image table) s sized t _ awaits-some))
 
-    pub awaits-holder : (x : Holder) (u : sorts-thread.Thread) → x ≡ holderOf (holder (l .0) (s .threads)) → x ≡ Held u → For u ≡ waitsOf (awaits (rulesBy image table) s t)
+    pub awaits-holder : (x : Holder) (u : sorts-thread.Thread) → x ≡ holderOf (holder (l .0) (s .threads)) → x ≡ Held u
+        → For u ≡ waitsOf (awaits (rulesBy image table) s t)
     awaits-holder x u e f =
         let g : Held u ≡ Held (Sorts.thread (holder (l .0) (s .threads))) = sym f ∙ e ∙ holder-is in
         let n : u ≡ Sorts.thread (holder (l .0) (s .threads)) = cc in
         ap For n ∙ ap waitsOf (sym awaits-some)
 
     -- a lock that is waited for is held
-    pub awaits-free : (x : Holder) → x ≡ holderOf (holder (l .0) (s .threads)) → x ≡ Free → Nobody ≡ waitsOf (awaits (rulesBy image table) s t)
+    pub awaits-free : (x : Holder) → x ≡ holderOf (holder (l .0) (s .threads)) → x ≡ Free
+        → Nobody ≡ waitsOf (awaits (rulesBy image table) s t)
     awaits-free x e f = let g : Free ≡ Held (Sorts.thread (holder (l .0) (s .threads))) = sym f ∙ e ∙ holder-is in never (cc)

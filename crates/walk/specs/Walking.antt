@@ -3,7 +3,8 @@ use mathlib.Core.Path.{_≡_, refl, sym, ap, _∙_}
 use mathlib.Core.Logic.{_⊎_, inl, inr, if-pos, if-neg}
 use mathlib.Core.Bool.{Bool, true, false, _||_, true≢false}
 use mathlib.Core.Option.{Option, none, some, Option·elim}
-use mathlib.Core.List.{List, [], _∷_, _++_, append-assoc, List·Memᴰ, List·Memᴰ·head, List·Memᴰ·tail, List·Memᴰ·not-nil, List·Memᴰ·cases-cons}
+use mathlib.Core.List.{List, [], _∷_, _++_, append-assoc}
+use mathlib.Core.List.{List·Memᴰ, List·Memᴰ·head, List·Memᴰ·tail, List·Memᴰ·not-nil, List·Memᴰ·cases-cons}
 use Prim.Native.Nat.{ℕ, zero, suc, _+_, _-_, _≤_, _<_}
 use native.Mathlib.Numerals.{add-one}
 use native.Mathlib.Omega.{arith}
@@ -104,7 +105,8 @@ module _ (next : ℕ → Option ℕ) (out : List ℕ) (n t : ℕ) (size : length
 
       abbrev on : Option ℕ → Walk
       unfolding Option·elim
-      on o = onto t (Option·elim o (record { threads = []; ring = false }) (λ u. walkOn next (threadCount - (n + 1)) (take n out ++ t ∷ []) u))
+      on o = onto t (Option·elim o (record { threads = []; ring = false })
+          (λ u. walkOn next (threadCount - (n + 1)) (take n out ++ t ∷ []) u))
 
       on-is : (o : Option ℕ) → next t ≡ o → walkRest next n out t ≡ on o
       unfolding walkOn Option·elim
@@ -115,9 +117,11 @@ module _ (next : ℕ → Option ℕ) (out : List ℕ) (n t : ℕ) (size : length
 
       pub halts : next t ≡ none → Came (n + 1) (set out n t) (walkRest next n out t)
       unfolding Option·elim
-      halts e = let k : walkRest next n out t ≡ record { threads = t ∷ []; ring = false } = on-is none e in rw k (omega arith, rw (set-split out n t here, add-one) refl)
+      halts e = let k : walkRest next n out t ≡ record { threads = t ∷ []; ring = false } =
+          on-is none e in rw k (omega arith, rw (set-split out n t here, add-one) refl)
 
-      pub goes : (u r : ℕ) (l : List ℕ) → next t ≡ some u → r ≡ counted (n + 1) (walkRest next (n + 1) (set out n t) u) → l ≡ laidBehind (n + 1) (set out n t) (walkRest next (n + 1) (set out n t) u)
+      pub goes : (u r : ℕ) (l : List ℕ) → next t ≡ some u → r ≡ counted (n + 1) (walkRest next (n + 1) (set out n t) u)
+          → l ≡ laidBehind (n + 1) (set out n t) (walkRest next (n + 1) (set out n t) u)
           → Came r l (walkRest next n out t)
       unfolding Option·elim
       goes u r l e p q =
@@ -127,7 +131,8 @@ module _ (next : ℕ → Option ℕ) (out : List ℕ) (n t : ℕ) (size : length
           let p′ : r ≡ counted (n + 1) (walkOn next (threadCount - (n + 1)) (take n out ++ t ∷ []) u) = rw f at p in
           let q′ : l ≡ (take n out ++ t ∷ []) ++ (w .threads ++ drop (n + 1 + length (w .threads)) (set out n t)) = rw f at q in
           let z : n + 1 + length (w .threads) ≡ n + suc (length (w .threads)) = omega arith in
-          let d : drop (n + 1 + length (w .threads)) (set out n t) ≡ drop (n + suc (length (w .threads))) out = drop-set-lt (n + 1 + length (w .threads)) out n t (omega arith) ∙ ap (λ (i : ℕ). drop i out) z in
+          let d : drop (n + 1 + length (w .threads)) (set out n t) ≡ drop (n + suc (length (w .threads))) out =
+          drop-set-lt (n + 1 + length (w .threads)) out n t (omega arith) ∙ ap (λ (i : ℕ). drop i out) z in
           rw k (p′ ∙ omega arith, q′ ∙ rw d (append-assoc (take n out) (t ∷ []) _))
 
 drop-replicate : (m k v : ℕ) → drop k (replicate m v) ≡ replicate (m - k) v
@@ -136,7 +141,8 @@ drop-replicate zero (suc k) v = let e : 0 - suc k ≡ 0 = omega arith in rw e re
 drop-replicate (suc m) (suc k) v = let e : suc m - suc k ≡ m - k = omega arith in rw e (drop-replicate m k v)
 
 -- from no thread met, over unused bytes
-pub from-none : (next : ℕ → Option ℕ) (out : List ℕ) (t r : ℕ) (l : List ℕ) → out ≡ replicate threadCount unusedByte → r ≡ counted 0 (walkRest next 0 out t) → l ≡ laidBehind 0 out (walkRest next 0 out t)
+pub from-none : (next : ℕ → Option ℕ) (out : List ℕ) (t r : ℕ) (l : List ℕ) → out ≡ replicate threadCount unusedByte
+    → r ≡ counted 0 (walkRest next 0 out t) → l ≡ laidBehind 0 out (walkRest next 0 out t)
     → (r ≡ metCount (walk next threadCount t)) × (l ≡ metBytes (walk next threadCount t))
 unfolding walk metCount metBytes
 from-none next out t r l e p q =

@@ -32,12 +32,22 @@ walk-on-below t = and 4 walk-on-kinds.ps (falls 4 walk-on-kinds.ps _<_ μ-walk-o
 
 -- what the calls ask and give
 abbrev callees : ℕ → walk-on-lts.Claims
-callees t = (is-met-reads.Asked, is-met-reads.Learnt, thread-number-reads.Asked, thread-number-reads.Learnt, awaited-reads.Asked, awaited-reads.Learnt, walk-on-below t, walk-on.Post)
+callees t = (
+  is-met-reads.Asked,
+  is-met-reads.Learnt,
+  thread-number-reads.Asked,
+  thread-number-reads.Learnt,
+  awaited-reads.Asked,
+  awaited-reads.Learnt,
+  walk-on-below t,
+  walk-on.Post,
+)
 
 walk-on-returns : (t : ℕ) → walk-on-lts.Need-returns (callees t) (walk-on-at t) walk-on.Post
 walk-on-returns t c =
     let s = c .before .before .before .before .before .before .before .before in
-    ring _ (s .args .met .now) (s .args .n) _ (s .pre .1 .2) (c .before .before .before .if1 .taken) (sym (c .before .is-met .ensures) ∙ c .if2 .taken)
+    ring _ (s .args .met .now) (s .args .n) _ (s .pre .1 .2) (c .before .before .before .if1 .taken)
+    (sym (c .before .is-met .ensures) ∙ c .if2 .taken)
 
 walk-on-walk-on-requires : (t : ℕ) → walk-on-lts.Need-walk-on-requires (callees t) (walk-on-at t) walk-on.Post
 walk-on-walk-on-requires t c κs =
@@ -45,22 +55,39 @@ walk-on-walk-on-requires t c κs =
     let a = s .args in
     let R = rulesBy (a .image .now) (a .table .now) in
     let m = machineFrom (a .state .now) in
-    let u : awaits R m (a .t .0) ≡ some (c .before .before .next .given .0 .0 .0) = next-some _ _ _ (c .before .before .before .before .awaited .ensures) (c .before .before .next .given .1) in
-    (omega arith, (s .pre .1 .0, omega arith, simp length-set (omega arith), awaits-inside R m (s .pre .1 .0 .canonical .sized .threads) (a .t .0) _ u))
+    let u : awaits R m (a .t .0) ≡ some (c .before .before .next .given .0 .0 .0) =
+    next-some _ _ _ (c .before .before .before .before .awaited .ensures) (c .before .before .next .given .1) in (
+      omega arith,
+      (
+        s .pre .1 .0,
+        omega arith,
+        simp length-set (omega arith),
+        awaits-inside R m (s .pre .1 .0 .canonical .sized .threads)
+            (a .t .0) _ u,
+      ),
+    )
 
 walk-on-same-length-2 : (t : ℕ) → walk-on-lts.Need-same-length-2 (callees t) (walk-on-at t) walk-on.Post
 walk-on-same-length-2 t c = c .before .before .walk-on .kept .1 .1 .1 .0 ∙ simp length-set
 
 walk-on-returns-2 : (t : ℕ) → walk-on-lts.Need-returns-2 (callees t) (walk-on-at t) walk-on.Post
 walk-on-returns-2 t c =
-    let s = c .before .before .before .before .before .before .before .before .before .before .before .before .before .before .before .before .before in
+    let s = c .before .before .before .before .before .before .before .before .before .before .before .before .before .before .before
+    .before .before in
     let a = s .args in
     let R = rulesBy (a .image .now) (a .table .now) in
     let m = machineFrom (a .state .now) in
-    let e : c .before .before .before .before .before .before .before .before .thread-number .result ≡ a .t .0 = c .before .before .before .before .before .before .before .before .thread-number .ensures in
-    let fresh = rw (← e) at (sym (c .before .before .before .before .before .before .before .before .before .before .is-met .ensures) ∙ c .before .before .before .before .before .before .before .before .before .if2 .left) in
-    let u : awaits R m (c .before .before .before .before .before .before .before .before .thread-number .result) ≡ some (c .before .before .before .before .before .next .given .0 .0 .0) = ap (awaits R m) e ∙ next-some _ _ _ (c .before .before .before .before .before .before .before .awaited .ensures) (c .before .before .before .before .before .next .given .1) in
-    rw (← e) (goes (awaits R m) (a .met .now) (a .n) _ (s .pre .1 .2) (c .before .before .before .before .before .before .before .before .before .before .before .before .if1 .taken) fresh _ _ _ u (c .before .before .walk-on .ensures .0) (c .before .before .walk-on .ensures .1))
+    let e : c .before .before .before .before .before .before .before .before .thread-number .result ≡ a .t .0 =
+    c .before .before .before .before .before .before .before .before .thread-number .ensures in
+    let fresh = rw (← e) at (sym (c .before .before .before .before .before .before .before .before .before .before .is-met .ensures)
+    ∙ c .before .before .before .before .before .before .before .before .before .if2 .left) in
+    let u : awaits R m (c .before .before .before .before .before .before .before .before .thread-number .result) ≡ some
+    (c .before .before .before .before .before .next .given .0 .0 .0) = ap (awaits R m) e
+    ∙ next-some _ _ _ (c .before .before .before .before .before .before .before .awaited .ensures)
+    (c .before .before .before .before .before .next .given .1) in
+    rw (← e) (goes (awaits R m) (a .met .now) (a .n) _ (s .pre .1 .2)
+    (c .before .before .before .before .before .before .before .before .before .before .before .before .if1 .taken) fresh _ _ _ u
+    (c .before .before .walk-on .ensures .0) (c .before .before .walk-on .ensures .1))
 
 walk-on-returns-3 : (t : ℕ) → walk-on-lts.Need-returns-3 (callees t) (walk-on-at t) walk-on.Post
 walk-on-returns-3 t c =
@@ -69,9 +96,12 @@ walk-on-returns-3 t c =
     let R = rulesBy (a .image .now) (a .table .now) in
     let m = machineFrom (a .state .now) in
     let e : c .before .before .before .thread-number .result ≡ a .t .0 = c .before .before .before .thread-number .ensures in
-    let fresh = rw (← e) at (sym (c .before .before .before .before .before .is-met .ensures) ∙ c .before .before .before .before .if2 .left) in
-    let u : awaits R m (c .before .before .before .thread-number .result) ≡ none = ap (awaits R m) e ∙ next-none _ _ (c .before .before .awaited .ensures) (c .enum-told .given .1) in
-    rw (← e) (halts (awaits R m) (a .met .now) (a .n) _ (s .pre .1 .2) (c .before .before .before .before .before .before .before .if1 .taken) fresh u)
+    let fresh = rw (← e) at (sym (c .before .before .before .before .before .is-met .ensures)
+    ∙ c .before .before .before .before .if2 .left) in
+    let u : awaits R m (c .before .before .before .thread-number .result) ≡ none = ap (awaits R m) e
+    ∙ next-none _ _ (c .before .before .awaited .ensures) (c .enum-told .given .1) in
+    rw (← e) (halts (awaits R m) (a .met .now) (a .n) _ (s .pre .1 .2)
+    (c .before .before .before .before .before .before .before .if1 .taken) fresh u)
 
 walk-on-returns-4 : (t : ℕ) → walk-on-lts.Need-returns-4 (callees t) (walk-on-at t) walk-on.Post
 walk-on-returns-4 t c =

@@ -27,7 +27,8 @@ returns c =
     let s = c .before .before .before .before .before .before in
     let a = s .args in
     let e : eqb (getD (a .met .now) (l .k) 0) (t .result) ≡ true = eq-eqb _ _ (c .if1 .taken) in
-    rw (← t .ensures) (sym (l .inv .1 ∙ among-step (a .met .now) (t .result) (a .n) (l .k) (c .before .before .loop-test .taken) (s .pre) ∙ rw e refl))
+    rw (← t .ensures) (sym (l .inv .1 ∙ among-step (a .met .now) (t .result) (a .n) (l .k) (c .before .before .loop-test .taken) (s .pre)
+    ∙ rw e refl))
 
 loop-again : tie.Need-loop-again Inv-loop μ-loop
 loop-again c =

@@ -22,7 +22,8 @@ returns c =
     let a = s .args in
     let R = rulesBy (a .image .now) (a .table .now) in
     let m = machineFrom (a .state .now) in
-    from-none (awaits R m) _ (a .t .0) _ _ (c .before .before .before .before .before .before .blank .ensures) (c .before .before .walk-on .ensures .0) (c .before .before .walk-on .ensures .1)
+    from-none (awaits R m) _ (a .t .0) _ _ (c .before .before .before .before .before .before .blank .ensures)
+    (c .before .before .walk-on .ensures .0) (c .before .before .walk-on .ensures .1)
 
 pub walk-spec : {M : Type 1} → statement M
 walk-spec = tie.close (tie.spec blank-requires walk-on-requires same-length returns)

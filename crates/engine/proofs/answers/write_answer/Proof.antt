@@ -12,8 +12,14 @@ returns : tie.Need-returns
 unfolding answerBytes
 returns c =
     let s = c .before .before .before .before .before .before .before .before .before .before .before in
-    let e = put-then (s .args .answers .now) (answerSize * s .args .i) (c .before .before .before .before .before .before .before .before .code-of .result ∷ []) (answerSize * s .args .i + 1) (c .before .before .before .detail-of .result ∷ []) (c .before .before .before .before .before .before .before .put8 .ensures) (c .before .before .put82 .ensures) refl in
-    rw (c .before .before .before .before .before .before .before .before .code-of .ensures, c .before .before .before .detail-of .ensures) at e
+    let e = put-then (s .args .answers .now) (answerSize * s .args .i)
+    (c .before .before .before .before .before .before .before .before .code-of .result ∷ []) (answerSize * s .args .i + 1)
+    (c .before .before .before .detail-of .result ∷ []) (c .before .before .before .before .before .before .before .put8 .ensures)
+    (c .before .before .put82 .ensures) refl in
+    rw (
+      c .before .before .before .before .before .before .before .before .code-of .ensures,
+      c .before .before .before .detail-of .ensures,
+    ) at e
 
 pub write-answer-spec : {M : Type 1} → statement M
 write-answer-spec =

@@ -19,21 +19,35 @@ clear-requires c κs = omega (arith, c .before .before .before .copy .kept .0)
 
 loop-holds : tie.Need-loop-holds Inv-loop μ-loop
 loop-holds c =
-    let s = c .before .before .before .before .before .before .before .before .before .before in
-    (omega arith, omega (arith, c .before .before .before .before .before .before .copy .kept .0, c .before .before .clear .kept .0), begun-none (now (s .args .words)) (s .pre .0) (stateSize - wordsSize) refl (now (s .args .state)) (s .pre .1) (c .before .before .before .before .before .before .copy .ensures) (c .before .before .clear .ensures))
+    let s = c .before .before .before .before .before .before .before .before .before .before in (
+      omega arith,
+      omega (arith, c .before .before .before .before .before .before .copy .kept .0, c .before .before .clear .kept .0),
+      begun-none (now (s .args .words)) (s .pre .0) (stateSize - wordsSize) refl (now (s .args .state)) (s .pre .1)
+          (c .before .before .before .before .before .before .copy .ensures) (c .before .before .clear .ensures),
+    )
 
 loop-again : tie.Need-loop-again Inv-loop μ-loop
 loop-again c =
-    let s = c .before .before .before .before .before .before .before .before .before .before .before .before .before .before .before .before in
-    let l = c .before .before .before .before .before .loop in
-    (omega arith, omega (arith, c .before .before .put16 .kept .0), begun-more (now (s .args .words)) (s .pre .0) (stateSize - wordsSize) refl (l .t) (c .before .before .before .before .loop-test .taken) (l .inv .2) (c .before .before .put16 .ensures))
+    let s = c .before .before .before .before .before .before .before .before .before .before .before .before .before .before .before
+    .before in
+    let l = c .before .before .before .before .before .loop in (
+      omega arith,
+      omega (arith, c .before .before .put16 .kept .0),
+      begun-more (now (s .args .words)) (s .pre .0) (stateSize - wordsSize)
+          refl (l .t) (c .before .before .before .before .loop-test .taken) (l .inv .2) (c .before .before .put16 .ensures),
+    )
 
 returns : tie.Need-returns Inv-loop μ-loop
 returns c =
     let s = c .before .before .before .before .before .before .before .before .before .before .before .before in
     let l = c .before .loop in
     let e : l .t ≡ threadCount = omega arith in
-    begun-all (now (s .args .words)) (s .pre .0) (stateSize - wordsSize) refl (λ j. omega (arith, c .before .before .before .before .before .before .before .before .before .before .before .shared-slice-known .given j)) (rw e at (l .inv .2))
+    begun-all (now (s .args .words)) (s .pre .0) (stateSize - wordsSize) refl
+    (λ j. omega (
+      arith,
+      c .before .before .before .before .before .before .before .before .before .before
+          .before .shared-slice-known .given j,
+    )) (rw e at (l .inv .2))
 
 pub fresh-spec : {M : Type 1} → statement M
 fresh-spec =

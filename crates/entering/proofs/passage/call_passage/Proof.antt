@@ -18,7 +18,8 @@ passage-to-requires c κs =
 returns : tie.Need-returns
 returns c =
     let s = c .before .before .before .before .before .before .before .before .before in
-    call-enters-as (s .pre .0) (rw (s .pre .2) at (c .before .before .before .read-data .ensures)) _ (s .pre .1) (rw (c .before .label-a .ensures, c .before .before .call-trap .ensures) at (c .passage-to .ensures))
+    call-enters-as (s .pre .0) (rw (s .pre .2) at (c .before .before .before .read-data .ensures)) _ (s .pre .1)
+    (rw (c .before .label-a .ensures, c .before .before .call-trap .ensures) at (c .passage-to .ensures))
 
 pub call-passage-spec : {M : Type 1} → statement M
 call-passage-spec =

@@ -18,7 +18,8 @@ passage-to-requires c κs =
 returns : tie.Need-returns
 returns c =
     let s = c .before .before .before .before .before .before .before .before in
-    send-enters-as (s .pre .0) (rw (s .pre .2) at (c .before .before .read-data .ensures)) _ (s .pre .1) (rw (c .before .label-a .ensures) at (c .passage-to .ensures))
+    send-enters-as (s .pre .0) (rw (s .pre .2) at (c .before .before .read-data .ensures)) _ (s .pre .1)
+    (rw (c .before .label-a .ensures) at (c .passage-to .ensures))
 
 pub send-passage-spec : {M : Type 1} → statement M
 send-passage-spec =
