@@ -20,9 +20,9 @@ static const struct statement program[RECORDS] = {
     {ASKER, PLEX_NO_ENTRY, PLEX_EXIT, 0, 0, 0, 0, {NUMBER(0)}},
 };
 
-static const uint8_t table[PLEX_TABLE_SIZE] = {
-    [PLEX_ROW_SIZE * COUNTER + PLEX_ROW_KIND] = PLEX_CMX,
-    [PLEX_ROW_SIZE * ASKER + PLEX_ROW_THREAD] = 1, [PLEX_ROW_SIZE * ASKER + PLEX_ROW_KIND] = PLEX_CMX};
+static const uint8_t table[PLEX_TABLE_SIZE] = {[PLEX_ROW_SIZE * COUNTER + PLEX_ROW_KIND] = PLEX_CMX,
+                                               [PLEX_ROW_SIZE * ASKER + PLEX_ROW_THREAD] = 1,
+                                               [PLEX_ROW_SIZE * ASKER + PLEX_ROW_KIND] = PLEX_CMX};
 static const uint8_t words[PLEX_WORDS_SIZE];
 static uint8_t image[RECORDS * PLEX_RECORD_SIZE];
 
@@ -66,8 +66,8 @@ static void make_events(struct list *list)
 
 static int carry_out(struct list *list, uint8_t *state)
 {
-    return plex_fresh(image, sizeof image, table, sizeof table, words, sizeof words, state, PLEX_STATE_SIZE) == 0
-        && plex_run(image, sizeof image, table, sizeof table, state, PLEX_STATE_SIZE, list->events,
+    return plex_fresh(image, sizeof image, table, sizeof table, words, sizeof words, state, PLEX_STATE_SIZE) == 0 &&
+           plex_run(image, sizeof image, table, sizeof table, state, PLEX_STATE_SIZE, list->events,
                     PLEX_EVENT_SIZE * list->count, list->answers, PLEX_ANSWER_SIZE * list->count) == 0;
 }
 
@@ -128,8 +128,8 @@ static int same_answers(const struct list *first, const struct list *second)
 {
     int same = 1;
     for (uint32_t i = 0; i < second->count; i++)
-        same &= memcmp(second->answers + PLEX_ANSWER_SIZE * i,
-                       first->answers + PLEX_ANSWER_SIZE * second->numbers[i], PLEX_ANSWER_SIZE) == 0;
+        same &= memcmp(second->answers + PLEX_ANSWER_SIZE * i, first->answers + PLEX_ANSWER_SIZE * second->numbers[i],
+                       PLEX_ANSWER_SIZE) == 0;
     return same;
 }
 
@@ -149,7 +149,8 @@ int main(void)
         return 1;
     print_list("the second order", &second);
     int same_state = memcmp(left, left_again, sizeof left) == 0, answered = same_answers(&first, &second);
-    printf("the state bytes are %s, the answers are %s\n", same_state ? "the same" : "OTHERS", answered ? "the same" : "OTHERS");
+    printf("the state bytes are %s, the answers are %s\n", same_state ? "the same" : "OTHERS",
+           answered ? "the same" : "OTHERS");
     printf("word 0 of block %d is %u, word 0 of block %d is %u\n", COUNTER, get16(word_at(left, COUNTER, 0)), ASKER,
            get16(word_at(left, ASKER, 0)));
     return !same_state || !answered;

@@ -48,38 +48,43 @@ extern "C" {
 #define PLEX_FORMAT_VERSION 1
 
 /* ---- Limits. */
-#define PLEX_THREADS 8        /* threads of a machine */
-#define PLEX_BLOCKS 16        /* blocks of a machine; lock b guards block b */
-#define PLEX_BLOCK_WORDS 16   /* shared words of a block */
-#define PLEX_REGISTERS 25     /* registers of a thread; also data of a signal */
-#define PLEX_RETURNS_MAX 8    /* return labels of a thread */
-#define PLEX_TREES_MAX 16     /* job trees of a machine */
-#define PLEX_PENDING_MAX 8    /* pending signals of a tree */
-#define PLEX_RECORDS_MAX 512  /* records of an image; at least 1 */
-#define PLEX_EVENTS_MAX 1024  /* events of one Run; at least 0 */
-#define PLEX_STACK_MAX 65536  /* bytes of stack that a call needs at most */
+#define PLEX_THREADS 8       /* threads of a machine */
+#define PLEX_BLOCKS 16       /* blocks of a machine; lock b guards block b */
+#define PLEX_BLOCK_WORDS 16  /* shared words of a block */
+#define PLEX_REGISTERS 25    /* registers of a thread; also data of a signal */
+#define PLEX_RETURNS_MAX 8   /* return labels of a thread */
+#define PLEX_TREES_MAX 16    /* job trees of a machine */
+#define PLEX_PENDING_MAX 8   /* pending signals of a tree */
+#define PLEX_RECORDS_MAX 512 /* records of an image; at least 1 */
+#define PLEX_EVENTS_MAX 1024 /* events of one Run; at least 0 */
+#define PLEX_STACK_MAX 65536 /* bytes of stack that a call needs at most */
 
 /* ---- Sizes in bytes. */
-#define PLEX_RECORD_SIZE 84   /* a record of the image; its index is its label */
+#define PLEX_RECORD_SIZE 84 /* a record of the image; its index is its label */
 #define PLEX_OPERAND_SIZE 3
-#define PLEX_ROW_SIZE 2       /* a record of the block table; its index is its block */
-#define PLEX_TABLE_SIZE 32    /* the block table: one record for each block */
-#define PLEX_WORDS_SIZE 512   /* the shared words: word w of block b is number 16 x b + w */
-#define PLEX_STATE_SIZE 7929  /* the state: words, threads, tree count, trees */
+#define PLEX_ROW_SIZE 2      /* a record of the block table; its index is its block */
+#define PLEX_TABLE_SIZE 32   /* the block table: one record for each block */
+#define PLEX_WORDS_SIZE 512  /* the shared words: word w of block b is number 16 x b + w */
+#define PLEX_STATE_SIZE 7929 /* the state: words, threads, tree count, trees */
 #define PLEX_THREAD_SIZE 75
 #define PLEX_TREE_SIZE 426
 #define PLEX_SIGNAL_SIZE 53
 #define PLEX_EVENT_SIZE 55
-#define PLEX_ANSWER_SIZE 2    /* code, detail */
-#define PLEX_MET_SIZE 8       /* what the walk writes to: one thread number a byte */
+#define PLEX_ANSWER_SIZE 2 /* code, detail */
+#define PLEX_MET_SIZE 8    /* what the walk writes to: one thread number a byte */
 
 /* ---- Where the fields lie. */
 
 /* In a record of the image. */
 enum {
-    PLEX_RECORD_OPCODE = 0, PLEX_RECORD_BLOCK = 1, PLEX_RECORD_ENTRY = 2,
-    PLEX_RECORD_OPERATOR = 3, PLEX_RECORD_A = 4, PLEX_RECORD_B = 6, /* labels, 2 bytes each */
-    PLEX_RECORD_COUNT = 8, PLEX_RECORD_OPERANDS = 9                 /* 25 operands of 3 bytes */
+    PLEX_RECORD_OPCODE = 0,
+    PLEX_RECORD_BLOCK = 1,
+    PLEX_RECORD_ENTRY = 2,
+    PLEX_RECORD_OPERATOR = 3,
+    PLEX_RECORD_A = 4,
+    PLEX_RECORD_B = 6, /* labels, 2 bytes each */
+    PLEX_RECORD_COUNT = 8,
+    PLEX_RECORD_OPERANDS = 9 /* 25 operands of 3 bytes */
 };
 
 /* In an operand; the value has 2 bytes. */
@@ -89,16 +94,17 @@ enum { PLEX_OPERAND_KIND = 0, PLEX_OPERAND_VALUE = 1 };
 enum { PLEX_ROW_THREAD = 0, PLEX_ROW_KIND = 1 };
 
 /* In the state. */
-enum {
-    PLEX_STATE_WORDS = 0, PLEX_STATE_THREADS = 512, PLEX_STATE_TREE_COUNT = 1112,
-    PLEX_STATE_TREES = 1113
-};
+enum { PLEX_STATE_WORDS = 0, PLEX_STATE_THREADS = 512, PLEX_STATE_TREE_COUNT = 1112, PLEX_STATE_TREES = 1113 };
 
 /* In a thread record: bit b of the lock set is lock b, bit r of presence is register r, and the
  * oldest return label comes first. */
 enum {
-    PLEX_THREAD_LABEL = 0, PLEX_THREAD_LOCKS = 2, PLEX_THREAD_RETURN_COUNT = 4,
-    PLEX_THREAD_RETURNS = 5, PLEX_THREAD_PRESENCE = 21, PLEX_THREAD_VALUES = 25
+    PLEX_THREAD_LABEL = 0,
+    PLEX_THREAD_LOCKS = 2,
+    PLEX_THREAD_RETURN_COUNT = 4,
+    PLEX_THREAD_RETURNS = 5,
+    PLEX_THREAD_PRESENCE = 21,
+    PLEX_THREAD_VALUES = 25
 };
 #define PLEX_IDLE 65535 /* the label of an idle thread */
 
@@ -154,11 +160,11 @@ enum {
 
 /* Reasons of a trap, in the order in which they are tested. */
 enum {
-    PLEX_ABSENT_REGISTER = 1,  /* an absent register is read */
-    PLEX_NO_RETURN_LABEL = 2,  /* RETURN with no return label */
-    PLEX_RETURNS_FULL = 3,     /* CALL with 8 return labels */
-    PLEX_PENDING_FULL = 4,     /* buffered SEND with 8 pending in the job's own tree */
-    PLEX_FOREIGN_FD_BLOCK = 5  /* direct SEND or CALL to an FD block of another thread */
+    PLEX_ABSENT_REGISTER = 1, /* an absent register is read */
+    PLEX_NO_RETURN_LABEL = 2, /* RETURN with no return label */
+    PLEX_RETURNS_FULL = 3,    /* CALL with 8 return labels */
+    PLEX_PENDING_FULL = 4,    /* buffered SEND with 8 pending in the job's own tree */
+    PLEX_FOREIGN_FD_BLOCK = 5 /* direct SEND or CALL to an FD block of another thread */
 };
 
 /* Refusal numbers. The place is 0 where none is named. */
@@ -178,43 +184,34 @@ enum {
 };
 
 #define PLEX_NUMBER(result) ((uint32_t)(result) >> 16)
-#define PLEX_PLACE(result) ((uint32_t)(result) & 0xFFFFu)
+#define PLEX_PLACE(result) ((uint32_t)(result)&0xFFFFu)
 
 /* ---- The calls. */
 
 /* The image check. Returns 0 if the image and the table keep every rule, otherwise a refusal with
  * number 1 to 4. Alters nothing. */
-uint32_t plex_check(const uint8_t *image, size_t image_len,
-                    const uint8_t *table, size_t table_len);
+uint32_t plex_check(const uint8_t *image, size_t image_len, const uint8_t *table, size_t table_len);
 
 /* Makes a fresh machine: all threads idle, no trees, the initial words as shared words. Returns 0,
  * and has then written every byte of the state, whatever it held; otherwise a refusal with number
  * 1 to 5 or 10. Alters nothing else. */
-uint32_t plex_fresh(const uint8_t *image, size_t image_len,
-                    const uint8_t *table, size_t table_len,
-                    const uint8_t *words, size_t words_len,
-                    uint8_t *state, size_t state_len);
+uint32_t plex_fresh(const uint8_t *image, size_t image_len, const uint8_t *table, size_t table_len,
+                    const uint8_t *words, size_t words_len, uint8_t *state, size_t state_len);
 
 /* Run: carries the events out on the state, in their order, and writes code and detail of each
  * answer. Returns 0, and has then left a well-formed state and written every byte of the answers,
  * whatever they held; otherwise a refusal with number 1 to 9: no event is then carried out. Alters
  * nothing but the state and the answers. */
-uint32_t plex_run(const uint8_t *image, size_t image_len,
-                  const uint8_t *table, size_t table_len,
-                  uint8_t *state, size_t state_len,
-                  const uint8_t *events, size_t events_len,
-                  uint8_t *answers, size_t answers_len);
+uint32_t plex_run(const uint8_t *image, size_t image_len, const uint8_t *table, size_t table_len, uint8_t *state,
+                  size_t state_len, const uint8_t *events, size_t events_len, uint8_t *answers, size_t answers_len);
 
 /* The walk along waits: writes the threads met from the given one on, each once, up to one that
  * does not wait or that waits for a thread already met, and PLEX_UNMET in the bytes after them. A
  * thread waits for another if its next step would be answered PLEX_WAITING and the other holds
  * that lock. Returns the count of threads written, 1 to 8, plus PLEX_RING exactly if a ring closed;
  * otherwise a refusal with number 1 to 6, 11 or 12. Alters nothing but the 8 bytes. */
-uint32_t plex_walk(const uint8_t *image, size_t image_len,
-                   const uint8_t *table, size_t table_len,
-                   const uint8_t *state, size_t state_len,
-                   uint32_t thread,
-                   uint8_t *met, size_t met_len);
+uint32_t plex_walk(const uint8_t *image, size_t image_len, const uint8_t *table, size_t table_len, const uint8_t *state,
+                   size_t state_len, uint32_t thread, uint8_t *met, size_t met_len);
 
 #define PLEX_RING 256u
 #define PLEX_UNMET 255

@@ -74,8 +74,8 @@ static void try_image(void)
 static uint32_t run(uint8_t *tried, const uint8_t *event, size_t size)
 {
     uint8_t answer[PLEX_ANSWER_SIZE];
-    return plex_run(image, sizeof image, table, sizeof table, tried, PLEX_STATE_SIZE, event, size,
-                    answer, size == 0 ? 0 : sizeof answer);
+    return plex_run(image, sizeof image, table, sizeof table, tried, PLEX_STATE_SIZE, event, size, answer,
+                    size == 0 ? 0 : sizeof answer);
 }
 
 /* One event, at times damaged, and then the state that it leaves, damaged. */
@@ -116,8 +116,7 @@ static void begin(void)
         table[PLEX_ROW_SIZE * block + PLEX_ROW_THREAD] = (uint8_t)(block % PLEX_THREADS);
         table[PLEX_ROW_SIZE * block + PLEX_ROW_KIND] = block % 3 == 0 ? PLEX_FD : PLEX_CMX;
     }
-    if (plex_fresh(image, sizeof image, table, sizeof table, words, sizeof words, state,
-                   sizeof state) != 0)
+    if (plex_fresh(image, sizeof image, table, sizeof table, words, sizeof words, state, sizeof state) != 0)
         failures++;
 }
 
@@ -129,9 +128,8 @@ int main(void)
         if (trial % 16 == 0)
             try_image();
     }
-    printf("explanations: refused images %u, tables %u, events %u, states %u; %u failures\n",
-           refusals[PLEX_BAD_RECORD], refusals[PLEX_BAD_TABLE_FIELD], refusals[PLEX_BAD_EVENT],
-           refusals[PLEX_BAD_STATE], failures);
-    return failures != 0 || refusals[PLEX_BAD_RECORD] == 0 || refusals[PLEX_BAD_TABLE_FIELD] == 0
-        || refusals[PLEX_BAD_EVENT] == 0 || refusals[PLEX_BAD_STATE] == 0;
+    printf("explanations: refused images %u, tables %u, events %u, states %u; %u failures\n", refusals[PLEX_BAD_RECORD],
+           refusals[PLEX_BAD_TABLE_FIELD], refusals[PLEX_BAD_EVENT], refusals[PLEX_BAD_STATE], failures);
+    return failures != 0 || refusals[PLEX_BAD_RECORD] == 0 || refusals[PLEX_BAD_TABLE_FIELD] == 0 ||
+           refusals[PLEX_BAD_EVENT] == 0 || refusals[PLEX_BAD_STATE] == 0;
 }

@@ -12,7 +12,7 @@
 #endif
 
 HOLDS(PLEX_RECORD_OPERANDS + PLEX_OPERAND_SIZE * PLEX_REGISTERS == PLEX_RECORD_SIZE);
-HOLDS(PLEX_ROW_SIZE * PLEX_BLOCKS == PLEX_TABLE_SIZE);
+HOLDS(PLEX_ROW_SIZE *PLEX_BLOCKS == PLEX_TABLE_SIZE);
 HOLDS(2 * PLEX_BLOCKS * PLEX_BLOCK_WORDS == PLEX_WORDS_SIZE);
 HOLDS(PLEX_STATE_WORDS + PLEX_WORDS_SIZE == PLEX_STATE_THREADS);
 HOLDS(PLEX_STATE_THREADS + PLEX_THREADS * PLEX_THREAD_SIZE == PLEX_STATE_TREE_COUNT);
@@ -69,14 +69,13 @@ static void carry_out(void)
 {
     static const uint8_t expected[] = {1, 0, 5, 0, 6, 0, 7, 0, 3, 0};
     expect("check", plex_check(image, sizeof image, table, sizeof table) == 0);
-    expect("fresh", plex_fresh(image, sizeof image, table, sizeof table, words, sizeof words,
-                               state, sizeof state) == 0);
-    expect("run", plex_run(image, sizeof image, table, sizeof table, state, sizeof state, events,
-                           sizeof events, answers, sizeof answers) == 0);
+    expect("fresh",
+           plex_fresh(image, sizeof image, table, sizeof table, words, sizeof words, state, sizeof state) == 0);
+    expect("run", plex_run(image, sizeof image, table, sizeof table, state, sizeof state, events, sizeof events,
+                           answers, sizeof answers) == 0);
     expect("answers", memcmp(answers, expected, sizeof expected) == 0);
     expect("word 0", state[PLEX_STATE_WORDS] == 7 && state[PLEX_STATE_WORDS + 1] == 0);
-    expect("walk", plex_walk(image, sizeof image, table, sizeof table, state, sizeof state, 3,
-                             met, sizeof met) == 1);
+    expect("walk", plex_walk(image, sizeof image, table, sizeof table, state, sizeof state, 3, met, sizeof met) == 1);
     expect("met", met[0] == 3 && met[1] == PLEX_UNMET && met[PLEX_MET_SIZE - 1] == PLEX_UNMET);
 }
 

@@ -57,8 +57,8 @@ static void protect(uint8_t *room, int protection)
 
 static uint32_t fresh_and_run(const struct lent *lent)
 {
-    uint32_t made = plex_fresh(lent->image, trial.image_len, lent->table, PLEX_TABLE_SIZE, lent->words,
-                               PLEX_WORDS_SIZE, lent->state, PLEX_STATE_SIZE);
+    uint32_t made = plex_fresh(lent->image, trial.image_len, lent->table, PLEX_TABLE_SIZE, lent->words, PLEX_WORDS_SIZE,
+                               lent->state, PLEX_STATE_SIZE);
     return made != 0 ? made
                      : plex_run(lent->image, trial.image_len, lent->table, PLEX_TABLE_SIZE, lent->state,
                                 PLEX_STATE_SIZE, lent->events, trial.events_len, lent->answers, trial.answers_len);
@@ -66,8 +66,8 @@ static uint32_t fresh_and_run(const struct lent *lent)
 
 static int right(const struct lent *lent)
 {
-    return fresh_and_run(lent) == 0 && memcmp(lent->state, trial.state, PLEX_STATE_SIZE) == 0
-        && memcmp(lent->answers, trial.answers, trial.answers_len) == 0;
+    return fresh_and_run(lent) == 0 && memcmp(lent->state, trial.state, PLEX_STATE_SIZE) == 0 &&
+           memcmp(lent->answers, trial.answers, trial.answers_len) == 0;
 }
 
 /* The same results at every place; the walk with the state in memory that cannot be written. */
@@ -78,8 +78,8 @@ static void try_places(uint8_t *rooms[PARTS])
     for (size_t i = 0; i < sizeof places / sizeof places[0]; i++) {
         size_t at = places[i];
         struct lent lent = {
-            placed(rooms[0], at, trial.image, trial.image_len), placed(rooms[1], at, trial.table, PLEX_TABLE_SIZE),
-            placed(rooms[2], at, trial.words, PLEX_WORDS_SIZE), placed(rooms[3], at, trial.events, trial.events_len),
+            placed(rooms[0], at, trial.image, trial.image_len),  placed(rooms[1], at, trial.table, PLEX_TABLE_SIZE),
+            placed(rooms[2], at, trial.words, PLEX_WORDS_SIZE),  placed(rooms[3], at, trial.events, trial.events_len),
             placed(rooms[4], at, trial.events, PLEX_STATE_SIZE), placed(rooms[5], at, empty, trial.answers_len)};
         for (int part = 0; part < 4; part++)
             protect(rooms[part], PROT_READ);
@@ -89,7 +89,8 @@ static void try_places(uint8_t *rooms[PARTS])
         uint8_t *met = placed(rooms[5], at, empty, PLEX_MET_SIZE);
         for (uint32_t t = 0; t < PLEX_THREADS; t++)
             expect("walk", PLEX_NUMBER(plex_walk(lent.image, trial.image_len, lent.table, PLEX_TABLE_SIZE, lent.state,
-                                                 PLEX_STATE_SIZE, t, met, PLEX_MET_SIZE)) == 0 && met[0] == t);
+                                                 PLEX_STATE_SIZE, t, met, PLEX_MET_SIZE)) == 0 &&
+                               met[0] == t);
         for (int part = 0; part < 5; part++)
             protect(rooms[part], PROT_READ | PROT_WRITE);
     }
@@ -105,21 +106,21 @@ static void try_empty(uint8_t *room, uint8_t *nowhere)
     uint8_t bad[PLEX_EVENT_SIZE] = {PLEX_CUT + 1};
     expect("image of length 0", PLEX_NUMBER(plex_check(nowhere, 0, table, rows)) == PLEX_BAD_IMAGE_LENGTH);
     expect("table of length 0", PLEX_NUMBER(plex_check(image, size, nowhere, 0)) == PLEX_BAD_TABLE_LENGTH);
-    expect("no events", plex_run(image, size, table, rows, state, all, nowhere, 0, nowhere, 0) == 0
-                        && memcmp(state, trial.state, all) == 0);
+    expect("no events", plex_run(image, size, table, rows, state, all, nowhere, 0, nowhere, 0) == 0 &&
+                            memcmp(state, trial.state, all) == 0);
     protect(room, PROT_READ);
-    expect("state of length 0", PLEX_NUMBER(plex_fresh(image, size, table, rows, trial.words, PLEX_WORDS_SIZE, nowhere, 0))
-                                == PLEX_BAD_STATE_LENGTH);
-    expect("words of length 0", PLEX_NUMBER(plex_fresh(image, size, table, rows, nowhere, 0, state, all))
-                                == PLEX_BAD_WORDS_LENGTH);
+    expect("state of length 0", PLEX_NUMBER(plex_fresh(image, size, table, rows, trial.words, PLEX_WORDS_SIZE, nowhere,
+                                                       0)) == PLEX_BAD_STATE_LENGTH);
+    expect("words of length 0",
+           PLEX_NUMBER(plex_fresh(image, size, table, rows, nowhere, 0, state, all)) == PLEX_BAD_WORDS_LENGTH);
     expect("answers of length 0", PLEX_NUMBER(plex_run(image, size, table, rows, state, all, trial.events,
                                                        trial.events_len, nowhere, 0)) == PLEX_BAD_ANSWERS_LENGTH);
     expect("bad event", PLEX_NUMBER(plex_run(image, size, table, rows, state, all, bad, sizeof bad, met,
                                              PLEX_ANSWER_SIZE)) == PLEX_BAD_EVENT);
-    expect("met of length 0", PLEX_NUMBER(plex_walk(image, size, table, rows, state, all, 0, nowhere, 0))
-                              == PLEX_BAD_MET_LENGTH);
-    expect("thread 8", PLEX_NUMBER(plex_walk(image, size, table, rows, state, all, PLEX_THREADS, met, sizeof met))
-                       == PLEX_BAD_WALK_THREAD);
+    expect("met of length 0",
+           PLEX_NUMBER(plex_walk(image, size, table, rows, state, all, 0, nowhere, 0)) == PLEX_BAD_MET_LENGTH);
+    expect("thread 8", PLEX_NUMBER(plex_walk(image, size, table, rows, state, all, PLEX_THREADS, met, sizeof met)) ==
+                           PLEX_BAD_WALK_THREAD);
     protect(room, PROT_READ | PROT_WRITE);
 }
 

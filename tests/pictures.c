@@ -40,8 +40,7 @@ static bool read_texts(struct svg *svg, const char *name, const char *source)
     for (size_t i = 0; i < svg->texts; i++) {
         expect(is_within(&svg->text[i], &page), name, "a text leaves the page", svg->words[i]);
         for (size_t j = 0; j < i; j++)
-            expect(!do_overlap(&svg->text[i], &svg->text[j]), name, "texts lie on each other",
-                   svg->words[i]);
+            expect(!do_overlap(&svg->text[i], &svg->text[j]), name, "texts lie on each other", svg->words[i]);
     }
     return true;
 }
@@ -66,8 +65,8 @@ static void expect_values(const struct svg *svg, const char *name, size_t values
     for (size_t i = 0; i < values && i < svg->circles && first + i < svg->texts; i++) {
         const struct area *text = &svg->text[first + i];
         const char *words = svg->words[first + i];
-        expect(strcmp(svg->text_colour[first + i], svg->circle_colour[i]) == 0, name,
-               "a value has another colour", words);
+        expect(strcmp(svg->text_colour[first + i], svg->circle_colour[i]) == 0, name, "a value has another colour",
+               words);
         double own = distance(text, &svg->circle[i]);
         double other = distance(text, &svg->circle[(i + values / 2) % values]);
         expect(own < 20 && own <= other, name, "a value stands at the other line", words);
@@ -95,16 +94,13 @@ static void try_plot(const char *name, const struct bench_point *points, size_t 
 
 static void try_plots(void)
 {
-    static const struct bench_point rising[] = {
-        {1, 22, 25}, {16, 310, 300}, {128, 2500, 2400}, {512, 9800, 10050}};
+    static const struct bench_point rising[] = {{1, 22, 25}, {16, 310, 300}, {128, 2500, 2400}, {512, 9800, 10050}};
     static const struct bench_point falling[] = {
         {1, 8050, 8100}, {16, 520, 505}, {64, 150, 140}, {256, 60, 55}, {1024, 40, 38}};
     static const struct bench_point plain_above[] = {
         {1, 4000, 9000}, {16, 280, 600}, {64, 90, 200}, {256, 40, 100}, {1024, 30, 70}};
-    static const struct bench_point level[] = {
-        {1, 3000, 3000}, {16, 3000, 3000}, {128, 3010, 3000}, {512, 3000, 3010}};
-    static const struct bench_point crossing[] = {
-        {16, 100, 300}, {128, 400, 700}, {512, 1500, 1100}};
+    static const struct bench_point level[] = {{1, 3000, 3000}, {16, 3000, 3000}, {128, 3010, 3000}, {512, 3000, 3010}};
+    static const struct bench_point crossing[] = {{16, 100, 300}, {128, 400, 700}, {512, 1500, 1100}};
     static const struct bench_point wide[] = {
         {1, 999999, 600000}, {16, 60000, 99999}, {64, 5000, 4000}, {256, 300, 310}, {1024, 1, 2}};
     static const struct bench_point powers[] = {{1, 10, 10}, {512, 10, 10}};
@@ -139,8 +135,7 @@ static void make_walks(struct walk *walks, const uint8_t *holders)
 static void expect_boxes(const struct svg *svg, const char *name, size_t arrows)
 {
     expect(svg->width <= page_width, name, "it is wider than a page", "");
-    expect(svg->boxes == PLEX_THREADS && svg->segments == arrows, name, "boxes and arrows",
-           "their number");
+    expect(svg->boxes == PLEX_THREADS && svg->segments == arrows, name, "boxes and arrows", "their number");
     for (size_t j = 0; j < svg->boxes; j++) {
         struct area box = svg->box[j], inside = {box.left + 1, box.top + 1, box.right - 1, box.bottom - 1};
         for (size_t i = 0; i < svg->texts; i++)

@@ -1,7 +1,7 @@
 #!/bin/sh
 # One sort of number given for another does not compile, nor does a plain number given for a sort, nor is a sort made or opened by
-# anyone but its named functions. Each case is a wrong function in a module of its own, added to a copy of the crate that declares the sorts; the
-# compiler has to refuse it, and for the reason named here. A right function, tried first, has to compile.
+# anyone but its named functions. Each case is a wrong function in a module of its own, added to a copy of the crate that declares the
+# sorts; the compiler has to refuse it, and for the reason named here. A right function, tried first, has to compile.
 set -u
 root=$(cd "$(dirname "$0")/.." && pwd)
 copy=$(mktemp -d)
@@ -16,7 +16,7 @@ made() {
         Label) echo 'sorts::label_of(1)' ;;
         Block) echo 'sorts::block_of(1)' ;;
         Thread) echo 'sorts::thread_of(1)' ;;
-        Lock) echo 'sorts::lock_of(sorts::block_of(1))' ;;
+        Lock) echo 'sorts::lock_of(1)' ;;
         'an integer') echo '1' ;;
     esac
 }

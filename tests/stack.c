@@ -30,23 +30,24 @@ static void *check(void *result)
 
 static void *fresh(void *result)
 {
-    *(uint32_t *)result = plex_fresh(trial.image, trial.image_len, trial.table, sizeof trial.table,
-                                     trial.words, sizeof trial.words, state, sizeof state);
+    *(uint32_t *)result = plex_fresh(trial.image, trial.image_len, trial.table, sizeof trial.table, trial.words,
+                                     sizeof trial.words, state, sizeof state);
     return NULL;
 }
 
 static void *run(void *result)
 {
-    *(uint32_t *)result = plex_run(trial.image, trial.image_len, trial.table, sizeof trial.table, state,
-                                   sizeof state, trial.events, trial.events_len, answers, trial.answers_len);
+    *(uint32_t *)result = plex_run(trial.image, trial.image_len, trial.table, sizeof trial.table, state, sizeof state,
+                                   trial.events, trial.events_len, answers, trial.answers_len);
     return NULL;
 }
 
 /* 0 if the walk met all threads in a ring. */
 static void *walk(void *result)
 {
-    *(uint32_t *)result = plex_walk(trial.image, trial.image_len, trial.table, sizeof trial.table, state,
-                                    sizeof state, 0, met, sizeof met) ^ (PLEX_RING + PLEX_THREADS);
+    *(uint32_t *)result = plex_walk(trial.image, trial.image_len, trial.table, sizeof trial.table, state, sizeof state,
+                                    0, met, sizeof met) ^
+                          (PLEX_RING + PLEX_THREADS);
     return NULL;
 }
 
@@ -59,9 +60,8 @@ static size_t used(void *(*work)(void *))
     pthread_t thread;
     uint32_t result = 1;
     pthread_attr_init(&attributes);
-    if (pthread_attr_setstack(&attributes, stack, sizeof stack) != 0
-        || pthread_create(&thread, &attributes, work, &result) != 0
-        || pthread_join(thread, NULL) != 0 || result != 0) {
+    if (pthread_attr_setstack(&attributes, stack, sizeof stack) != 0 ||
+        pthread_create(&thread, &attributes, work, &result) != 0 || pthread_join(thread, NULL) != 0 || result != 0) {
         fprintf(stderr, "stack: a call was not carried out, result %u\n", result);
         exit(2);
     }
@@ -78,10 +78,9 @@ static void make_ring(void)
     memset(&trial, 0, sizeof trial);
     for (uint32_t t = 0; t < PLEX_THREADS; t++) {
         uint16_t after = (uint16_t)(3 * t + 1), called = (uint16_t)(3 * ((t + 1) % PLEX_THREADS) + 2);
-        struct statement guest[] = {
-            {(uint8_t)t, PLEX_EXTERNAL, PLEX_CALL, 0, called, after, 0, {NUMBER(0)}},
-            {(uint8_t)t, PLEX_NO_ENTRY, PLEX_EXIT, 0, 0, 0, 0, {NUMBER(0)}},
-            {(uint8_t)t, PLEX_DIRECT, PLEX_RETURN, 0, 0, 0, 0, {NUMBER(0)}}};
+        struct statement guest[] = {{(uint8_t)t, PLEX_EXTERNAL, PLEX_CALL, 0, called, after, 0, {NUMBER(0)}},
+                                    {(uint8_t)t, PLEX_NO_ENTRY, PLEX_EXIT, 0, 0, 0, 0, {NUMBER(0)}},
+                                    {(uint8_t)t, PLEX_DIRECT, PLEX_RETURN, 0, 0, 0, 0, {NUMBER(0)}}};
         for (uint32_t i = 0; i < 3; i++)
             put_statement(trial.image + PLEX_RECORD_SIZE * (3 * t + i), &guest[i]);
         trial.table[PLEX_ROW_SIZE * t + PLEX_ROW_THREAD] = (uint8_t)t;
@@ -95,8 +94,11 @@ static void make_ring(void)
     trial.answers_len = RING_EVENTS * PLEX_ANSWER_SIZE;
 }
 
-static struct { const char *name; void *(*work)(void *); size_t most; } calls[] = {
-    {"check", check, 0}, {"fresh", fresh, 0}, {"run", run, 0}, {"walk", walk, 0}};
+static struct {
+    const char *name;
+    void *(*work)(void *);
+    size_t most;
+} calls[] = {{"check", check, 0}, {"fresh", fresh, 0}, {"run", run, 0}, {"walk", walk, 0}};
 
 static void measure(size_t count)
 {

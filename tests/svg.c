@@ -38,17 +38,16 @@ static bool read_text(struct svg *svg, const char *line)
     get_word(line, "text-anchor", anchor);
     double length = letter_width * size * (double)strlen(kept);
     double before = strcmp(anchor, "middle") == 0 ? length / 2 : strcmp(anchor, "end") == 0 ? length : 0;
-    svg->text[svg->texts++] = is_turned
-        ? (struct area){x - ascent * size, y - length + before, x + descent * size, y + before}
-        : (struct area){x - before, y - ascent * size, x - before + length, y + descent * size};
+    svg->text[svg->texts++] =
+        is_turned ? (struct area){x - ascent * size, y - length + before, x + descent * size, y + before}
+                  : (struct area){x - before, y - ascent * size, x - before + length, y + descent * size};
     return true;
 }
 
 static bool read_box(struct svg *svg, const char *line)
 {
     double x = get_number(line, "x", 0), y = get_number(line, "y", 0);
-    svg->box[svg->boxes++] = (struct area){x, y, x + get_number(line, "width", 0),
-                                           y + get_number(line, "height", 0)};
+    svg->box[svg->boxes++] = (struct area){x, y, x + get_number(line, "width", 0), y + get_number(line, "height", 0)};
     return true;
 }
 
@@ -85,8 +84,8 @@ static bool read_arrow(struct svg *svg, const char *line)
     struct area arrow;
     if (strstr(line, "marker-end=") == NULL)
         return true;
-    if (svg->segments == SVG_MOST || sscanf(line, "<path d=\"M%lf %lf L%lf %lf\"", &arrow.left,
-                                            &arrow.top, &arrow.right, &arrow.bottom) != 4)
+    if (svg->segments == SVG_MOST ||
+        sscanf(line, "<path d=\"M%lf %lf L%lf %lf\"", &arrow.left, &arrow.top, &arrow.right, &arrow.bottom) != 4)
         return false;
     svg->segment[svg->segments++] = arrow;
     return true;
@@ -133,14 +132,13 @@ bool read_svg(struct svg *svg, const char *source)
 
 bool do_overlap(const struct area *one, const struct area *other)
 {
-    return one->left < other->right && other->left < one->right && one->top < other->bottom
-        && other->top < one->bottom;
+    return one->left < other->right && other->left < one->right && one->top < other->bottom && other->top < one->bottom;
 }
 
 bool is_within(const struct area *inner, const struct area *outer)
 {
-    return inner->left >= outer->left && inner->right <= outer->right && inner->top >= outer->top
-        && inner->bottom <= outer->bottom;
+    return inner->left >= outer->left && inner->right <= outer->right && inner->top >= outer->top &&
+           inner->bottom <= outer->bottom;
 }
 
 bool does_cross(const struct area *line, const struct area *area)

@@ -19,8 +19,7 @@ struct svg {
     struct area text[SVG_MOST], box[SVG_MOST], circle[SVG_MOST], segment[SVG_MOST];
     /* the text's words; the colours of texts, circles and segments */
     char words[SVG_MOST][SVG_WORD];
-    char text_colour[SVG_MOST][SVG_WORD], circle_colour[SVG_MOST][SVG_WORD],
-        segment_colour[SVG_MOST][SVG_WORD];
+    char text_colour[SVG_MOST][SVG_WORD], circle_colour[SVG_MOST][SVG_WORD], segment_colour[SVG_MOST][SVG_WORD];
 };
 
 /* Whether all was understood and there was room for it. */

@@ -14,8 +14,7 @@
 static void run_on(const char *terminal, char **command)
 {
     int descriptor = open(terminal, O_RDWR | O_NOCTTY);
-    if (descriptor < 0 || dup2(descriptor, STDOUT_FILENO) < 0
-        || dup2(descriptor, STDERR_FILENO) < 0)
+    if (descriptor < 0 || dup2(descriptor, STDOUT_FILENO) < 0 || dup2(descriptor, STDERR_FILENO) < 0)
         _exit(127);
     close(descriptor);
     execvp(command[0], command);

@@ -11,12 +11,10 @@ static const struct {
 } statements[] = {
     {{0, 0, PLEX_SKIP, 0, 5, 0, 0, {NUMBER(0)}}, "SKIP, on to 5"},
     {{0, 0, PLEX_ASSIGN, PLEX_COPY, 1, 0, 2, {WORD(15), NUMBER(7)}}, "ASSIGN w15 := 7, on to 1"},
-    {{0, 0, PLEX_ASSIGN, PLEX_ADD, 1, 0, 3, {REGISTER(2), WORD(3), REGISTER(24)}},
-     "ASSIGN r2 := w3 + r24, on to 1"},
+    {{0, 0, PLEX_ASSIGN, PLEX_ADD, 1, 0, 3, {REGISTER(2), WORD(3), REGISTER(24)}}, "ASSIGN r2 := w3 + r24, on to 1"},
     {{0, 0, PLEX_ASSIGN, PLEX_SUBTRACT, 511, 0, 3, {REGISTER(2), NUMBER(65535), WORD(0)}},
      "ASSIGN r2 := 65535 - w0, on to 511"},
-    {{0, 0, PLEX_ASSIGN, PLEX_MULTIPLY, 1, 0, 3, {WORD(0), WORD(0), WORD(0)}},
-     "ASSIGN w0 := w0 * w0, on to 1"},
+    {{0, 0, PLEX_ASSIGN, PLEX_MULTIPLY, 1, 0, 3, {WORD(0), WORD(0), WORD(0)}}, "ASSIGN w0 := w0 * w0, on to 1"},
     {{0, 0, PLEX_GOTO, 0, 300, 0, 0, {NUMBER(0)}}, "GOTO 300"},
     {{0, 0, PLEX_IF, PLEX_EQUAL, 3, 4, 2, {REGISTER(0), NUMBER(1)}}, "IF r0 = 1 THEN 3 ELSE 4"},
     {{0, 0, PLEX_IF, PLEX_LESS, 3, 4, 2, {REGISTER(0), WORD(1)}}, "IF r0 < w1 THEN 3 ELSE 4"},
@@ -35,16 +33,11 @@ static const struct {
     uint8_t answer[PLEX_ANSWER_SIZE];
     const char *words;
 } answers[] = {
-    {{PLEX_ARRIVED, 0}, "arrived"},
-    {{PLEX_LIST_FULL, 0}, "turned away, the list is full"},
-    {{PLEX_NO_WORK, 0}, "no work"},
-    {{PLEX_WAITING, 3}, "waiting for the lock of block 3"},
-    {{PLEX_STARTED, 0}, "started"},
-    {{PLEX_MOVED_ON, 0}, "moved on"},
-    {{PLEX_EXITED, 0}, "EXIT"},
-    {{PLEX_TRAPPED, PLEX_RETURNS_FULL}, "trap 3, CALL with 8 return labels"},
-    {{PLEX_WAS_CUT, 0}, "cut"},
-    {{PLEX_NOTHING_TO_CUT, 0}, "nothing to cut"},
+    {{PLEX_ARRIVED, 0}, "arrived"}, {{PLEX_LIST_FULL, 0}, "turned away, the list is full"},
+    {{PLEX_NO_WORK, 0}, "no work"}, {{PLEX_WAITING, 3}, "waiting for the lock of block 3"},
+    {{PLEX_STARTED, 0}, "started"}, {{PLEX_MOVED_ON, 0}, "moved on"},
+    {{PLEX_EXITED, 0}, "EXIT"},     {{PLEX_TRAPPED, PLEX_RETURNS_FULL}, "trap 3, CALL with 8 return labels"},
+    {{PLEX_WAS_CUT, 0}, "cut"},     {{PLEX_NOTHING_TO_CUT, 0}, "nothing to cut"},
     {{11, 0}, "unknown"},
 };
 

@@ -29,13 +29,34 @@ static void put_account(uint8_t *image, uint32_t t)
     const struct statement account[ACCOUNT_LABELS] = {
         {b, PLEX_EXTERNAL, PLEX_ASSIGN, PLEX_COPY, account_label(t, 1), 0, 2, {REGISTER(1), NUMBER(0)}},
         {b, PLEX_NO_ENTRY, PLEX_ASSIGN, PLEX_ADD, account_label(t, 2), 0, 3, {REGISTER(1), REGISTER(1), NUMBER(1)}},
-        {b, PLEX_NO_ENTRY, PLEX_IF, PLEX_LESS, account_label(t, 1), account_label(t, 3), 2, {REGISTER(1), NUMBER(ROUNDS)}},
+        {b,
+         PLEX_NO_ENTRY,
+         PLEX_IF,
+         PLEX_LESS,
+         account_label(t, 1),
+         account_label(t, 3),
+         2,
+         {REGISTER(1), NUMBER(ROUNDS)}},
         {b, PLEX_NO_ENTRY, PLEX_CALL, 0, account_label(t + 1, 7), account_label(t, 4), 1, {REGISTER(0)}},
-        {b, PLEX_NO_ENTRY, PLEX_ASSIGN, PLEX_SUBTRACT, account_label(t, 5), 0, 3, {WORD(BALANCE), WORD(BALANCE), REGISTER(0)}},
+        {b,
+         PLEX_NO_ENTRY,
+         PLEX_ASSIGN,
+         PLEX_SUBTRACT,
+         account_label(t, 5),
+         0,
+         3,
+         {WORD(BALANCE), WORD(BALANCE), REGISTER(0)}},
         {b, PLEX_NO_ENTRY, PLEX_ASSIGN, PLEX_ADD, account_label(t, 6), 0, 3, {WORD(SENT), WORD(SENT), NUMBER(1)}},
         {b, PLEX_NO_ENTRY, PLEX_EXIT, 0, 0, 0, 0, {NUMBER(0)}},
         {b, PLEX_DIRECT, PLEX_ASSIGN, PLEX_ADD, account_label(t, 8), 0, 3, {WORD(BALANCE), WORD(BALANCE), REGISTER(0)}},
-        {b, PLEX_NO_ENTRY, PLEX_ASSIGN, PLEX_ADD, account_label(t, 9), 0, 3, {WORD(RECEIVED), WORD(RECEIVED), NUMBER(1)}},
+        {b,
+         PLEX_NO_ENTRY,
+         PLEX_ASSIGN,
+         PLEX_ADD,
+         account_label(t, 9),
+         0,
+         3,
+         {WORD(RECEIVED), WORD(RECEIVED), NUMBER(1)}},
         {b, PLEX_NO_ENTRY, PLEX_RETURN, 0, 0, 0, 1, {REGISTER(0)}},
     };
     for (uint32_t i = 0; i < ACCOUNT_LABELS; i++)
@@ -91,8 +112,8 @@ int balances_right(const uint8_t *state, uint32_t transfers)
     int right = 1;
     for (uint32_t t = 0; t < ACCOUNTS; t++) {
         uint32_t balance = FIRST_BALANCE - transfers * amount(t) + transfers * amount(t + ACCOUNTS - 1);
-        right &= get16(word_at(state, t, BALANCE)) == (balance & 0xFFFF) && transfers_sent(state, t) == transfers
-            && get16(word_at(state, t, RECEIVED)) == transfers;
+        right &= get16(word_at(state, t, BALANCE)) == (balance & 0xFFFF) && transfers_sent(state, t) == transfers &&
+                 get16(word_at(state, t, RECEIVED)) == transfers;
     }
     return right;
 }

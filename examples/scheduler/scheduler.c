@@ -13,9 +13,9 @@
 #include <stdlib.h>
 #include <string.h>
 
-enum { STEPS = 64, MOST_EVENTS = STEPS + 2 };                /* of a batch */
-enum { BUDGET = 4 * TRANSFER_STEPS };                        /* steps of a job */
-enum { SHARE = PLEX_TREES_MAX / PLEX_THREADS };              /* trees of a guest */
+enum { STEPS = 64, MOST_EVENTS = STEPS + 2 };                    /* of a batch */
+enum { BUDGET = 4 * TRANSFER_STEPS };                            /* steps of a job */
+enum { SHARE = PLEX_TREES_MAX / PLEX_THREADS };                  /* trees of a guest */
 enum { ORDERS = 64, LOOPS = 8, TRANSFERS = ORDERS - LOOPS - 1 }; /* of a guest; and one REFILL */
 
 /* The machine, and what the host notes of each thread; all of it under the lock. */
@@ -23,7 +23,9 @@ static struct {
     pthread_mutex_t lock;
     uint8_t image[RECORDS * PLEX_RECORD_SIZE], table[PLEX_TABLE_SIZE], words[PLEX_WORDS_SIZE];
     uint8_t state[PLEX_STATE_SIZE];
-    struct { uint32_t orders, steps, over_budget; } threads[PLEX_THREADS];
+    struct {
+        uint32_t orders, steps, over_budget;
+    } threads[PLEX_THREADS];
     uint32_t calls, events, rings;
 } machine = {.lock = PTHREAD_MUTEX_INITIALIZER};
 
@@ -69,7 +71,8 @@ static void carry_out(struct batch *batch)
 {
     demand(plex_run(machine.image, sizeof machine.image, machine.table, sizeof machine.table, machine.state,
                     sizeof machine.state, batch->events, PLEX_EVENT_SIZE * batch->count, batch->answers,
-                    PLEX_ANSWER_SIZE * batch->count) == 0, "an accepted run");
+                    PLEX_ANSWER_SIZE * batch->count) == 0,
+           "an accepted run");
     machine.calls++;
     machine.events += batch->count;
     count_steps(batch);
@@ -109,8 +112,8 @@ static void cut_ring(const uint8_t *met, uint32_t count)
 static void look_for_ring(uint32_t t)
 {
     uint8_t met[PLEX_MET_SIZE];
-    uint32_t walk = plex_walk(machine.image, sizeof machine.image, machine.table, sizeof machine.table,
-                              machine.state, sizeof machine.state, t, met, sizeof met);
+    uint32_t walk = plex_walk(machine.image, sizeof machine.image, machine.table, sizeof machine.table, machine.state,
+                              sizeof machine.state, t, met, sizeof met);
     demand(PLEX_NUMBER(walk) == 0, "an accepted walk");
     if (walk & PLEX_RING)
         cut_ring(met, walk & ~PLEX_RING);
@@ -184,7 +187,8 @@ int main(void)
     uint32_t numbers[PLEX_THREADS];
     make_accounts(machine.image, machine.table, machine.words);
     demand(plex_fresh(machine.image, sizeof machine.image, machine.table, sizeof machine.table, machine.words,
-                      sizeof machine.words, machine.state, sizeof machine.state) == 0, "a fresh machine");
+                      sizeof machine.words, machine.state, sizeof machine.state) == 0,
+           "a fresh machine");
     demand(pthread_barrier_init(&all_started, NULL, PLEX_THREADS) == 0, "a barrier");
     for (uint32_t t = 0; t < PLEX_THREADS; t++) {
         numbers[t] = t;
@@ -195,7 +199,8 @@ int main(void)
     drain();
     demand(balances_right(machine.state, TRANSFERS), "every transfer carried out once");
     demand(machine.rings > 0, "a ring cut");
-    printf("scheduler: %u events in %u calls; %d transfers, each carried out once; endless jobs cut: %d; rings cut: %u\n",
-           machine.events, machine.calls, PLEX_THREADS * TRANSFERS, PLEX_THREADS * LOOPS, machine.rings);
+    printf(
+        "scheduler: %u events in %u calls; %d transfers, each carried out once; endless jobs cut: %d; rings cut: %u\n",
+        machine.events, machine.calls, PLEX_THREADS * TRANSFERS, PLEX_THREADS * LOOPS, machine.rings);
     return 0;
 }

@@ -82,8 +82,7 @@ static struct bench_point time_row(const struct bench_row *row)
             break;
     }
     double units = row->events == 0 ? 1 : (double)row->events;
-    return (struct bench_point){row->events == 0 ? row->records : row->events,
-                                plex_best / units, plain_best / units};
+    return (struct bench_point){row->events == 0 ? row->records : row->events, plex_best / units, plain_best / units};
 }
 
 static void print_row(const struct bench_row *row, const struct bench_point *best)
@@ -93,13 +92,11 @@ static void print_row(const struct bench_row *row, const struct bench_point *bes
         printf(" %8s", "");
     else
         printf(" %8zu", row->events);
-    printf(" %12.1f %12.1f %12.2f\n", best->plex_ns, best->plain_ns,
-           best->plex_ns / best->plain_ns);
+    printf(" %12.1f %12.1f %12.2f\n", best->plex_ns, best->plain_ns, best->plex_ns / best->plain_ns);
     fflush(stdout);
 }
 
-static int draw(const char *folder, enum bench_plots plot, const struct bench_point *points,
-                size_t count)
+static int draw(const char *folder, enum bench_plots plot, const struct bench_point *points, size_t count)
 {
     char path[4096];
     snprintf(path, sizeof path, "%s/%s", folder, plots[plot].file);

@@ -34,11 +34,9 @@ static uint32_t signal_in_block(struct builder *builder, uint32_t block, uint32_
 
 static void add_operand(struct builder *builder, uint8_t *record, uint32_t kind)
 {
-    static const uint32_t limits[] = {
-        [PLEX_NUMBER_OPERAND] = 65536,
-        [PLEX_REGISTER_OPERAND] = PLEX_REGISTERS,
-        [PLEX_WORD_OPERAND] = PLEX_BLOCK_WORDS
-    };
+    static const uint32_t limits[] = {[PLEX_NUMBER_OPERAND] = 65536,
+                                      [PLEX_REGISTER_OPERAND] = PLEX_REGISTERS,
+                                      [PLEX_WORD_OPERAND] = PLEX_BLOCK_WORDS};
     uint32_t index = record[PLEX_RECORD_COUNT]++;
     uint8_t *operand = record + PLEX_RECORD_OPERANDS + PLEX_OPERAND_SIZE * index;
     operand[0] = (uint8_t)kind;
@@ -53,10 +51,10 @@ static void add_operands(struct builder *builder, uint8_t *record, uint32_t coun
 
 static void fill_assign(struct builder *builder, uint8_t *record)
 {
-    uint32_t operator = PLEX_COPY + below(builder, PLEX_MULTIPLY);
-    record[PLEX_RECORD_OPERATOR] = (uint8_t)operator;
+    uint32_t operator= PLEX_COPY + below(builder, PLEX_MULTIPLY);
+    record[PLEX_RECORD_OPERATOR] = (uint8_t) operator;
     add_operand(builder, record, PLEX_REGISTER_OPERAND + below(builder, 2));
-    add_operands(builder, record, operator == PLEX_COPY ? 1 : 2);
+    add_operands(builder, record, operator== PLEX_COPY ? 1 : 2);
     put16(record + PLEX_RECORD_A, label_in_block(builder, record[PLEX_RECORD_BLOCK]));
 }
 
@@ -96,19 +94,18 @@ static void fill_record(struct builder *builder, uint8_t *record, uint32_t opcod
 
 void bench_mixed_image(uint8_t *image, size_t records)
 {
-    struct builder builder = {
-        .records = (uint32_t)records,
-        .blocks = records < 16 ? 1 : records < 64 ? 4 : PLEX_BLOCKS,
-        .chance = 88172645463325252u
-    };
+    struct builder builder = {.records = (uint32_t)records,
+                              .blocks = records < 16   ? 1
+                                        : records < 64 ? 4
+                                                       : PLEX_BLOCKS,
+                              .chance = 88172645463325252u};
     memset(image, 0, PLEX_RECORD_SIZE * records);
     for (uint32_t label = 0; label < records; label++) {
         uint8_t *record = image + PLEX_RECORD_SIZE * label;
         record[PLEX_RECORD_BLOCK] = (uint8_t)(label % builder.blocks);
         record[PLEX_RECORD_ENTRY] = (uint8_t)(label / builder.blocks % 4);
         /* The first ten records have each opcode once, ASSIGN first. */
-        uint32_t opcode = label < PLEX_EXIT ? (label + 1) % PLEX_EXIT + 1
-                                            : 1 + below(&builder, PLEX_EXIT);
+        uint32_t opcode = label < PLEX_EXIT ? (label + 1) % PLEX_EXIT + 1 : 1 + below(&builder, PLEX_EXIT);
         fill_record(&builder, record, opcode);
     }
 }

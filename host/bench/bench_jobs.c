@@ -77,8 +77,8 @@ void bench_ring_image(uint8_t *image, size_t records)
         put_statement(image + PLEX_RECORD_SIZE * label, &leave);
     for (uint16_t thread = 0; thread < PLEX_THREADS; thread++) {
         uint16_t next = (uint16_t)((thread + 1) % PLEX_THREADS);
-        struct statement send = {(uint8_t)thread, PLEX_EXTERNAL, PLEX_SEND_DIRECT, 0,
-                                 (uint16_t)(PLEX_THREADS + next), 0, 0, {NUMBER(0)}};
+        struct statement send = {
+            (uint8_t)thread, PLEX_EXTERNAL, PLEX_SEND_DIRECT, 0, (uint16_t)(PLEX_THREADS + next), 0, 0, {NUMBER(0)}};
         put_statement(image + PLEX_RECORD_SIZE * thread, &send);
         image[PLEX_RECORD_SIZE * (PLEX_THREADS + thread) + PLEX_RECORD_BLOCK] = (uint8_t)thread;
     }

@@ -6,10 +6,7 @@
 #include <stdio.h>
 
 /* The points keep away from the frame, so that there is room for their values. */
-enum {
-    WIDTH = 720, HEIGHT = 460, LEFT = 90, RIGHT = 690, TOP = 60, BOTTOM = 390, ROOM_ACROSS = 66,
-    ROOM_DOWN = 36
-};
+enum { WIDTH = 720, HEIGHT = 460, LEFT = 90, RIGHT = 690, TOP = 60, BOTTOM = 390, ROOM_ACROSS = 66, ROOM_DOWN = 36 };
 enum engine { PLEX, PLAIN, ENGINES };
 
 static const char *const colours[] = {[PLEX] = "#1f5fa8", [PLAIN] = "#c4571b"};
@@ -27,16 +24,13 @@ static struct axes axes_for(const struct bench_point *points, size_t count)
         low = fmin(low, fmin(points[i].plex_ns, points[i].plain_ns));
         high = fmax(high, fmax(points[i].plex_ns, points[i].plain_ns));
     }
-    return (struct axes){
-        log10((double)points[0].number), log10((double)points[count - 1].number),
-        floor(log10(low)), fmax(ceil(log10(high)), floor(log10(low)) + 1)
-    };
+    return (struct axes){log10((double)points[0].number), log10((double)points[count - 1].number), floor(log10(low)),
+                         fmax(ceil(log10(high)), floor(log10(low)) + 1)};
 }
 
 static double x_of(const struct axes *axes, size_t number)
 {
-    double share = (log10((double)number) - axes->number_low)
-                 / (axes->number_high - axes->number_low);
+    double share = (log10((double)number) - axes->number_low) / (axes->number_high - axes->number_low);
     return LEFT + ROOM_ACROSS + share * (RIGHT - LEFT - 2 * ROOM_ACROSS);
 }
 
@@ -54,67 +48,67 @@ static double ns_of(const struct bench_point *point, enum engine engine)
 static void draw_frame(FILE *file, const char *title, enum bench_axis axis)
 {
     int by_call = axis == RECORDS_AXIS;
-    fprintf(file, "<svg xmlns=\"http://www.w3.org/2000/svg\" width=\"%d\" height=\"%d\" "
+    fprintf(file,
+            "<svg xmlns=\"http://www.w3.org/2000/svg\" width=\"%d\" height=\"%d\" "
             "viewBox=\"0 0 %d %d\" font-family=\"sans-serif\" font-size=\"13\">\n",
             WIDTH, HEIGHT, WIDTH, HEIGHT);
     fprintf(file, "<rect width=\"%d\" height=\"%d\" fill=\"white\"/>\n", WIDTH, HEIGHT);
     fprintf(file, "<text x=\"%d\" y=\"28\" font-size=\"16\">%s</text>\n", LEFT, title);
-    fprintf(file, "<rect x=\"%d\" y=\"%d\" width=\"%d\" height=\"%d\" fill=\"none\" "
-            "stroke=\"black\"/>\n", LEFT, TOP, RIGHT - LEFT, BOTTOM - TOP);
-    fprintf(file, "<text x=\"%d\" y=\"%d\" text-anchor=\"middle\">"
-            "%s (logarithmic)</text>\n", (LEFT + RIGHT) / 2, BOTTOM + 45,
-            by_call ? "records in the image" : "events in a call");
-    fprintf(file, "<text transform=\"translate(16 %d) rotate(-90)\" "
-            "text-anchor=\"middle\">time %s, ns (logarithmic)</text>\n", (TOP + BOTTOM) / 2,
-            by_call ? "a call" : "an event");
+    fprintf(file,
+            "<rect x=\"%d\" y=\"%d\" width=\"%d\" height=\"%d\" fill=\"none\" "
+            "stroke=\"black\"/>\n",
+            LEFT, TOP, RIGHT - LEFT, BOTTOM - TOP);
+    fprintf(file,
+            "<text x=\"%d\" y=\"%d\" text-anchor=\"middle\">"
+            "%s (logarithmic)</text>\n",
+            (LEFT + RIGHT) / 2, BOTTOM + 45, by_call ? "records in the image" : "events in a call");
+    fprintf(file,
+            "<text transform=\"translate(16 %d) rotate(-90)\" "
+            "text-anchor=\"middle\">time %s, ns (logarithmic)</text>\n",
+            (TOP + BOTTOM) / 2, by_call ? "a call" : "an event");
 }
 
-static void draw_ticks(FILE *file, const struct axes *axes,
-                       const struct bench_point *points, size_t count)
+static void draw_ticks(FILE *file, const struct axes *axes, const struct bench_point *points, size_t count)
 {
     for (size_t i = 0; i < count; i++) {
         double x = x_of(axes, points[i].number);
         fprintf(file, "<path d=\"M%.1f %d V%d\" stroke=\"#ddd\"/>\n", x, TOP, BOTTOM);
-        fprintf(file, "<text x=\"%.1f\" y=\"%d\" text-anchor=\"middle\">%zu</text>\n",
-                x, BOTTOM + 20, points[i].number);
+        fprintf(file, "<text x=\"%.1f\" y=\"%d\" text-anchor=\"middle\">%zu</text>\n", x, BOTTOM + 20,
+                points[i].number);
     }
     for (double power = axes->ns_low; power <= axes->ns_high; power++) {
         double y = y_of(axes, pow(10, power));
         fprintf(file, "<path d=\"M%d %.1f H%d\" stroke=\"#ddd\"/>\n", LEFT, y, RIGHT);
-        fprintf(file, "<text x=\"%d\" y=\"%.1f\" text-anchor=\"end\">%.0f</text>\n",
-                LEFT - 8, y + 4, pow(10, power));
+        fprintf(file, "<text x=\"%d\" y=\"%.1f\" text-anchor=\"end\">%.0f</text>\n", LEFT - 8, y + 4, pow(10, power));
     }
 }
 
-static void draw_line(FILE *file, const struct axes *axes, const struct bench_point *points,
-                      size_t count, enum engine engine)
+static void draw_line(FILE *file, const struct axes *axes, const struct bench_point *points, size_t count,
+                      enum engine engine)
 {
-    fprintf(file, "<polyline fill=\"none\" stroke=\"%s\" stroke-width=\"2\" points=\"",
-            colours[engine]);
+    fprintf(file, "<polyline fill=\"none\" stroke=\"%s\" stroke-width=\"2\" points=\"", colours[engine]);
     for (size_t i = 0; i < count; i++)
-        fprintf(file, "%.1f,%.1f ", x_of(axes, points[i].number),
-                y_of(axes, ns_of(&points[i], engine)));
+        fprintf(file, "%.1f,%.1f ", x_of(axes, points[i].number), y_of(axes, ns_of(&points[i], engine)));
     fprintf(file, "\"/>\n");
     for (size_t i = 0; i < count; i++)
-        fprintf(file, "<circle cx=\"%.1f\" cy=\"%.1f\" r=\"4\" fill=\"%s\"/>\n",
-                x_of(axes, points[i].number), y_of(axes, ns_of(&points[i], engine)),
-                colours[engine]);
+        fprintf(file, "<circle cx=\"%.1f\" cy=\"%.1f\" r=\"4\" fill=\"%s\"/>\n", x_of(axes, points[i].number),
+                y_of(axes, ns_of(&points[i], engine)), colours[engine]);
 }
 
 /* How far the lines go down the page from the point before to the point after. */
-static double fall_at(const struct axes *axes, const struct bench_point *points, size_t count,
-                      size_t i)
+static double fall_at(const struct axes *axes, const struct bench_point *points, size_t count, size_t i)
 {
     const struct bench_point *before = &points[i == 0 ? 0 : i - 1];
     const struct bench_point *after = &points[i + 1 == count ? i : i + 1];
-    return (y_of(axes, after->plex_ns) - y_of(axes, before->plex_ns)
-            + y_of(axes, after->plain_ns) - y_of(axes, before->plain_ns)) / 2;
+    return (y_of(axes, after->plex_ns) - y_of(axes, before->plex_ns) + y_of(axes, after->plain_ns) -
+            y_of(axes, before->plain_ns)) /
+           2;
 }
 
 /* Of the two values at a point, the greater stands above its line and the other below its own, each
  * on the side that the lines lead away from. */
-static void draw_values(FILE *file, const struct axes *axes, const struct bench_point *points,
-                        size_t count, enum engine engine)
+static void draw_values(FILE *file, const struct axes *axes, const struct bench_point *points, size_t count,
+                        enum engine engine)
 {
     static const char *const anchors[] = {"end", "middle", "start"};
     for (size_t i = 0; i < count; i++) {
@@ -123,13 +117,13 @@ static void draw_values(FILE *file, const struct axes *axes, const struct bench_
         int is_above = own > other || (own == other && engine == PLEX);
         int side = fabs(fall) < 12 ? 0 : (fall > 0) == is_above ? 1 : -1;
         fprintf(file, "<text x=\"%.1f\" y=\"%.1f\" text-anchor=\"%s\" fill=\"%s\">%.0f</text>\n",
-                x_of(axes, points[i].number) + 5 * side, y_of(axes, own) + (is_above ? -9 : 19),
-                anchors[1 + side], colours[engine], own);
+                x_of(axes, points[i].number) + 5 * side, y_of(axes, own) + (is_above ? -9 : 19), anchors[1 + side],
+                colours[engine], own);
     }
 }
 
-int bench_plot(const char *path, const char *title, enum bench_axis axis,
-               const struct bench_point *points, size_t count)
+int bench_plot(const char *path, const char *title, enum bench_axis axis, const struct bench_point *points,
+               size_t count)
 {
     FILE *file = fopen(path, "w");
     if (file == NULL)
@@ -142,8 +136,8 @@ int bench_plot(const char *path, const char *title, enum bench_axis axis,
     for (enum engine engine = 0; engine < ENGINES; engine++)
         draw_values(file, &axes, points, count, engine);
     for (enum engine engine = 0; engine < ENGINES; engine++)
-        fprintf(file, "<text x=\"%d\" y=\"%d\" fill=\"%s\">%s</text>\n",
-                LEFT + 190 * (int)engine, TOP - 10, colours[engine], names[engine]);
+        fprintf(file, "<text x=\"%d\" y=\"%d\" fill=\"%s\">%s</text>\n", LEFT + 190 * (int)engine, TOP - 10,
+                colours[engine], names[engine]);
     fprintf(file, "</svg>\n");
     int failed = ferror(file);
     return fclose(file) != 0 || failed ? -1 : 0;

@@ -14,7 +14,7 @@ struct bench_point {
 
 /* Writes the file and returns 0, or -1 if it could not be written. Points are in order of their
  * number, at least two, and both axes are logarithmic. */
-int bench_plot(const char *path, const char *title, enum bench_axis axis,
-               const struct bench_point *points, size_t count);
+int bench_plot(const char *path, const char *title, enum bench_axis axis, const struct bench_point *points,
+               size_t count);
 
 #endif

@@ -29,15 +29,27 @@ static struct altered by_plex, by_plain;
 #define TABLE work.table, sizeof work.table
 #define WORDS work.words, sizeof work.words
 #define STATE(engine) engine.state, sizeof engine.state
-#define EVENTS work.events, PLEX_EVENT_SIZE * work.event_count
-#define ANSWERS(engine) engine.answers, PLEX_ANSWER_SIZE * work.event_count
+#define EVENTS work.events, PLEX_EVENT_SIZE *work.event_count
+#define ANSWERS(engine) engine.answers, PLEX_ANSWER_SIZE *work.event_count
 #define MET(engine) engine.met, sizeof engine.met
 
-static uint32_t plex_check_call(void) { return plex_check(IMAGE, TABLE); }
-static uint32_t plain_check_call(void) { return plain_check(IMAGE, TABLE); }
+static uint32_t plex_check_call(void)
+{
+    return plex_check(IMAGE, TABLE);
+}
+static uint32_t plain_check_call(void)
+{
+    return plain_check(IMAGE, TABLE);
+}
 
-static uint32_t plex_fresh_call(void) { return plex_fresh(IMAGE, TABLE, WORDS, STATE(by_plex)); }
-static uint32_t plain_fresh_call(void) { return plain_fresh(IMAGE, TABLE, WORDS, STATE(by_plain)); }
+static uint32_t plex_fresh_call(void)
+{
+    return plex_fresh(IMAGE, TABLE, WORDS, STATE(by_plex));
+}
+static uint32_t plain_fresh_call(void)
+{
+    return plain_fresh(IMAGE, TABLE, WORDS, STATE(by_plain));
+}
 
 static uint32_t plex_run_call(void)
 {

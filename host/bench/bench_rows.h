@@ -6,9 +6,7 @@
 #include <stdint.h>
 
 /* The plots that rows are points of. */
-enum bench_plots {
-    CHECK_PLOT, FRESH_PLOT, WALK_PLOT, SMALL_RUN_PLOT, FULL_RUN_PLOT, PLOTS, NO_PLOT = PLOTS
-};
+enum bench_plots { CHECK_PLOT, FRESH_PLOT, WALK_PLOT, SMALL_RUN_PLOT, FULL_RUN_PLOT, PLOTS, NO_PLOT = PLOTS };
 
 struct bench_row {
     const char *name;

@@ -10,27 +10,19 @@
 /* Every call returns 65,536 x number + place for the first cause that applies,
  * and has then altered no byte; 0 is success, but for the walk. */
 
-uint32_t plain_check(const uint8_t *image, size_t image_len,
-                     const uint8_t *table, size_t table_len);
+uint32_t plain_check(const uint8_t *image, size_t image_len, const uint8_t *table, size_t table_len);
 
 /* Makes the state a fresh machine with the 512 initial bytes as shared words. */
-uint32_t plain_fresh(const uint8_t *image, size_t image_len,
-                     const uint8_t *table, size_t table_len,
-                     const uint8_t *words, size_t words_len,
-                     uint8_t *state, size_t state_len);
+uint32_t plain_fresh(const uint8_t *image, size_t image_len, const uint8_t *table, size_t table_len,
+                     const uint8_t *words, size_t words_len, uint8_t *state, size_t state_len);
 
 /* Carries out the events in order and writes the two answer bytes of each. */
-uint32_t plain_run(const uint8_t *image, size_t image_len,
-                   const uint8_t *table, size_t table_len,
-                   uint8_t *state, size_t state_len,
-                   const uint8_t *events, size_t events_len,
-                   uint8_t *answers, size_t answers_len);
+uint32_t plain_run(const uint8_t *image, size_t image_len, const uint8_t *table, size_t table_len, uint8_t *state,
+                   size_t state_len, const uint8_t *events, size_t events_len, uint8_t *answers, size_t answers_len);
 
 /* Writes the threads met along the waits from a thread; returns their count,
  * plus 256 if a ring closed. */
-uint32_t plain_walk(const uint8_t *image, size_t image_len,
-                    const uint8_t *table, size_t table_len,
-                    const uint8_t *state, size_t state_len,
-                    uint32_t thread, uint8_t *met, size_t met_len);
+uint32_t plain_walk(const uint8_t *image, size_t image_len, const uint8_t *table, size_t table_len,
+                    const uint8_t *state, size_t state_len, uint32_t thread, uint8_t *met, size_t met_len);
 
 #endif

@@ -4,13 +4,13 @@
 
 /* What an opcode allows in a record's first nine bytes. */
 struct opcode_rule {
-    uint8_t zero_bits[8];      /* bits that are zero in bytes 0 to 7 */
-    uint16_t bound_at_a;       /* what is fixed of the record at label A */
-    uint16_t entry_at_a;       /* the entry it must have, in the high byte */
-    uint8_t bound_at_b;        /* what is fixed of the record at label B */
-    uint8_t operators;         /* bit o: operator o is allowed */
+    uint8_t zero_bits[8]; /* bits that are zero in bytes 0 to 7 */
+    uint16_t bound_at_a;  /* what is fixed of the record at label A */
+    uint16_t entry_at_a;  /* the entry it must have, in the high byte */
+    uint8_t bound_at_b;   /* what is fixed of the record at label B */
+    uint8_t operators;    /* bit o: operator o is allowed */
     uint8_t fewest_operands;
-    uint8_t further_operands;  /* how many more there may be */
+    uint8_t further_operands; /* how many more there may be */
 };
 
 /* Of the record at a label, the block is the low byte and the entry the high. */
@@ -19,30 +19,26 @@ enum { AT_DIRECT = PLEX_DIRECT << 8, AT_BUFFERED = PLEX_BUFFERED << 8 };
 
 /* A block is below 16 and an entry below 4; an operator, where used, below 8. */
 enum { USED = 0, UNUSED = 0xFF, BELOW_8 = 0xF8, BELOW_16 = 0xF0, BELOW_4 = 0xFC };
-#define ZERO_BITS(operator, a, b) {0, BELOW_16, BELOW_4, operator, a, a, b, b}
+#define ZERO_BITS(operator, a, b)                                                                                      \
+    {                                                                                                                  \
+        0, BELOW_16, BELOW_4, operator, a, a, b, b                                                                     \
+    }
 enum { ONLY_ZERO = 1 << 0, ONE_TO_FOUR = 0x1E, ONE_OR_TWO = 0x06 };
 
 /* Rule 0 stands for every unknown opcode: no operator suits it. */
 static const struct opcode_rule opcode_rules[] = {
     [0] = {ZERO_BITS(UNUSED, UNUSED, UNUSED), 0, 0, 0, 0, 0, 0},
-    [PLEX_SKIP] = {ZERO_BITS(UNUSED, USED, UNUSED),
-              BLOCK_BOUND, 0, 0, ONLY_ZERO, 0, 0},
-    [PLEX_ASSIGN] = {ZERO_BITS(BELOW_8, USED, UNUSED),
-                BLOCK_BOUND, 0, 0, ONE_TO_FOUR, 2, 1},
-    [PLEX_GOTO] = {ZERO_BITS(UNUSED, USED, UNUSED),
-              BLOCK_BOUND, 0, 0, ONLY_ZERO, 0, 0},
-    [PLEX_IF] = {ZERO_BITS(BELOW_8, USED, USED),
-            BLOCK_BOUND, 0, BLOCK_BOUND, ONE_OR_TWO, 2, 0},
-    [PLEX_SEND_DIRECT] = {ZERO_BITS(UNUSED, USED, UNUSED),
-                     ENTRY_BOUND, AT_DIRECT, 0, ONLY_ZERO, 0, PLEX_REGISTERS},
-    [PLEX_SEND_BUFFERED] = {ZERO_BITS(UNUSED, USED, USED),
-                       ENTRY_BOUND, AT_BUFFERED, BLOCK_BOUND, ONLY_ZERO, 0, PLEX_REGISTERS},
-    [PLEX_CALL] = {ZERO_BITS(UNUSED, USED, USED),
-              ENTRY_BOUND, AT_DIRECT, BLOCK_BOUND, ONLY_ZERO, 0, PLEX_REGISTERS},
-    [PLEX_RETURN] = {ZERO_BITS(UNUSED, UNUSED, UNUSED),
-                0, 0, 0, ONLY_ZERO, 0, PLEX_REGISTERS},
-    [PLEX_TRANSFER] = {ZERO_BITS(UNUSED, USED, UNUSED),
-                  BLOCK_BOUND | ENTRY_BOUND, AT_DIRECT, 0, ONLY_ZERO, 0, PLEX_REGISTERS},
+    [PLEX_SKIP] = {ZERO_BITS(UNUSED, USED, UNUSED), BLOCK_BOUND, 0, 0, ONLY_ZERO, 0, 0},
+    [PLEX_ASSIGN] = {ZERO_BITS(BELOW_8, USED, UNUSED), BLOCK_BOUND, 0, 0, ONE_TO_FOUR, 2, 1},
+    [PLEX_GOTO] = {ZERO_BITS(UNUSED, USED, UNUSED), BLOCK_BOUND, 0, 0, ONLY_ZERO, 0, 0},
+    [PLEX_IF] = {ZERO_BITS(BELOW_8, USED, USED), BLOCK_BOUND, 0, BLOCK_BOUND, ONE_OR_TWO, 2, 0},
+    [PLEX_SEND_DIRECT] = {ZERO_BITS(UNUSED, USED, UNUSED), ENTRY_BOUND, AT_DIRECT, 0, ONLY_ZERO, 0, PLEX_REGISTERS},
+    [PLEX_SEND_BUFFERED] = {ZERO_BITS(UNUSED, USED, USED), ENTRY_BOUND, AT_BUFFERED, BLOCK_BOUND, ONLY_ZERO, 0,
+                            PLEX_REGISTERS},
+    [PLEX_CALL] = {ZERO_BITS(UNUSED, USED, USED), ENTRY_BOUND, AT_DIRECT, BLOCK_BOUND, ONLY_ZERO, 0, PLEX_REGISTERS},
+    [PLEX_RETURN] = {ZERO_BITS(UNUSED, UNUSED, UNUSED), 0, 0, 0, ONLY_ZERO, 0, PLEX_REGISTERS},
+    [PLEX_TRANSFER] = {ZERO_BITS(UNUSED, USED, UNUSED), BLOCK_BOUND | ENTRY_BOUND, AT_DIRECT, 0, ONLY_ZERO, 0,
+                       PLEX_REGISTERS},
     [PLEX_EXIT] = {ZERO_BITS(UNUSED, UNUSED, UNUSED), 0, 0, 0, ONLY_ZERO, 0, 0},
 };
 
@@ -50,16 +46,11 @@ const uint8_t plain_zeros[PLEX_TREES_MAX * PLEX_TREE_SIZE];
 
 /* An operand's value is below this; for a byte that is no kind nothing is. */
 static const int32_t value_limit[256] = {
-    [PLEX_NUMBER_OPERAND] = 65536,
-    [PLEX_REGISTER_OPERAND] = PLEX_REGISTERS,
-    [PLEX_WORD_OPERAND] = PLEX_BLOCK_WORDS
-};
+    [PLEX_NUMBER_OPERAND] = 65536, [PLEX_REGISTER_OPERAND] = PLEX_REGISTERS, [PLEX_WORD_OPERAND] = PLEX_BLOCK_WORDS};
 
 /* The bits that are zero in the table, for four blocks: a thread is below 8 and
  * a kind below 2. */
-static const uint8_t zero_bits_of_blocks[8] = {
-    0xF8, 0xFE, 0xF8, 0xFE, 0xF8, 0xFE, 0xF8, 0xFE
-};
+static const uint8_t zero_bits_of_blocks[8] = {0xF8, 0xFE, 0xF8, 0xFE, 0xF8, 0xFE, 0xF8, 0xFE};
 
 static inline bool table_holds(const uint8_t *table)
 {
@@ -73,24 +64,23 @@ static inline bool table_holds(const uint8_t *table)
 static uint32_t first_bad_block(const uint8_t *table)
 {
     uint32_t block = 0;
-    while (row_at(table, block)[PLEX_ROW_THREAD] < PLEX_THREADS
-           && row_at(table, block)[PLEX_ROW_KIND] <= PLEX_CMX)
+    while (row_at(table, block)[PLEX_ROW_THREAD] < PLEX_THREADS && row_at(table, block)[PLEX_ROW_KIND] <= PLEX_CMX)
         block++;
     return block;
 }
 
 static inline bool header_holds(const uint8_t *record, const struct opcode_rule *rule)
 {
-    uint32_t operator = record[PLEX_RECORD_OPERATOR];
+    uint32_t operator= record[PLEX_RECORD_OPERATOR];
     uint32_t further = record[PLEX_RECORD_COUNT] - (uint32_t)rule->fewest_operands;
-    return (eight_bytes(record) & eight_bytes(rule->zero_bits)) == 0
-        && (rule->operators >> operator & 1) && further <= rule->further_operands;
+    return (eight_bytes(record) & eight_bytes(rule->zero_bits)) == 0 && (rule->operators >> operator& 1) &&
+           further <= rule->further_operands;
 }
 
 /* Given a header that holds, so an unused label is 0, which is below n: labels
  * are below n, and their records have the entry and the block asked for. */
-static inline bool labels_hold(const uint8_t *image, uint32_t records,
-                               const uint8_t *record, const struct opcode_rule *rule)
+static inline bool labels_hold(const uint8_t *image, uint32_t records, const uint8_t *record,
+                               const struct opcode_rule *rule)
 {
     uint32_t a = get16(record + PLEX_RECORD_A);
     uint32_t b = get16(record + PLEX_RECORD_B);
@@ -121,23 +111,18 @@ static inline bool operands_hold(const uint8_t *record)
 static inline bool assign_holds(const uint8_t *record)
 {
     uint32_t count = record[PLEX_RECORD_OPERATOR] == PLEX_COPY ? 2 : 3;
-    return record[PLEX_RECORD_OPERANDS] != PLEX_NUMBER_OPERAND
-        && record[PLEX_RECORD_COUNT] == count;
+    return record[PLEX_RECORD_OPERANDS] != PLEX_NUMBER_OPERAND && record[PLEX_RECORD_COUNT] == count;
 }
 
-static inline bool record_holds(const uint8_t *image, uint32_t records,
-                                const uint8_t *record)
+static inline bool record_holds(const uint8_t *image, uint32_t records, const uint8_t *record)
 {
     uint32_t opcode = record[PLEX_RECORD_OPCODE];
     const struct opcode_rule *rule = &opcode_rules[opcode <= PLEX_EXIT ? opcode : 0];
-    return header_holds(record, rule)
-        && labels_hold(image, records, record, rule)
-        && operands_hold(record)
-        && (opcode != PLEX_ASSIGN || assign_holds(record));
+    return header_holds(record, rule) && labels_hold(image, records, record, rule) && operands_hold(record) &&
+           (opcode != PLEX_ASSIGN || assign_holds(record));
 }
 
-uint32_t plain_check(const uint8_t *image, size_t image_len,
-                     const uint8_t *table, size_t table_len)
+uint32_t plain_check(const uint8_t *image, size_t image_len, const uint8_t *table, size_t table_len)
 {
     size_t records = image_len / PLEX_RECORD_SIZE;
     if (image_len % PLEX_RECORD_SIZE != 0 || records < 1 || records > PLEX_RECORDS_MAX)

@@ -7,7 +7,7 @@
 struct job {
     const struct program *program;
     uint8_t *state;
-    uint8_t *bytes;  /* the thread's record within the state */
+    uint8_t *bytes; /* the thread's record within the state */
     uint32_t thread;
 };
 
@@ -19,8 +19,7 @@ static inline uint32_t answer(uint32_t code, uint32_t detail)
 
 /* Registers 0..count-1 hold the values, the others are absent; the values after
  * those are zero. */
-static inline void set_registers(const struct job *job, const uint8_t *values,
-                                 uint32_t count)
+static inline void set_registers(const struct job *job, const uint8_t *values, uint32_t count)
 {
     put32(job->bytes + PLEX_THREAD_PRESENCE, first_registers(count));
     memcpy(job->bytes + PLEX_THREAD_VALUES, values, VALUES_SIZE);

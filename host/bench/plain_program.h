@@ -50,8 +50,7 @@ static inline uint32_t thread_of_block(const struct program *program, uint32_t b
 /* Whether jobs of the thread may be in the block. */
 static inline bool open_to(const struct program *program, uint32_t block, uint32_t thread)
 {
-    return row_at(program->table, block)[PLEX_ROW_KIND] == PLEX_CMX
-        || thread_of_block(program, block) == thread;
+    return row_at(program->table, block)[PLEX_ROW_KIND] == PLEX_CMX || thread_of_block(program, block) == thread;
 }
 
 /* The presence set with registers 0..count-1 and no other. */

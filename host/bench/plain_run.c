@@ -19,11 +19,9 @@ static bool event_holds(const struct program *program, const uint8_t *event)
         return event[PLEX_EVENT_THREAD] < PLEX_THREADS && signal_is_zero(signal);
     uint32_t label = get16(signal + PLEX_SIGNAL_LABEL);
     uint32_t count = signal[PLEX_SIGNAL_COUNT];
-    return kind == PLEX_ARRIVAL && event[PLEX_EVENT_THREAD] == 0
-        && label < program->records
-        && record_at(program->image, label)[PLEX_RECORD_ENTRY] == PLEX_EXTERNAL
-        && count <= PLEX_REGISTERS
-        && all_zero(signal + PLEX_SIGNAL_VALUES + 2 * count, VALUES_SIZE - 2 * count);
+    return kind == PLEX_ARRIVAL && event[PLEX_EVENT_THREAD] == 0 && label < program->records &&
+           record_at(program->image, label)[PLEX_RECORD_ENTRY] == PLEX_EXTERNAL && count <= PLEX_REGISTERS &&
+           all_zero(signal + PLEX_SIGNAL_VALUES + 2 * count, VALUES_SIZE - 2 * count);
 }
 
 /* An arrival's signal is the only one of a new tree at the list's end. */
@@ -62,8 +60,7 @@ static uint32_t start(const struct job *job)
     return answer(PLEX_STARTED, 0);
 }
 
-static uint32_t carry_out(const struct program *program, uint8_t *state,
-                          const uint8_t *event)
+static uint32_t carry_out(const struct program *program, uint8_t *state, const uint8_t *event)
 {
     if (event[PLEX_EVENT_KIND] == PLEX_ARRIVAL)
         return arrive(program, state, event);
@@ -77,8 +74,7 @@ static uint32_t carry_out(const struct program *program, uint8_t *state,
 }
 
 /* The refusals that concern the events and the answers. */
-static uint32_t refusal_of_events(const struct program *program,
-                                  const uint8_t *events, size_t events_len,
+static uint32_t refusal_of_events(const struct program *program, const uint8_t *events, size_t events_len,
                                   size_t answers_len)
 {
     size_t count = events_len / PLEX_EVENT_SIZE;
@@ -92,11 +88,8 @@ static uint32_t refusal_of_events(const struct program *program,
     return 0;
 }
 
-uint32_t plain_run(const uint8_t *image, size_t image_len,
-                   const uint8_t *table, size_t table_len,
-                   uint8_t *state, size_t state_len,
-                   const uint8_t *events, size_t events_len,
-                   uint8_t *answers, size_t answers_len)
+uint32_t plain_run(const uint8_t *image, size_t image_len, const uint8_t *table, size_t table_len, uint8_t *state,
+                   size_t state_len, const uint8_t *events, size_t events_len, uint8_t *answers, size_t answers_len)
 {
     uint32_t refusal = plain_check(image, image_len, table, table_len);
     if (refusal != 0)
@@ -110,7 +103,6 @@ uint32_t plain_run(const uint8_t *image, size_t image_len,
     if (refusal != 0)
         return refusal;
     for (size_t i = 0; i < events_len / PLEX_EVENT_SIZE; i++)
-        put16(answers + PLEX_ANSWER_SIZE * i,
-              carry_out(&program, state, events + PLEX_EVENT_SIZE * i));
+        put16(answers + PLEX_ANSWER_SIZE * i, carry_out(&program, state, events + PLEX_EVENT_SIZE * i));
     return 0;
 }

@@ -4,13 +4,12 @@
 
 /* The labels of a running thread: its own and those it returns to are below n,
  * in blocks open to it whose locks it holds. */
-static bool labels_well_formed(const struct program *program, const uint8_t *thread_bytes,
-                               uint32_t thread)
+static bool labels_well_formed(const struct program *program, const uint8_t *thread_bytes, uint32_t thread)
 {
     uint32_t locks = get16(thread_bytes + PLEX_THREAD_LOCKS);
     uint32_t returns = thread_bytes[PLEX_THREAD_RETURN_COUNT];
     uint32_t label = get16(thread_bytes + PLEX_THREAD_LABEL);
-    for (uint32_t i = 0; ; i++) {
+    for (uint32_t i = 0;; i++) {
         if (label >= program->records)
             return false;
         uint32_t block = block_of(program, label);
@@ -31,22 +30,19 @@ static bool registers_well_formed(const uint8_t *thread_bytes)
     return presence <= first_registers(PLEX_REGISTERS) && (stored & ~presence) == 0;
 }
 
-static bool thread_well_formed(const struct program *program, const uint8_t *state,
-                               uint32_t thread)
+static bool thread_well_formed(const struct program *program, const uint8_t *state, uint32_t thread)
 {
     const uint8_t *bytes = thread_at(state, thread);
     if (get16(bytes + PLEX_THREAD_LABEL) == PLEX_IDLE)
         return all_zero(bytes + PLEX_THREAD_LOCKS, PLEX_THREAD_SIZE - PLEX_THREAD_LOCKS);
     uint32_t returns = bytes[PLEX_THREAD_RETURN_COUNT];
-    return returns <= PLEX_RETURNS_MAX
-        && all_zero(bytes + PLEX_THREAD_RETURNS + 2 * returns, 2 * (PLEX_RETURNS_MAX - returns))
-        && registers_well_formed(bytes)
-        && labels_well_formed(program, bytes, thread);
+    return returns <= PLEX_RETURNS_MAX &&
+           all_zero(bytes + PLEX_THREAD_RETURNS + 2 * returns, 2 * (PLEX_RETURNS_MAX - returns)) &&
+           registers_well_formed(bytes) && labels_well_formed(program, bytes, thread);
 }
 
 /* Also that no lock is in two sets; notes in running which threads are not idle. */
-static bool threads_well_formed(const struct program *program, const uint8_t *state,
-                                uint32_t *running)
+static bool threads_well_formed(const struct program *program, const uint8_t *state, uint32_t *running)
 {
     uint32_t held = 0;
     *running = 0;
@@ -68,8 +64,8 @@ static bool signal_well_formed(const struct program *program, const uint8_t *sig
     if (label >= program->records || count > PLEX_REGISTERS)
         return false;
     uint32_t entry = record_at(program->image, label)[PLEX_RECORD_ENTRY];
-    return (entry == PLEX_BUFFERED || entry == PLEX_EXTERNAL)
-        && all_zero(signal + PLEX_SIGNAL_VALUES + 2 * count, VALUES_SIZE - 2 * count);
+    return (entry == PLEX_BUFFERED || entry == PLEX_EXTERNAL) &&
+           all_zero(signal + PLEX_SIGNAL_VALUES + 2 * count, VALUES_SIZE - 2 * count);
 }
 
 /* A tree by itself: counts, thread number, signals, and zero bytes after them. */
@@ -87,8 +83,7 @@ static bool tree_well_formed(const struct program *program, const uint8_t *tree)
 
 /* Every running thread has a tree; only its first may be empty or away from the
  * thread of its oldest signal's block. */
-static bool trees_well_formed(const struct program *program, const uint8_t *state,
-                              uint32_t running)
+static bool trees_well_formed(const struct program *program, const uint8_t *state, uint32_t running)
 {
     uint32_t count = state[PLEX_STATE_TREE_COUNT];
     uint32_t without_tree = running;
@@ -104,21 +99,17 @@ static bool trees_well_formed(const struct program *program, const uint8_t *stat
         else if (tree[PLEX_TREE_PENDING] == 0 || thread_of_oldest(program, tree) != thread)
             return false;
     }
-    return without_tree == 0
-        && all_zero(tree_at(state, count), PLEX_TREE_SIZE * (PLEX_TREES_MAX - count));
+    return without_tree == 0 && all_zero(tree_at(state, count), PLEX_TREE_SIZE * (PLEX_TREES_MAX - count));
 }
 
 bool plain_state_well_formed(const struct program *program, const uint8_t *state)
 {
     uint32_t running;
-    return threads_well_formed(program, state, &running)
-        && trees_well_formed(program, state, running);
+    return threads_well_formed(program, state, &running) && trees_well_formed(program, state, running);
 }
 
-uint32_t plain_fresh(const uint8_t *image, size_t image_len,
-                     const uint8_t *table, size_t table_len,
-                     const uint8_t *words, size_t words_len,
-                     uint8_t *state, size_t state_len)
+uint32_t plain_fresh(const uint8_t *image, size_t image_len, const uint8_t *table, size_t table_len,
+                     const uint8_t *words, size_t words_len, uint8_t *state, size_t state_len)
 {
     uint32_t refusal = plain_check(image, image_len, table, table_len);
     if (refusal != 0)
@@ -130,7 +121,6 @@ uint32_t plain_fresh(const uint8_t *image, size_t image_len,
     memcpy(state, words, PLEX_WORDS_SIZE);
     memset(state + PLEX_WORDS_SIZE, 0, PLEX_STATE_SIZE - PLEX_WORDS_SIZE);
     for (uint32_t thread = 0; thread < PLEX_THREADS; thread++)
-        put16(state + PLEX_STATE_THREADS + PLEX_THREAD_SIZE * thread + PLEX_THREAD_LABEL,
-              PLEX_IDLE);
+        put16(state + PLEX_STATE_THREADS + PLEX_THREAD_SIZE * thread + PLEX_THREAD_LABEL, PLEX_IDLE);
     return 0;
 }

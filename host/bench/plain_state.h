@@ -35,9 +35,8 @@ static inline uint32_t other_holder(const uint8_t *state, uint32_t lock, uint32_
 
 /* The value of an operand in a record of the block; a register read is added to
  * the set of registers read. */
-static inline uint32_t operand_value(const uint8_t *state, const uint8_t *thread_bytes,
-                                     uint32_t block, const uint8_t *operand,
-                                     uint32_t *registers_read)
+static inline uint32_t operand_value(const uint8_t *state, const uint8_t *thread_bytes, uint32_t block,
+                                     const uint8_t *operand, uint32_t *registers_read)
 {
     uint32_t value = get16(operand + 1);
     if (operand[0] == PLEX_NUMBER_OPERAND)
@@ -50,27 +49,22 @@ static inline uint32_t operand_value(const uint8_t *state, const uint8_t *thread
 
 /* Writes the record's data values to the front of data, and returns whether no
  * absent register was read. */
-static inline bool read_data(const uint8_t *state, const uint8_t *thread_bytes,
-                             const uint8_t *record, uint8_t *data)
+static inline bool read_data(const uint8_t *state, const uint8_t *thread_bytes, const uint8_t *record, uint8_t *data)
 {
     const uint8_t *operand = record + PLEX_RECORD_OPERANDS;
     uint32_t count = record[PLEX_RECORD_COUNT], block = record[PLEX_RECORD_BLOCK];
     uint32_t registers_read = 0;
     for (uint32_t i = 0; i < count; i++, operand += PLEX_OPERAND_SIZE)
-        put16(data + 2 * i,
-              operand_value(state, thread_bytes, block, operand, &registers_read));
+        put16(data + 2 * i, operand_value(state, thread_bytes, block, operand, &registers_read));
     return (registers_read & ~get32(thread_bytes + PLEX_THREAD_PRESENCE)) == 0;
 }
 
 /* The tests of direct SEND and CALL after the data and before the lock, given the
  * block of the signal: the trap's reason, or NO_TRAP. */
-static inline uint32_t trap_of_direct_or_call(const struct program *program,
-                                                const uint8_t *thread_bytes,
-                                                uint32_t thread, const uint8_t *record,
-                                                uint32_t block)
+static inline uint32_t trap_of_direct_or_call(const struct program *program, const uint8_t *thread_bytes,
+                                              uint32_t thread, const uint8_t *record, uint32_t block)
 {
-    if (record[PLEX_RECORD_OPCODE] == PLEX_CALL
-        && thread_bytes[PLEX_THREAD_RETURN_COUNT] == PLEX_RETURNS_MAX)
+    if (record[PLEX_RECORD_OPCODE] == PLEX_CALL && thread_bytes[PLEX_THREAD_RETURN_COUNT] == PLEX_RETURNS_MAX)
         return PLEX_RETURNS_FULL;
     return open_to(program, block, thread) ? NO_TRAP : PLEX_FOREIGN_FD_BLOCK;
 }

@@ -50,17 +50,14 @@ static uint32_t move_on(const struct job *job, uint32_t label)
 static uint32_t assign(const struct job *job, const uint8_t *record)
 {
     const uint8_t *destination = record + PLEX_RECORD_OPERANDS;
-    uint32_t operator = record[PLEX_RECORD_OPERATOR], block = record[PLEX_RECORD_BLOCK];
+    uint32_t operator= record[PLEX_RECORD_OPERATOR], block = record[PLEX_RECORD_BLOCK];
     uint32_t presence = get32(job->bytes + PLEX_THREAD_PRESENCE), read = 0, q = 0;
-    uint32_t p = operand_value(job->state, job->bytes, block,
-                               destination + PLEX_OPERAND_SIZE, &read);
-    if (operator != PLEX_COPY)
-        q = operand_value(job->state, job->bytes, block,
-                          destination + 2 * PLEX_OPERAND_SIZE, &read);
+    uint32_t p = operand_value(job->state, job->bytes, block, destination + PLEX_OPERAND_SIZE, &read);
+    if (operator!= PLEX_COPY)
+        q = operand_value(job->state, job->bytes, block, destination + 2 * PLEX_OPERAND_SIZE, &read);
     if ((read & ~presence) != 0)
         return trap(job, PLEX_ABSENT_REGISTER);
-    uint32_t value = operator == PLEX_SUBTRACT ? p - q
-                   : operator == PLEX_MULTIPLY ? p * q : p + q;
+    uint32_t value = operator== PLEX_SUBTRACT ? p - q : operator== PLEX_MULTIPLY ? p * q : p + q;
     uint32_t number = get16(destination + 1);
     if (destination[0] == PLEX_REGISTER_OPERAND) {
         put16(job->bytes + PLEX_THREAD_VALUES + 2 * number, value);
@@ -76,8 +73,7 @@ static uint32_t branch(const struct job *job, const uint8_t *record)
     const uint8_t *operand = record + PLEX_RECORD_OPERANDS;
     uint32_t block = record[PLEX_RECORD_BLOCK], read = 0;
     uint32_t p = operand_value(job->state, job->bytes, block, operand, &read);
-    uint32_t q = operand_value(job->state, job->bytes, block,
-                               operand + PLEX_OPERAND_SIZE, &read);
+    uint32_t q = operand_value(job->state, job->bytes, block, operand + PLEX_OPERAND_SIZE, &read);
     if ((read & ~get32(job->bytes + PLEX_THREAD_PRESENCE)) != 0)
         return trap(job, PLEX_ABSENT_REGISTER);
     bool holds = record[PLEX_RECORD_OPERATOR] == PLEX_EQUAL ? p == q : p < q;
@@ -92,8 +88,7 @@ static uint32_t send_direct_or_call(const struct job *job, const uint8_t *record
     uint32_t block = block_of(job->program, label);
     if (!read_data(job->state, job->bytes, record, data))
         return trap(job, PLEX_ABSENT_REGISTER);
-    uint32_t reason = trap_of_direct_or_call(job->program, job->bytes, job->thread,
-                                               record, block);
+    uint32_t reason = trap_of_direct_or_call(job->program, job->bytes, job->thread, record, block);
     if (reason != NO_TRAP)
         return trap(job, reason);
     if (other_holder(job->state, block, job->thread) != NO_THREAD)
@@ -149,8 +144,7 @@ static uint32_t transfer(const struct job *job, const uint8_t *record)
     if (!read_data(job->state, job->bytes, record, data))
         return trap(job, PLEX_ABSENT_REGISTER);
     uint32_t presence = get32(job->bytes + PLEX_THREAD_PRESENCE);
-    put32(job->bytes + PLEX_THREAD_PRESENCE,
-          presence | first_registers(record[PLEX_RECORD_COUNT]));
+    put32(job->bytes + PLEX_THREAD_PRESENCE, presence | first_registers(record[PLEX_RECORD_COUNT]));
     memcpy(job->bytes + PLEX_THREAD_VALUES, data, VALUES_SIZE);
     return move_on(job, get16(record + PLEX_RECORD_A));
 }
@@ -160,14 +154,22 @@ uint32_t plain_step(const struct job *job)
     uint32_t label = get16(job->bytes + PLEX_THREAD_LABEL);
     const uint8_t *record = record_at(job->program->image, label);
     switch (record[PLEX_RECORD_OPCODE]) {
-    case PLEX_ASSIGN:        return assign(job, record);
-    case PLEX_IF:            return branch(job, record);
+    case PLEX_ASSIGN:
+        return assign(job, record);
+    case PLEX_IF:
+        return branch(job, record);
     case PLEX_SEND_DIRECT:
-    case PLEX_CALL:          return send_direct_or_call(job, record);
-    case PLEX_SEND_BUFFERED: return send_buffered(job, record);
-    case PLEX_RETURN:        return go_back(job, record);
-    case PLEX_TRANSFER:      return transfer(job, record);
-    case PLEX_EXIT:          return plain_end_job(job, answer(PLEX_EXITED, 0));
-    default:            return move_on(job, get16(record + PLEX_RECORD_A));
+    case PLEX_CALL:
+        return send_direct_or_call(job, record);
+    case PLEX_SEND_BUFFERED:
+        return send_buffered(job, record);
+    case PLEX_RETURN:
+        return go_back(job, record);
+    case PLEX_TRANSFER:
+        return transfer(job, record);
+    case PLEX_EXIT:
+        return plain_end_job(job, answer(PLEX_EXITED, 0));
+    default:
+        return move_on(job, get16(record + PLEX_RECORD_A));
     }
 }

@@ -3,8 +3,7 @@
 #include "plain_state.h"
 
 /* The holder a running thread's next step would wait for, or NO_THREAD. */
-static uint32_t running_waits_for(const struct program *program, const uint8_t *state,
-                                  uint32_t thread)
+static uint32_t running_waits_for(const struct program *program, const uint8_t *state, uint32_t thread)
 {
     const uint8_t *bytes = thread_at(state, thread);
     const uint8_t *record = record_at(program->image, get16(bytes + PLEX_THREAD_LABEL));
@@ -13,15 +12,14 @@ static uint32_t running_waits_for(const struct program *program, const uint8_t *
     if (opcode != PLEX_SEND_DIRECT && opcode != PLEX_CALL)
         return NO_THREAD;
     uint32_t block = block_of(program, get16(record + PLEX_RECORD_A));
-    if (!read_data(state, bytes, record, data)
-        || trap_of_direct_or_call(program, bytes, thread, record, block) != NO_TRAP)
+    if (!read_data(state, bytes, record, data) ||
+        trap_of_direct_or_call(program, bytes, thread, record, block) != NO_TRAP)
         return NO_THREAD;
     return other_holder(state, block, thread);
 }
 
 /* The holder an idle thread's next step would wait for, or NO_THREAD. */
-static uint32_t idle_waits_for(const struct program *program, const uint8_t *state,
-                               uint32_t thread)
+static uint32_t idle_waits_for(const struct program *program, const uint8_t *state, uint32_t thread)
 {
     uint32_t index = first_tree(state, thread);
     if (index == state[PLEX_STATE_TREE_COUNT])
@@ -30,18 +28,14 @@ static uint32_t idle_waits_for(const struct program *program, const uint8_t *sta
     return other_holder(state, block_of(program, label), thread);
 }
 
-static uint32_t waits_for(const struct program *program, const uint8_t *state,
-                          uint32_t thread)
+static uint32_t waits_for(const struct program *program, const uint8_t *state, uint32_t thread)
 {
-    return get16(thread_at(state, thread) + PLEX_THREAD_LABEL) == PLEX_IDLE
-        ? idle_waits_for(program, state, thread)
-        : running_waits_for(program, state, thread);
+    return get16(thread_at(state, thread) + PLEX_THREAD_LABEL) == PLEX_IDLE ? idle_waits_for(program, state, thread)
+                                                                            : running_waits_for(program, state, thread);
 }
 
-uint32_t plain_walk(const uint8_t *image, size_t image_len,
-                    const uint8_t *table, size_t table_len,
-                    const uint8_t *state, size_t state_len,
-                    uint32_t thread, uint8_t *met, size_t met_len)
+uint32_t plain_walk(const uint8_t *image, size_t image_len, const uint8_t *table, size_t table_len,
+                    const uint8_t *state, size_t state_len, uint32_t thread, uint8_t *met, size_t met_len)
 {
     uint32_t refusal = plain_check(image, image_len, table, table_len);
     if (refusal != 0)

@@ -11,11 +11,9 @@ struct arguments {
 
 static const struct option options_of_all[] = {{.name = "--quiet", .flag = &is_quiet}, {0}};
 
-static const struct option *find_option(const struct option *options, const char *name,
-                                        size_t length)
+static const struct option *find_option(const struct option *options, const char *name, size_t length)
 {
-    while (options->name != NULL
-           && (strncmp(options->name, name, length) != 0 || options->name[length] != '\0'))
+    while (options->name != NULL && (strncmp(options->name, name, length) != 0 || options->name[length] != '\0'))
         options++;
     return options->name != NULL ? options : NULL;
 }
@@ -40,8 +38,7 @@ static bool is_to_be_read(struct arguments *arguments, const char *name)
     return is_first;
 }
 
-static bool take_value(struct arguments *arguments, const struct option *option,
-                       const char *value)
+static bool take_value(struct arguments *arguments, const struct option *option, const char *value)
 {
     if (value[0] == '\0') {
         complain("%s wants the name of a file after it", option->name);
@@ -58,8 +55,7 @@ static bool take_value(struct arguments *arguments, const struct option *option,
 }
 
 /* An option with its value, which comes after = or as the next argument. */
-static bool take_option(struct arguments *arguments, const struct option *options,
-                        const char *argument)
+static bool take_option(struct arguments *arguments, const struct option *options, const char *argument)
 {
     size_t length = strcspn(argument, "=");
     bool has_value = argument[length] == '=';
@@ -71,16 +67,14 @@ static bool take_option(struct arguments *arguments, const struct option *option
         return false;
     }
     if (option->flag == NULL)
-        return take_value(arguments, option,
-                          has_value ? argument + length + 1 : take_next(arguments));
+        return take_value(arguments, option, has_value ? argument + length + 1 : take_next(arguments));
     if (has_value)
         complain("%s has no value", option->name);
     *option->flag = true;
     return !has_value;
 }
 
-int take_arguments(int argc, char **argv, const struct option *options, const char **others,
-                   int limit)
+int take_arguments(int argc, char **argv, const struct option *options, const char **others, int limit)
 {
     struct arguments arguments = {.next = argv, .left = argc};
     bool are_options_over = false;

@@ -15,9 +15,8 @@ static void print_accepted(const struct lent *lent)
 {
     uint32_t records = (uint32_t)(lent->image.size / PLEX_RECORD_SIZE);
     uint32_t blocks = count_blocks(lent->image.bytes, records);
-    print("%saccepted%s: %s, %u %s in %u %s, with %s\n", colour_on(stdout, GREEN),
-          colour_off(stdout), lent->image.path, records, records == 1 ? "record" : "records",
-          blocks, blocks == 1 ? "block" : "blocks", lent->table.path);
+    print("%saccepted%s: %s, %u %s in %u %s, with %s\n", colour_on(stdout, GREEN), colour_off(stdout), lent->image.path,
+          records, records == 1 ? "record" : "records", blocks, blocks == 1 ? "block" : "blocks", lent->table.path);
 }
 
 int check_command(int argc, char **argv)
@@ -27,10 +26,10 @@ int check_command(int argc, char **argv)
     struct lent lent = {0};
     if (!are_so_many(take_arguments(argc, argv, no_options, paths, 2), 2))
         return MISUSED;
-    bool accepted = lend(&lent.image, paths[0], PLEX_RECORD_SIZE * PLEX_RECORDS_MAX)
-        && lend(&lent.table, paths[1], PLEX_TABLE_SIZE)
-        && was_accepted(&lent, plex_check(lent.image.bytes, lent.image.size, lent.table.bytes,
-                                          lent.table.size));
+    bool accepted =
+        lend(&lent.image, paths[0], PLEX_RECORD_SIZE * PLEX_RECORDS_MAX) &&
+        lend(&lent.table, paths[1], PLEX_TABLE_SIZE) &&
+        was_accepted(&lent, plex_check(lent.image.bytes, lent.image.size, lent.table.bytes, lent.table.size));
     if (accepted)
         print_accepted(&lent);
     free_lent(&lent);

@@ -30,8 +30,7 @@ struct option {
 
 /* Takes the options (a list that ends with a nameless one) and up to limit other arguments, names
  * of files to be read; the count of those, or -1 after a sentence about what is wrong. */
-int take_arguments(int argc, char **argv, const struct option *options, const char **others,
-                   int limit);
+int take_arguments(int argc, char **argv, const struct option *options, const char **others, int limit);
 
 /* Whether the count of other arguments is the one wanted; a sentence if not. */
 bool are_so_many(int count, int wanted);

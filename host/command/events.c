@@ -15,7 +15,8 @@ static bool are_whole_events(const struct file *events, uint64_t size)
 {
     if (size % PLEX_EVENT_SIZE != 0)
         complain("%s: %" PRIu64 " bytes; events are 55 bytes each, and %" PRIu64 " bytes are left "
-                 "over", events->path, size, size % PLEX_EVENT_SIZE);
+                 "over",
+                 events->path, size, size % PLEX_EVENT_SIZE);
     return size % PLEX_EVENT_SIZE == 0;
 }
 
@@ -40,8 +41,7 @@ static bool read_more(struct event_source *source, struct file *events, size_t *
 {
     ssize_t got;
     do
-        got = read(source->descriptor, events->bytes + source->in_buffer,
-                   BUFFER_SIZE - source->in_buffer);
+        got = read(source->descriptor, events->bytes + source->in_buffer, BUFFER_SIZE - source->in_buffer);
     while (got < 0 && errno == EINTR);
     *size = got > 0 ? (size_t)got : 0;
     source->in_buffer += *size;

@@ -16,8 +16,7 @@ static const struct opcode_rule {
     [PLEX_GOTO] = {.a = INSIDE},
     [PLEX_IF] = {.a = INSIDE, .b = INSIDE, .operators = PLEX_LESS, .fewest = 2, .most = 2},
     [PLEX_SEND_DIRECT] = {.a = SIGNAL, .entry_at_a = PLEX_DIRECT, .most = PLEX_REGISTERS},
-    [PLEX_SEND_BUFFERED] = {.a = SIGNAL, .b = INSIDE, .entry_at_a = PLEX_BUFFERED,
-                            .most = PLEX_REGISTERS},
+    [PLEX_SEND_BUFFERED] = {.a = SIGNAL, .b = INSIDE, .entry_at_a = PLEX_BUFFERED, .most = PLEX_REGISTERS},
     [PLEX_CALL] = {.a = SIGNAL, .b = INSIDE, .entry_at_a = PLEX_DIRECT, .most = PLEX_REGISTERS},
     [PLEX_RETURN] = {.most = PLEX_REGISTERS},
     [PLEX_TRANSFER] = {.a = INSIDE, .entry_at_a = PLEX_DIRECT, .most = PLEX_REGISTERS},
@@ -36,8 +35,7 @@ void explain_row(struct line *why, const uint8_t *table, uint32_t block)
 {
     const uint8_t *row = row_at(table, block);
     if (row[PLEX_ROW_THREAD] >= PLEX_THREADS)
-        add(why, "its thread is %u, and threads are 0 to %d", row[PLEX_ROW_THREAD],
-            PLEX_THREADS - 1);
+        add(why, "its thread is %u, and threads are 0 to %d", row[PLEX_ROW_THREAD], PLEX_THREADS - 1);
     else if (row[PLEX_ROW_KIND] > PLEX_CMX)
         add(why, "its kind is %u, and kinds are 0 (FD) and 1 (CMX)", row[PLEX_ROW_KIND]);
 }
@@ -48,22 +46,19 @@ static void explain_head(struct line *why, const uint8_t *record)
     if (opcode < PLEX_SKIP || opcode > PLEX_EXIT)
         add(why, "opcode %u is none of %d to %d", opcode, PLEX_SKIP, PLEX_EXIT);
     else if (record[PLEX_RECORD_BLOCK] >= PLEX_BLOCKS)
-        add(why, "its block is %u, and blocks are 0 to %d", record[PLEX_RECORD_BLOCK],
-            PLEX_BLOCKS - 1);
+        add(why, "its block is %u, and blocks are 0 to %d", record[PLEX_RECORD_BLOCK], PLEX_BLOCKS - 1);
     else if (record[PLEX_RECORD_ENTRY] > PLEX_EXTERNAL)
-        add(why, "its entry is %u, and entries are 0 to %d", record[PLEX_RECORD_ENTRY],
-            PLEX_EXTERNAL);
+        add(why, "its entry is %u, and entries are 0 to %d", record[PLEX_RECORD_ENTRY], PLEX_EXTERNAL);
 }
 
 static void explain_operator(struct line *why, const uint8_t *record)
 {
     const struct opcode_rule *rule = &rules[record[PLEX_RECORD_OPCODE]];
     const char *name = opcode_name(record[PLEX_RECORD_OPCODE]);
-    uint32_t operator = record[PLEX_RECORD_OPERATOR];
-    if (rule->operators == 0 && operator != 0)
-        add(why, "%s has no operator, so byte %d is 0 and not %u", name, PLEX_RECORD_OPERATOR,
-            operator);
-    else if (rule->operators != 0 && (operator == 0 || operator > rule->operators))
+    uint32_t operator= record[PLEX_RECORD_OPERATOR];
+    if (rule->operators == 0 && operator!= 0)
+        add(why, "%s has no operator, so byte %d is 0 and not %u", name, PLEX_RECORD_OPERATOR, operator);
+    else if (rule->operators != 0 && (operator== 0 || operator> rule->operators))
         add(why, "operator %u of %s is none of 1 to %u", operator, name, rule->operators);
 }
 
@@ -85,8 +80,7 @@ static void explain_count(struct line *why, const uint8_t *record)
 }
 
 /* The label A or B, used as the opcode uses it. */
-static void explain_label(struct line *why, const uint8_t *image, uint32_t records,
-                          const uint8_t *record, bool is_a)
+static void explain_label(struct line *why, const uint8_t *image, uint32_t records, const uint8_t *record, bool is_a)
 {
     const struct opcode_rule *rule = &rules[record[PLEX_RECORD_OPCODE]];
     const char *name = opcode_name(record[PLEX_RECORD_OPCODE]);
@@ -105,11 +99,11 @@ static void explain_label(struct line *why, const uint8_t *image, uint32_t recor
     const uint8_t *target = record_at(image, label);
     uint32_t own = record[PLEX_RECORD_BLOCK], wanted = is_a ? rule->entry_at_a : PLEX_NO_ENTRY;
     if (wanted != PLEX_NO_ENTRY && target[PLEX_RECORD_ENTRY] != wanted)
-        add(why, "label %c is %u, whose entry is %s, and the signal of %s has entry %s", letter,
-            label, entry_name(target[PLEX_RECORD_ENTRY]), name, entry_name(wanted));
+        add(why, "label %c is %u, whose entry is %s, and the signal of %s has entry %s", letter, label,
+            entry_name(target[PLEX_RECORD_ENTRY]), name, entry_name(wanted));
     else if (use == INSIDE && target[PLEX_RECORD_BLOCK] != own)
-        add(why, "label %c is %u, in block %u, and here it is in the record's block %u", letter,
-            label, target[PLEX_RECORD_BLOCK], own);
+        add(why, "label %c is %u, in block %u, and here it is in the record's block %u", letter, label,
+            target[PLEX_RECORD_BLOCK], own);
 }
 
 static void explain_operand(struct line *why, const uint8_t *record, uint32_t index)
@@ -119,13 +113,10 @@ static void explain_operand(struct line *why, const uint8_t *record, uint32_t in
     if (kind < PLEX_NUMBER_OPERAND || kind > PLEX_WORD_OPERAND)
         add(why, "operand %u has kind %u, and kinds are 1 to 3", index, kind);
     else if (kind == PLEX_REGISTER_OPERAND && value >= PLEX_REGISTERS)
-        add(why, "operand %u is register %u, and registers are 0 to %d", index, value,
-            PLEX_REGISTERS - 1);
+        add(why, "operand %u is register %u, and registers are 0 to %d", index, value, PLEX_REGISTERS - 1);
     else if (kind == PLEX_WORD_OPERAND && value >= PLEX_BLOCK_WORDS)
-        add(why, "operand %u is shared word %u, and a block's words are 0 to %d", index, value,
-            PLEX_BLOCK_WORDS - 1);
-    else if (index == 0 && record[PLEX_RECORD_OPCODE] == PLEX_ASSIGN
-             && kind == PLEX_NUMBER_OPERAND)
+        add(why, "operand %u is shared word %u, and a block's words are 0 to %d", index, value, PLEX_BLOCK_WORDS - 1);
+    else if (index == 0 && record[PLEX_RECORD_OPCODE] == PLEX_ASSIGN && kind == PLEX_NUMBER_OPERAND)
         add(why, "the destination is a number, and it is a register or a shared word");
 }
 
@@ -165,8 +156,7 @@ void explain_values(struct line *why, const uint8_t *signal)
         add(why, "a byte after its last value is not 0");
 }
 
-static void explain_arrival(struct line *why, const uint8_t *image, uint32_t records,
-                            const uint8_t *event)
+static void explain_arrival(struct line *why, const uint8_t *image, uint32_t records, const uint8_t *event)
 {
     const uint8_t *signal = event + PLEX_EVENT_SIGNAL;
     uint32_t label = get16(signal + PLEX_SIGNAL_LABEL);
@@ -181,8 +171,7 @@ static void explain_arrival(struct line *why, const uint8_t *image, uint32_t rec
         explain_values(why, signal);
 }
 
-void explain_event(struct line *why, const uint8_t *image, uint32_t records,
-                   const uint8_t *event)
+void explain_event(struct line *why, const uint8_t *image, uint32_t records, const uint8_t *event)
 {
     uint32_t kind = event[PLEX_EVENT_KIND];
     if (kind == PLEX_ARRIVAL)
@@ -190,8 +179,7 @@ void explain_event(struct line *why, const uint8_t *image, uint32_t records,
     else if (kind != PLEX_STEP && kind != PLEX_CUT)
         add(why, "kind %u is none of 1 to 3", kind);
     else if (event[PLEX_EVENT_THREAD] >= PLEX_THREADS)
-        add(why, "its thread is %u, and threads are 0 to %d", event[PLEX_EVENT_THREAD],
-            PLEX_THREADS - 1);
+        add(why, "its thread is %u, and threads are 0 to %d", event[PLEX_EVENT_THREAD], PLEX_THREADS - 1);
     else if (!is_zero(event + PLEX_EVENT_SIGNAL, PLEX_SIGNAL_SIZE))
         add(why, "a %s has zero bytes after its thread", event_kind_name(kind));
 }

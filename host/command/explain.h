@@ -11,11 +11,10 @@ void explain_row(struct line *why, const uint8_t *table, uint32_t block);
 
 void explain_record(struct line *why, const uint8_t *image, uint32_t records, uint32_t label);
 
-void explain_event(struct line *why, const uint8_t *image, uint32_t records,
-                   const uint8_t *event);
+void explain_event(struct line *why, const uint8_t *image, uint32_t records, const uint8_t *event);
 
-void explain_state(struct line *why, const uint8_t *image, uint32_t records,
-                   const uint8_t *table, const uint8_t *state);
+void explain_state(struct line *why, const uint8_t *image, uint32_t records, const uint8_t *table,
+                   const uint8_t *state);
 
 /* The count and the values of a signal or an arrival. */
 void explain_values(struct line *why, const uint8_t *signal);

@@ -14,12 +14,10 @@ static bool is_running(const struct seen *seen, uint32_t thread)
 }
 
 /* The label of a running thread or one of its return labels. */
-static void explain_label(struct line *why, const struct seen *seen, uint32_t thread,
-                          uint32_t label)
+static void explain_label(struct line *why, const struct seen *seen, uint32_t thread, uint32_t label)
 {
     if (label >= seen->records) {
-        add(why, "thread %u has label %u, and the image's labels are below %u", thread, label,
-            seen->records);
+        add(why, "thread %u has label %u, and the image's labels are below %u", thread, label, seen->records);
         return;
     }
     uint32_t block = record_at(seen->image, label)[PLEX_RECORD_BLOCK];
@@ -27,8 +25,7 @@ static void explain_label(struct line *why, const struct seen *seen, uint32_t th
     if (!(get16(thread_at(seen->state, thread) + PLEX_THREAD_LOCKS) >> block & 1))
         add(why, "thread %u has label %u without the lock of its block %u", thread, label, block);
     else if (row[PLEX_ROW_KIND] != PLEX_CMX && row[PLEX_ROW_THREAD] != thread)
-        add(why, "thread %u has label %u, in FD block %u of thread %u", thread, label, block,
-            row[PLEX_ROW_THREAD]);
+        add(why, "thread %u has label %u, in FD block %u of thread %u", thread, label, block, row[PLEX_ROW_THREAD]);
 }
 
 static void explain_registers(struct line *why, const uint8_t *bytes, uint32_t thread)
@@ -46,8 +43,7 @@ static void explain_running(struct line *why, const struct seen *seen, uint32_t 
     const uint8_t *bytes = thread_at(seen->state, thread);
     uint32_t returns = bytes[PLEX_THREAD_RETURN_COUNT];
     if (returns > PLEX_RETURNS_MAX) {
-        add(why, "thread %u has %u return labels, and a thread has at most %d", thread, returns,
-            PLEX_RETURNS_MAX);
+        add(why, "thread %u has %u return labels, and a thread has at most %d", thread, returns, PLEX_RETURNS_MAX);
         return;
     }
     explain_label(why, seen, thread, get16(bytes + PLEX_THREAD_LABEL));
@@ -84,8 +80,7 @@ static void explain_signal(struct line *why, const struct seen *seen, const uint
     }
     uint32_t entry = record_at(seen->image, label)[PLEX_RECORD_ENTRY];
     if (entry != PLEX_BUFFERED && entry != PLEX_EXTERNAL)
-        add(why, "its label is %u, whose entry is %s, and not buffered or external", label,
-            entry_name(entry));
+        add(why, "its label is %u, whose entry is %s, and not buffered or external", label, entry_name(entry));
     else
         explain_values(why, signal);
 }
@@ -96,11 +91,9 @@ static void explain_tree(struct line *why, const struct seen *seen, uint32_t tre
     const uint8_t *bytes = tree_at(seen->state, tree);
     uint32_t pending = bytes[PLEX_TREE_PENDING];
     if (bytes[PLEX_TREE_THREAD] >= PLEX_THREADS) {
-        add(why, "tree %u has thread %u, and threads are 0 to %d", tree, bytes[PLEX_TREE_THREAD],
-            PLEX_THREADS - 1);
+        add(why, "tree %u has thread %u, and threads are 0 to %d", tree, bytes[PLEX_TREE_THREAD], PLEX_THREADS - 1);
     } else if (pending > PLEX_PENDING_MAX) {
-        add(why, "tree %u has %u pending signals, and a tree has at most %d", tree, pending,
-            PLEX_PENDING_MAX);
+        add(why, "tree %u has %u pending signals, and a tree has at most %d", tree, pending, PLEX_PENDING_MAX);
     } else {
         struct line fault = {0};
         for (uint32_t i = 0; i < pending && why->length == 0; i++) {
@@ -115,8 +108,7 @@ static void explain_tree(struct line *why, const struct seen *seen, uint32_t tre
 }
 
 /* A tree's place in the queue of its thread, given that the tree by itself is well formed. */
-static void explain_queued(struct line *why, const struct seen *seen, uint32_t tree,
-                           bool is_first)
+static void explain_queued(struct line *why, const struct seen *seen, uint32_t tree, bool is_first)
 {
     const uint8_t *bytes = tree_at(seen->state, tree);
     uint32_t thread = bytes[PLEX_TREE_THREAD];
@@ -130,8 +122,8 @@ static void explain_queued(struct line *why, const struct seen *seen, uint32_t t
     uint32_t block = record_at(seen->image, label)[PLEX_RECORD_BLOCK];
     uint32_t owner = row_at(seen->table, block)[PLEX_ROW_THREAD];
     if (owner != thread)
-        add(why, "tree %u is on thread %u, and its first signal goes to block %u of thread %u",
-            tree, thread, block, owner);
+        add(why, "tree %u is on thread %u, and its first signal goes to block %u of thread %u", tree, thread, block,
+            owner);
 }
 
 /* The trees in list order, and that every running thread has one. */
@@ -158,8 +150,7 @@ static void explain_trees(struct line *why, const struct seen *seen)
         add(why, "a byte after the last of the %u trees is not 0", count);
 }
 
-void explain_state(struct line *why, const uint8_t *image, uint32_t records,
-                   const uint8_t *table, const uint8_t *state)
+void explain_state(struct line *why, const uint8_t *image, uint32_t records, const uint8_t *table, const uint8_t *state)
 {
     struct seen seen = {image, table, state, records};
     for (uint32_t thread = 0; thread < PLEX_THREADS && why->length == 0; thread++)

@@ -76,8 +76,8 @@ static void report_row(const struct lent *lent, uint32_t block)
     struct line line = {0}, why = {0};
     explain_row(&why, lent->table.bytes, block);
     add_cause(&line, &why);
-    complain("%s: block %u (thread %u, kind %u) has a field out of range%s", lent->table.path,
-             block, row[PLEX_ROW_THREAD], row[PLEX_ROW_KIND], line.text);
+    complain("%s: block %u (thread %u, kind %u) has a field out of range%s", lent->table.path, block,
+             row[PLEX_ROW_THREAD], row[PLEX_ROW_KIND], line.text);
 }
 
 static uint32_t records_of(const struct lent *lent)
@@ -98,11 +98,9 @@ static void report_record(const struct lent *lent, uint32_t label)
 static void report_state(const struct lent *lent)
 {
     struct line line = {0}, why = {0};
-    explain_state(&why, lent->image.bytes, records_of(lent), lent->table.bytes,
-                  lent->state.bytes);
+    explain_state(&why, lent->image.bytes, records_of(lent), lent->table.bytes, lent->state.bytes);
     add_cause(&line, &why);
-    complain("%s: not well formed with %s and %s%s", lent->state.path, lent->image.path,
-             lent->table.path, line.text);
+    complain("%s: not well formed with %s and %s%s", lent->state.path, lent->image.path, lent->table.path, line.text);
 }
 
 static void report_event(const struct lent *lent, uint32_t index)
@@ -112,8 +110,7 @@ static void report_event(const struct lent *lent, uint32_t index)
     add_event(&line, event);
     explain_event(&why, lent->image.bytes, records_of(lent), event);
     add_cause(&line, &why);
-    complain("%s: event %" PRIu64 " breaks a rule: %s", lent->events.path,
-             lent->events_before + index, line.text);
+    complain("%s: event %" PRIu64 " breaks a rule: %s", lent->events.path, lent->events_before + index, line.text);
 }
 
 bool was_accepted(const struct lent *lent, uint32_t result)
@@ -121,7 +118,8 @@ bool was_accepted(const struct lent *lent, uint32_t result)
     uint32_t number = PLEX_NUMBER(result), place = PLEX_PLACE(result);
     uint64_t place_in_file = place;
     switch (number) {
-    case 0: return true;
+    case 0:
+        return true;
     case PLEX_BAD_IMAGE_LENGTH:
         report_length(&lent->image, PLEX_RECORD_SIZE * PLEX_RECORDS_MAX,
                       "an image is 84 bytes a record, 1 to 512 records");
@@ -129,10 +127,18 @@ bool was_accepted(const struct lent *lent, uint32_t result)
     case PLEX_BAD_TABLE_LENGTH:
         report_length(&lent->table, PLEX_TABLE_SIZE, "a block table is 32 bytes");
         break;
-    case PLEX_BAD_TABLE_FIELD: report_row(lent, place); break;
-    case PLEX_BAD_RECORD: report_record(lent, place); break;
-    case PLEX_BAD_STATE_LENGTH: is_state_long(&lent->state); break;
-    case PLEX_BAD_STATE: report_state(lent); break;
+    case PLEX_BAD_TABLE_FIELD:
+        report_row(lent, place);
+        break;
+    case PLEX_BAD_RECORD:
+        report_record(lent, place);
+        break;
+    case PLEX_BAD_STATE_LENGTH:
+        is_state_long(&lent->state);
+        break;
+    case PLEX_BAD_STATE:
+        report_state(lent);
+        break;
     case PLEX_BAD_EVENT:
         report_event(lent, place);
         place_in_file += lent->events_before;
@@ -140,7 +146,8 @@ bool was_accepted(const struct lent *lent, uint32_t result)
     case PLEX_BAD_WORDS_LENGTH:
         report_length(&lent->words, PLEX_WORDS_SIZE, "initial words are 512 bytes");
         break;
-    default: complain("%s", refusal_name(number));
+    default:
+        complain("%s", refusal_name(number));
     }
     fprintf(stderr, "      refused with number %u, place %" PRIu64 "\n", number, place_in_file);
     return false;

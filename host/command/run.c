@@ -34,9 +34,8 @@ static bool begin_machine(struct run *run, const char *words_path)
     lent->state = (struct file){"the fresh state", malloc(PLEX_STATE_SIZE), PLEX_STATE_SIZE};
     if (!is_read(&lent->state, lent->state.bytes == NULL ? ENOMEM : 0))
         return false;
-    return was_accepted(lent, plex_fresh(lent->image.bytes, lent->image.size, lent->table.bytes,
-                                         lent->table.size, lent->words.bytes, lent->words.size,
-                                         lent->state.bytes, lent->state.size));
+    return was_accepted(lent, plex_fresh(lent->image.bytes, lent->image.size, lent->table.bytes, lent->table.size,
+                                         lent->words.bytes, lent->words.size, lent->state.bytes, lent->state.size));
 }
 
 static bool begin_outputs(struct run *run)
@@ -63,10 +62,9 @@ static bool carry_out(struct run *run, size_t first, size_t count, uint8_t *answ
     lent.events.bytes += PLEX_EVENT_SIZE * first;
     lent.events_before = run->tally.events;
     run->tally.calls++;
-    uint32_t result = plex_run(lent.image.bytes, lent.image.size, lent.table.bytes,
-                               lent.table.size, lent.state.bytes, lent.state.size,
-                               lent.events.bytes, PLEX_EVENT_SIZE * count, answers,
-                               PLEX_ANSWER_SIZE * count);
+    uint32_t result =
+        plex_run(lent.image.bytes, lent.image.size, lent.table.bytes, lent.table.size, lent.state.bytes,
+                 lent.state.size, lent.events.bytes, PLEX_EVENT_SIZE * count, answers, PLEX_ANSWER_SIZE * count);
     if (!was_accepted(&lent, result))
         return false;
     for (size_t i = 0; i < count; i++)
@@ -83,9 +81,8 @@ static bool trace(struct run *run, size_t count, uint8_t *answers)
         memcpy(before, run->lent.state.bytes, sizeof before);
         if (!carry_out(run, i, 1, answer))
             return false;
-        print_traced(run->tally.events - 1, run->lent.image.bytes,
-                     run->lent.events.bytes + PLEX_EVENT_SIZE * i, answer, before,
-                     run->lent.state.bytes);
+        print_traced(run->tally.events - 1, run->lent.image.bytes, run->lent.events.bytes + PLEX_EVENT_SIZE * i, answer,
+                     before, run->lent.state.bytes);
     }
     return true;
 }
@@ -172,24 +169,19 @@ int run_command(int argc, char **argv)
 {
     struct run run = {.source.descriptor = -1};
     const char *paths[4];
-    const struct option options[] = {
-        {.name = "--state", .read = &run.state_path},
-        {.name = "--out", .written = &run.output_paths[STATE_LEFT]},
-        {.name = "--answers", .written = &run.output_paths[ANSWERS]},
-        {.name = "--summary", .flag = &run.summary_alone}, {0}
-    };
+    const struct option options[] = {{.name = "--state", .read = &run.state_path},
+                                     {.name = "--out", .written = &run.output_paths[STATE_LEFT]},
+                                     {.name = "--answers", .written = &run.output_paths[ANSWERS]},
+                                     {.name = "--summary", .flag = &run.summary_alone},
+                                     {0}};
     int count = take_arguments(argc, argv, options, paths, 4);
-    if (!are_so_many(count, run.state_path != NULL ? 3 : 4)
-        || !are_different(run.output_paths[STATE_LEFT], run.output_paths[ANSWERS]))
+    if (!are_so_many(count, run.state_path != NULL ? 3 : 4) ||
+        !are_different(run.output_paths[STATE_LEFT], run.output_paths[ANSWERS]))
         return MISUSED;
-    bool done = lend(&run.lent.image, paths[0], PLEX_RECORD_SIZE * PLEX_RECORDS_MAX)
-        && lend(&run.lent.table, paths[1], PLEX_TABLE_SIZE)
-        && begin_machine(&run, paths[2])
-        && open_events(&run.source, &run.lent.events, paths[count - 1])
-        && begin_outputs(&run)
-        && carry_out_file(&run)
-        && complete_outputs(&run)
-        && finish(&run);
+    bool done = lend(&run.lent.image, paths[0], PLEX_RECORD_SIZE * PLEX_RECORDS_MAX) &&
+                lend(&run.lent.table, paths[1], PLEX_TABLE_SIZE) && begin_machine(&run, paths[2]) &&
+                open_events(&run.source, &run.lent.events, paths[count - 1]) && begin_outputs(&run) &&
+                carry_out_file(&run) && complete_outputs(&run) && finish(&run);
     clear_progress();
     end_run(&run);
     return done ? DONE : TURNED_BACK;

@@ -54,8 +54,7 @@ static void print_queue(const uint8_t *state, uint32_t thread)
         if (begun)
             print(", tree %u", tree);
         else
-            print("  thread %u: tree %u%s", thread, tree,
-                  is_idle(thread_at(state, thread)) ? "" : " (its job runs)");
+            print("  thread %u: tree %u%s", thread, tree, is_idle(thread_at(state, thread)) ? "" : " (its job runs)");
         begun = true;
     }
     if (begun)
@@ -64,8 +63,7 @@ static void print_queue(const uint8_t *state, uint32_t thread)
 
 static void print_trees(const uint8_t *state)
 {
-    print("%strees%s: %u\n", colour_on(stdout, BOLD), colour_off(stdout),
-          state[PLEX_STATE_TREE_COUNT]);
+    print("%strees%s: %u\n", colour_on(stdout, BOLD), colour_off(stdout), state[PLEX_STATE_TREE_COUNT]);
     for (uint32_t tree = 0; tree < listed_trees(state); tree++) {
         const uint8_t *bytes = tree_at(state, tree);
         uint32_t pending = bytes[PLEX_TREE_PENDING];
@@ -112,12 +110,11 @@ static void print_state(const uint8_t *state)
 static bool is_well_formed(const struct lent *lent)
 {
     uint8_t met[PLEX_MET_SIZE];
-    if (!was_accepted(lent, plex_walk(lent->image.bytes, lent->image.size, lent->table.bytes,
-                                      lent->table.size, lent->state.bytes, lent->state.size, 0,
-                                      met, sizeof met)))
+    if (!was_accepted(lent, plex_walk(lent->image.bytes, lent->image.size, lent->table.bytes, lent->table.size,
+                                      lent->state.bytes, lent->state.size, 0, met, sizeof met)))
         return false;
-    print("%swell formed%s with %s and %s\n", colour_on(stdout, GREEN), colour_off(stdout),
-          lent->image.path, lent->table.path);
+    print("%swell formed%s with %s and %s\n", colour_on(stdout, GREEN), colour_off(stdout), lent->image.path,
+          lent->table.path);
     return true;
 }
 
@@ -140,10 +137,9 @@ int state_command(int argc, char **argv)
     bool has_image = count > 1;
     if (!are_so_many(count, has_image ? 3 : 1))
         return MISUSED;
-    bool done = (!has_image || (lend(&lent.image, paths[0], PLEX_RECORD_SIZE * PLEX_RECORDS_MAX)
-                                && lend(&lent.table, paths[1], PLEX_TABLE_SIZE)))
-        && lend(&lent.state, paths[count - 1], PLEX_STATE_SIZE)
-        && show_state(&lent, has_image);
+    bool done = (!has_image || (lend(&lent.image, paths[0], PLEX_RECORD_SIZE * PLEX_RECORDS_MAX) &&
+                                lend(&lent.table, paths[1], PLEX_TABLE_SIZE))) &&
+                lend(&lent.state, paths[count - 1], PLEX_STATE_SIZE) && show_state(&lent, has_image);
     free_lent(&lent);
     return done ? DONE : TURNED_BACK;
 }

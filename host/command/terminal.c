@@ -15,16 +15,14 @@ static bool is_bar_shown;
 static bool is_coloured(FILE *stream)
 {
     const char *refused = getenv("NO_COLOR"), *terminal = getenv("TERM");
-    return isatty(fileno(stream)) && (refused == NULL || refused[0] == '\0')
-        && (terminal == NULL || strcmp(terminal, "dumb") != 0);
+    return isatty(fileno(stream)) && (refused == NULL || refused[0] == '\0') &&
+           (terminal == NULL || strcmp(terminal, "dumb") != 0);
 }
 
 const char *colour_on(FILE *stream, enum colour colour)
 {
     static const char *const codes[] = {
-        [PLAIN] = "", [GREEN] = "\033[32m", [YELLOW] = "\033[33m", [RED] = "\033[31m",
-        [BOLD] = "\033[1m"
-    };
+        [PLAIN] = "", [GREEN] = "\033[32m", [YELLOW] = "\033[33m", [RED] = "\033[31m", [BOLD] = "\033[1m"};
     return is_coloured(stream) ? codes[colour] : "";
 }
 
@@ -58,8 +56,8 @@ void show_progress(uint64_t done, uint64_t total)
         memset(bar, '.', BAR_WIDTH);
         memset(bar, '#', full);
         bar[BAR_WIDTH] = '\0';
-        fprintf(stderr, "\r[%s] %3u%%  %" PRIu64 " of %" PRIu64 " events", bar,
-                (unsigned)(done * 100 / total), done, total);
+        fprintf(stderr, "\r[%s] %3u%%  %" PRIu64 " of %" PRIu64 " events", bar, (unsigned)(done * 100 / total), done,
+                total);
     }
     fflush(stderr);
     is_bar_shown = true;

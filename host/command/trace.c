@@ -17,11 +17,15 @@ static enum colour colour_of(uint32_t code)
     switch (code) {
     case PLEX_ARRIVED:
     case PLEX_STARTED:
-    case PLEX_EXITED: return GREEN;
+    case PLEX_EXITED:
+        return GREEN;
     case PLEX_TRAPPED:
-    case PLEX_WAS_CUT: return RED;
-    case PLEX_MOVED_ON: return PLAIN;
-    default: return YELLOW;
+    case PLEX_WAS_CUT:
+        return RED;
+    case PLEX_MOVED_ON:
+        return PLAIN;
+    default:
+        return YELLOW;
     }
 }
 
@@ -35,8 +39,8 @@ static void add_carried_out(struct line *line, const uint8_t *image, const uint8
     add_statement(line, record_at(image, label));
 }
 
-void print_traced(uint64_t index, const uint8_t *image, const uint8_t *event,
-                  const uint8_t *answer, const uint8_t *before, const uint8_t *after)
+void print_traced(uint64_t index, const uint8_t *image, const uint8_t *event, const uint8_t *answer,
+                  const uint8_t *before, const uint8_t *after)
 {
     uint32_t code = answer[PLEX_ANSWER_CODE], thread = event[PLEX_EVENT_THREAD];
     struct line what = {0}, said = {0}, where = {0};
@@ -46,8 +50,8 @@ void print_traced(uint64_t index, const uint8_t *image, const uint8_t *event,
         add_carried_out(&what, image, thread_at(before, thread));
         add_thread(&where, thread_at(after, thread));
     }
-    print("%8" PRIu64 "  %-64s  %s%s%s", index, what.text, colour_on(stdout, colour_of(code)),
-          said.text, colour_off(stdout));
+    print("%8" PRIu64 "  %-64s  %s%s%s", index, what.text, colour_on(stdout, colour_of(code)), said.text,
+          colour_off(stdout));
     print(where.length == 0 ? "\n" : "; %s\n", where.text);
 }
 
@@ -64,16 +68,14 @@ static void print_running(const uint8_t *state)
 
 void print_summary(const struct tally *tally, const uint8_t *state)
 {
-    print("%" PRIu64 " %s in %" PRIu64 " %s\n", tally->events,
-          tally->events == 1 ? "event" : "events", tally->calls,
+    print("%" PRIu64 " %s in %" PRIu64 " %s\n", tally->events, tally->events == 1 ? "event" : "events", tally->calls,
           tally->calls == 1 ? "call" : "calls");
     for (uint32_t code = 0; code < 256; code++)
         if (tally->codes[code] != 0)
             print("  %10" PRIu64 "  %s\n", tally->codes[code], code_name(code));
     for (uint32_t reason = 0; reason < 256; reason++)
         if (tally->traps[reason] != 0)
-            print("  %10" PRIu64 "  of the traps: %u, %s\n", tally->traps[reason], reason,
-                  trap_name(reason));
+            print("  %10" PRIu64 "  of the traps: %u, %s\n", tally->traps[reason], reason, trap_name(reason));
     uint32_t trees = state[PLEX_STATE_TREE_COUNT];
     print("%u %s live; ", trees, trees == 1 ? "tree" : "trees");
     print_running(state);

@@ -12,8 +12,8 @@ struct tally {
 void count_answer(struct tally *tally, const uint8_t *answer);
 
 /* The line of an event, given the states around it. */
-void print_traced(uint64_t index, const uint8_t *image, const uint8_t *event,
-                  const uint8_t *answer, const uint8_t *before, const uint8_t *after);
+void print_traced(uint64_t index, const uint8_t *image, const uint8_t *event, const uint8_t *answer,
+                  const uint8_t *before, const uint8_t *after);
 
 void print_summary(const struct tally *tally, const uint8_t *state);
 

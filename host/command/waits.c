@@ -16,9 +16,8 @@ static bool try_step(const struct lent *lent, uint32_t thread, uint8_t *answer)
     memcpy(copy, lent->state.bytes, sizeof copy);
     step[PLEX_EVENT_KIND] = PLEX_STEP;
     step[PLEX_EVENT_THREAD] = (uint8_t)thread;
-    return was_accepted(lent, plex_run(lent->image.bytes, lent->image.size, lent->table.bytes,
-                                       lent->table.size, copy, sizeof copy, step, sizeof step,
-                                       answer, PLEX_ANSWER_SIZE));
+    return was_accepted(lent, plex_run(lent->image.bytes, lent->image.size, lent->table.bytes, lent->table.size, copy,
+                                       sizeof copy, step, sizeof step, answer, PLEX_ANSWER_SIZE));
 }
 
 static bool walk_from_all(const struct lent *lent, struct walk *walks)
@@ -26,9 +25,8 @@ static bool walk_from_all(const struct lent *lent, struct walk *walks)
     for (uint32_t thread = 0; thread < PLEX_THREADS; thread++) {
         struct walk *walk = &walks[thread];
         uint8_t answer[PLEX_ANSWER_SIZE];
-        walk->result = plex_walk(lent->image.bytes, lent->image.size, lent->table.bytes,
-                                 lent->table.size, lent->state.bytes, lent->state.size, thread,
-                                 walk->met, sizeof walk->met);
+        walk->result = plex_walk(lent->image.bytes, lent->image.size, lent->table.bytes, lent->table.size,
+                                 lent->state.bytes, lent->state.size, thread, walk->met, sizeof walk->met);
         if (!was_accepted(lent, walk->result) || !try_step(lent, thread, answer))
             return false;
         walk->block = answer[PLEX_ANSWER_DETAIL];
@@ -73,13 +71,12 @@ static void print_graph(const uint8_t *state, const struct walk *walks)
         if (!is_in_waits(walks, thread))
             continue;
         write_box(lines, state, walks, thread);
-        print("  t%u [label=\"%s\\n%s\\n%s\\n%s\"];\n", thread, lines[0], lines[1], lines[2],
-              lines[3]);
+        print("  t%u [label=\"%s\\n%s\\n%s\\n%s\"];\n", thread, lines[0], lines[1], lines[2], lines[3]);
     }
     for (uint32_t thread = 0; thread < PLEX_THREADS; thread++)
         if (does_wait(&walks[thread]))
-            print("  t%u -> t%u [label=\"lock %u\"%s];\n", thread, walks[thread].met[1],
-                  walks[thread].block, is_on_ring(walks, thread) ? ", color=red" : "");
+            print("  t%u -> t%u [label=\"lock %u\"%s];\n", thread, walks[thread].met[1], walks[thread].block,
+                  is_on_ring(walks, thread) ? ", color=red" : "");
     print("}\n");
 }
 
@@ -124,8 +121,7 @@ static int show_waits(const struct lent *lent, bool as_graph, const char *pictur
         print_graph(lent->state.bytes, walks);
     else if (picture == NULL)
         print_walks(walks);
-    if (!is_printed()
-        || (picture != NULL && !write_picture(picture, lent->state.bytes, walks)))
+    if (!is_printed() || (picture != NULL && !write_picture(picture, lent->state.bytes, walks)))
         return TURNED_BACK;
     return has_ring(walks) ? RING_FOUND : DONE;
 }
@@ -135,15 +131,12 @@ int waits_command(int argc, char **argv)
     struct lent lent = {0};
     const char *paths[3], *picture = NULL;
     bool as_graph = false;
-    const struct option options[] = {
-        {.name = "--dot", .flag = &as_graph}, {.name = "--svg", .written = &picture}, {0}
-    };
+    const struct option options[] = {{.name = "--dot", .flag = &as_graph}, {.name = "--svg", .written = &picture}, {0}};
     if (!are_so_many(take_arguments(argc, argv, options, paths, 3), 3))
         return MISUSED;
     int status = TURNED_BACK;
-    if (lend(&lent.image, paths[0], PLEX_RECORD_SIZE * PLEX_RECORDS_MAX)
-        && lend(&lent.table, paths[1], PLEX_TABLE_SIZE)
-        && lend(&lent.state, paths[2], PLEX_STATE_SIZE))
+    if (lend(&lent.image, paths[0], PLEX_RECORD_SIZE * PLEX_RECORDS_MAX) &&
+        lend(&lent.table, paths[1], PLEX_TABLE_SIZE) && lend(&lent.state, paths[2], PLEX_STATE_SIZE))
         status = show_waits(&lent, as_graph, picture);
     free_lent(&lent);
     return status;

@@ -25,8 +25,7 @@ bool is_in_waits(const struct walk *walks, uint32_t thread);
 /* What a box says of its thread: its number, where it is, how many locks it holds, and for which it
  * waits. */
 enum { BOX_LINES = 4, BOX_LINE_SIZE = 24 };
-void write_box(char lines[BOX_LINES][BOX_LINE_SIZE], const uint8_t *state,
-               const struct walk *walks, uint32_t thread);
+void write_box(char lines[BOX_LINES][BOX_LINE_SIZE], const uint8_t *state, const struct walk *walks, uint32_t thread);
 
 /* The waits as a picture in the format SVG, which fits a page. */
 void draw_picture(FILE *stream, const uint8_t *state, const struct walk *walks);

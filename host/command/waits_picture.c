@@ -6,9 +6,15 @@
 #include <math.h>
 
 enum {
-    WIDTH = 716, HEIGHT = 660, RADIUS = 283, BOX_WIDTH = 130, BOX_HEIGHT = 76, FONT_SIZE = 12,
-    LINE_HEIGHT = 16, FIRST_LINE = 20, /* from the top of a box */
-    BESIDE = 4 /* from the line between two middles to the arrow */
+    WIDTH = 716,
+    HEIGHT = 660,
+    RADIUS = 283,
+    BOX_WIDTH = 130,
+    BOX_HEIGHT = 76,
+    FONT_SIZE = 12,
+    LINE_HEIGHT = 16,
+    FIRST_LINE = 20, /* from the top of a box */
+    BESIDE = 4       /* from the line between two middles to the arrow */
 };
 static const double eighth_turn = 0.78539816339744831;
 static const char wait_colour[] = "black", ring_colour[] = "#c01818", other_colour[] = "#a0a0a0";
@@ -41,8 +47,7 @@ static double along_axis(double half, double place, double direction)
 /* How far it is from a place in a box, given from its middle, to its edge. */
 static double to_edge(struct point place, struct point direction)
 {
-    return fmin(along_axis(BOX_WIDTH / 2.0, place.x, direction.x),
-                along_axis(BOX_HEIGHT / 2.0, place.y, direction.y));
+    return fmin(along_axis(BOX_WIDTH / 2.0, place.x, direction.x), along_axis(BOX_HEIGHT / 2.0, place.y, direction.y));
 }
 
 static const char *colour_of(const struct walk *walks, uint32_t thread)
@@ -52,20 +57,21 @@ static const char *colour_of(const struct walk *walks, uint32_t thread)
     return is_in_waits(walks, thread) ? wait_colour : other_colour;
 }
 
-static void draw_box(FILE *stream, const uint8_t *state, const struct walk *walks,
-                     uint32_t thread)
+static void draw_box(FILE *stream, const uint8_t *state, const struct walk *walks, uint32_t thread)
 {
     struct point middle = middle_of(thread);
     double left = middle.x - BOX_WIDTH / 2.0, top = middle.y - BOX_HEIGHT / 2.0;
     char lines[BOX_LINES][BOX_LINE_SIZE];
     write_box(lines, state, walks, thread);
-    fprintf(stream, "<rect x=\"%.1f\" y=\"%.1f\" width=\"%d\" height=\"%d\" rx=\"4\" "
-            "fill=\"#f4f6f8\" stroke=\"%s\"/>\n", left, top, BOX_WIDTH, BOX_HEIGHT,
-            colour_of(walks, thread));
+    fprintf(stream,
+            "<rect x=\"%.1f\" y=\"%.1f\" width=\"%d\" height=\"%d\" rx=\"4\" "
+            "fill=\"#f4f6f8\" stroke=\"%s\"/>\n",
+            left, top, BOX_WIDTH, BOX_HEIGHT, colour_of(walks, thread));
     for (int i = 0; i < BOX_LINES; i++)
-        fprintf(stream, "<text x=\"%.1f\" y=\"%.1f\" text-anchor=\"middle\" fill=\"%s\">%s"
-                "</text>\n", middle.x, top + FIRST_LINE + LINE_HEIGHT * i,
-                colour_of(walks, thread), lines[i]);
+        fprintf(stream,
+                "<text x=\"%.1f\" y=\"%.1f\" text-anchor=\"middle\" fill=\"%s\">%s"
+                "</text>\n",
+                middle.x, top + FIRST_LINE + LINE_HEIGHT * i, colour_of(walks, thread), lines[i]);
 }
 
 /* From edge to edge, and to the right of the line between the middles, so that two threads that
@@ -79,22 +85,26 @@ static void draw_arrow(FILE *stream, const struct walk *walks, uint32_t thread)
     struct point place = moved((struct point){0, 0}, right, BESIDE);
     struct point first = moved(moved(from, place, 1), ahead, to_edge(place, ahead));
     struct point last = moved(moved(to, place, 1), back, to_edge(place, back));
-    fprintf(stream, "<path d=\"M%.1f %.1f L%.1f %.1f\" stroke=\"%s\" stroke-width=\"1.5\" "
-            "marker-end=\"url(#%s)\"/>\n", first.x, first.y, last.x, last.y,
-            colour_of(walks, thread), is_on_ring(walks, thread) ? "ring" : "wait");
+    fprintf(stream,
+            "<path d=\"M%.1f %.1f L%.1f %.1f\" stroke=\"%s\" stroke-width=\"1.5\" "
+            "marker-end=\"url(#%s)\"/>\n",
+            first.x, first.y, last.x, last.y, colour_of(walks, thread), is_on_ring(walks, thread) ? "ring" : "wait");
 }
 
 static void draw_head(FILE *stream, const char *name, const char *colour)
 {
-    fprintf(stream, "<marker id=\"%s\" viewBox=\"0 0 10 10\" refX=\"9\" refY=\"5\" "
+    fprintf(stream,
+            "<marker id=\"%s\" viewBox=\"0 0 10 10\" refX=\"9\" refY=\"5\" "
             "markerWidth=\"7\" markerHeight=\"7\" orient=\"auto\">"
-            "<path d=\"M0 0 L10 5 L0 10 Z\" fill=\"%s\"/></marker>\n", name, colour);
+            "<path d=\"M0 0 L10 5 L0 10 Z\" fill=\"%s\"/></marker>\n",
+            name, colour);
 }
 
 void draw_picture(FILE *stream, const uint8_t *state, const struct walk *walks)
 {
     bool any = false;
-    fprintf(stream, "<svg xmlns=\"http://www.w3.org/2000/svg\" width=\"%d\" height=\"%d\" "
+    fprintf(stream,
+            "<svg xmlns=\"http://www.w3.org/2000/svg\" width=\"%d\" height=\"%d\" "
             "viewBox=\"0 0 %d %d\" font-family=\"sans-serif\" font-size=\"%d\">\n<defs>\n",
             WIDTH, HEIGHT, WIDTH, HEIGHT, FONT_SIZE);
     draw_head(stream, "wait", wait_colour);
@@ -107,7 +117,7 @@ void draw_picture(FILE *stream, const uint8_t *state, const struct walk *walks)
         any |= does_wait(&walks[thread]);
     }
     if (!any)
-        fprintf(stream, "<text x=\"%d\" y=\"%d\" text-anchor=\"middle\">no thread waits</text>\n",
-                WIDTH / 2, HEIGHT / 2);
+        fprintf(stream, "<text x=\"%d\" y=\"%d\" text-anchor=\"middle\">no thread waits</text>\n", WIDTH / 2,
+                HEIGHT / 2);
     fprintf(stream, "</svg>\n");
 }

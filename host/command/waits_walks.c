@@ -23,8 +23,7 @@ bool is_in_waits(const struct walk *walks, uint32_t thread)
     return is_in;
 }
 
-void write_box(char lines[BOX_LINES][BOX_LINE_SIZE], const uint8_t *state,
-               const struct walk *walks, uint32_t thread)
+void write_box(char lines[BOX_LINES][BOX_LINE_SIZE], const uint8_t *state, const struct walk *walks, uint32_t thread)
 {
     const uint8_t *bytes = thread_at(state, thread);
     uint32_t label = get16(bytes + PLEX_THREAD_LABEL), count = 0;

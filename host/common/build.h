@@ -9,9 +9,18 @@ struct operand {
     uint16_t value;
 };
 
-#define NUMBER(n) {PLEX_NUMBER_OPERAND, n}
-#define REGISTER(r) {PLEX_REGISTER_OPERAND, r}
-#define WORD(w) {PLEX_WORD_OPERAND, w}
+#define NUMBER(n)                                                                                                      \
+    {                                                                                                                  \
+        PLEX_NUMBER_OPERAND, n                                                                                         \
+    }
+#define REGISTER(r)                                                                                                    \
+    {                                                                                                                  \
+        PLEX_REGISTER_OPERAND, r                                                                                       \
+    }
+#define WORD(w)                                                                                                        \
+    {                                                                                                                  \
+        PLEX_WORD_OPERAND, w                                                                                           \
+    }
 
 /* A record in plain values; the fields that its opcode does not use are left zero. */
 struct statement {

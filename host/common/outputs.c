@@ -146,8 +146,7 @@ static int keep_former(struct output *output)
         if (output->former == NULL)
             return ENOMEM;
     } while (lstat(output->former, &found) == 0);
-    if (link(output->target, output->former) == 0
-        || rename(output->target, output->former) == 0)
+    if (link(output->target, output->former) == 0 || rename(output->target, output->former) == 0)
         return 0;
     int failed = errno;
     free(output->former);
@@ -201,8 +200,7 @@ int place_outputs(struct output *outputs, size_t count, const struct output **at
     for (; placed < count && !failed; placed++) {
         *at_fault = &outputs[placed];
         if (outputs[placed].temporary != NULL)
-            failed = place(&outputs[placed],
-                           does_any_wait(&outputs[placed + 1], count - placed - 1));
+            failed = place(&outputs[placed], does_any_wait(&outputs[placed + 1], count - placed - 1));
     }
     for (size_t i = 0; i < placed; i++) {
         if (failed)

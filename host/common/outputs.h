@@ -12,13 +12,13 @@
 struct output {
     const char *path; /* as it was named */
     int descriptor;
-    char *target;     /* the file that the name leads to, through links */
-    char *temporary;  /* its name until it is put in place; NULL if it is written as it goes */
-    bool replaces;    /* whether a file was there, with the rights that it keeps */
+    char *target;    /* the file that the name leads to, through links */
+    char *temporary; /* its name until it is put in place; NULL if it is written as it goes */
+    bool replaces;   /* whether a file was there, with the rights that it keeps */
     mode_t mode;
     uid_t owner;
     gid_t group;
-    char *former;     /* the name of what it replaced, for as long as that may have to come back */
+    char *former; /* the name of what it replaced, for as long as that may have to come back */
 };
 
 /* Whether the names lead to the same file, be it there yet or not. */

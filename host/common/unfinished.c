@@ -54,10 +54,18 @@ static void remove_and_end(int number)
 static bool is_ending(int number)
 {
     switch (number) {
-    case SIGKILL: case SIGSTOP:
-    case SIGTSTP: case SIGTTIN: case SIGTTOU: case SIGCONT:
-    case SIGCHLD: case SIGURG: case SIGWINCH: return false;
-    default: return true;
+    case SIGKILL:
+    case SIGSTOP:
+    case SIGTSTP:
+    case SIGTTIN:
+    case SIGTTOU:
+    case SIGCONT:
+    case SIGCHLD:
+    case SIGURG:
+    case SIGWINCH:
+        return false;
+    default:
+        return true;
     }
 }
 
@@ -66,7 +74,7 @@ void remove_unfinished_on_signals(void)
     struct sigaction found, removing = {.sa_handler = remove_and_end, .sa_flags = SA_RESETHAND};
     sigfillset(&removing.sa_mask);
     for (int number = 1; number <= SIGRTMAX; number++)
-        if (is_ending(number) && sigaction(number, NULL, &found) == 0
-            && !(found.sa_flags & SA_SIGINFO) && found.sa_handler == SIG_DFL)
+        if (is_ending(number) && sigaction(number, NULL, &found) == 0 && !(found.sa_flags & SA_SIGINFO) &&
+            found.sa_handler == SIG_DFL)
             sigaction(number, &removing, NULL);
 }

@@ -25,10 +25,17 @@ static void add_operand(struct line *line, const uint8_t *operand)
 {
     uint32_t value = get16(operand + PLEX_OPERAND_VALUE);
     switch (operand[PLEX_OPERAND_KIND]) {
-    case PLEX_NUMBER_OPERAND: add(line, "%u", value); break;
-    case PLEX_REGISTER_OPERAND: add(line, "r%u", value); break;
-    case PLEX_WORD_OPERAND: add(line, "w%u", value); break;
-    default: add(line, "(kind %u: %u)", operand[PLEX_OPERAND_KIND], value);
+    case PLEX_NUMBER_OPERAND:
+        add(line, "%u", value);
+        break;
+    case PLEX_REGISTER_OPERAND:
+        add(line, "r%u", value);
+        break;
+    case PLEX_WORD_OPERAND:
+        add(line, "w%u", value);
+        break;
+    default:
+        add(line, "(kind %u: %u)", operand[PLEX_OPERAND_KIND], value);
     }
 }
 
@@ -52,11 +59,11 @@ static void add_pair(struct line *line, const uint8_t *p, const char *operator)
 
 static void add_assign(struct line *line, const uint8_t *record)
 {
-    uint32_t operator = record[PLEX_RECORD_OPERATOR];
+    uint32_t operator= record[PLEX_RECORD_OPERATOR];
     add(line, "ASSIGN ");
     add_operand(line, operand_at(record, 0));
     add(line, " := ");
-    if (operator == PLEX_COPY)
+    if (operator== PLEX_COPY)
         add_operand(line, operand_at(record, 1));
     else
         add_pair(line, operand_at(record, 1), assign_operator_name(operator));
@@ -87,17 +94,30 @@ void add_statement(struct line *line, const uint8_t *record)
 {
     uint32_t opcode = record[PLEX_RECORD_OPCODE];
     switch (opcode) {
-    case PLEX_SKIP: add(line, "SKIP, on to %u", get16(record + PLEX_RECORD_A)); break;
-    case PLEX_GOTO: add(line, "GOTO %u", get16(record + PLEX_RECORD_A)); break;
-    case PLEX_ASSIGN: add_assign(line, record); break;
-    case PLEX_IF: add_if(line, record); break;
+    case PLEX_SKIP:
+        add(line, "SKIP, on to %u", get16(record + PLEX_RECORD_A));
+        break;
+    case PLEX_GOTO:
+        add(line, "GOTO %u", get16(record + PLEX_RECORD_A));
+        break;
+    case PLEX_ASSIGN:
+        add_assign(line, record);
+        break;
+    case PLEX_IF:
+        add_if(line, record);
+        break;
     case PLEX_SEND_DIRECT:
     case PLEX_SEND_BUFFERED:
     case PLEX_CALL:
     case PLEX_RETURN:
-    case PLEX_TRANSFER: add_signalling(line, record); break;
-    case PLEX_EXIT: add(line, "EXIT"); break;
-    default: add(line, "unknown opcode %u", opcode);
+    case PLEX_TRANSFER:
+        add_signalling(line, record);
+        break;
+    case PLEX_EXIT:
+        add(line, "EXIT");
+        break;
+    default:
+        add(line, "unknown opcode %u", opcode);
     }
 }
 

@@ -11,11 +11,9 @@ static const struct statement program[CASE_RECORDS] = {
     {NORTH_GUEST, PLEX_NO_ENTRY, PLEX_ASSIGN, PLEX_ADD, 2, 0, 3, {WORD(0), WORD(0), NUMBER(1)}},
     {NORTH_GUEST, PLEX_NO_ENTRY, PLEX_EXIT, 0, 0, 0, 0, {NUMBER(0)}},
     {NORTH_CHARGING, PLEX_DIRECT, PLEX_CALL, 0, 6, 4, 1, {REGISTER(0)}},
-    {NORTH_CHARGING, PLEX_NO_ENTRY, PLEX_ASSIGN, PLEX_ADD, 5, 0, 3,
-     {WORD(0), WORD(0), REGISTER(0)}},
+    {NORTH_CHARGING, PLEX_NO_ENTRY, PLEX_ASSIGN, PLEX_ADD, 5, 0, 3, {WORD(0), WORD(0), REGISTER(0)}},
     {NORTH_CHARGING, PLEX_NO_ENTRY, PLEX_RETURN, 0, 0, 0, 0, {NUMBER(0)}},
-    {TARIFFS, PLEX_DIRECT, PLEX_ASSIGN, PLEX_MULTIPLY, 7, 0, 3,
-     {REGISTER(0), REGISTER(0), REGISTER(1)}},
+    {TARIFFS, PLEX_DIRECT, PLEX_ASSIGN, PLEX_MULTIPLY, 7, 0, 3, {REGISTER(0), REGISTER(0), REGISTER(1)}},
     {TARIFFS, PLEX_NO_ENTRY, PLEX_RETURN, 0, 0, 0, 1, {REGISTER(0)}},
     {SOUTH_GUEST, PLEX_EXTERNAL, PLEX_RETURN, 0, 0, 0, 1, {REGISTER(0)}},
     {AUDIT, PLEX_EXTERNAL, PLEX_CALL, 0, 12, 10, 0, {NUMBER(0)}},
@@ -29,10 +27,8 @@ static const struct {
     uint8_t thread;
     uint16_t first_word;
 } blocks[CASE_BLOCKS] = {
-    [NORTH_GUEST] = {"North's guest", 0, 0},
-    [NORTH_CHARGING] = {"North's charging", 0, 120},
-    [TARIFFS] = {"the tariffs", 0, 0},
-    [SOUTH_GUEST] = {"South's guest", 0, 75},
+    [NORTH_GUEST] = {"North's guest", 0, 0}, [NORTH_CHARGING] = {"North's charging", 0, 120},
+    [TARIFFS] = {"the tariffs", 0, 0},       [SOUTH_GUEST] = {"South's guest", 0, 75},
     [AUDIT] = {"the audit", 1, 0},
 };
 

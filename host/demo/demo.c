@@ -22,8 +22,7 @@ static int accepted(const char *call, uint32_t result)
 {
     if (PLEX_NUMBER(result) == 0)
         return 1;
-    fprintf(stderr, "demo: %s refused: %s, place %u\n", call,
-            refusal_name(PLEX_NUMBER(result)), PLEX_PLACE(result));
+    fprintf(stderr, "demo: %s refused: %s, place %u\n", call, refusal_name(PLEX_NUMBER(result)), PLEX_PLACE(result));
     return 0;
 }
 
@@ -31,8 +30,8 @@ static void print_program(void)
 {
     for (uint32_t block = 0; block < CASE_BLOCKS; block++) {
         const uint8_t *row = row_at(field.table, block);
-        printf("block %u, %s: %s, thread %u\n", block, case_block_name(block),
-               block_kind_name(row[PLEX_ROW_KIND]), row[PLEX_ROW_THREAD]);
+        printf("block %u, %s: %s, thread %u\n", block, case_block_name(block), block_kind_name(row[PLEX_ROW_KIND]),
+               row[PLEX_ROW_THREAD]);
         for (uint32_t label = 0; label < CASE_RECORDS; label++)
             if (record_at(field.image, label)[PLEX_RECORD_BLOCK] == block) {
                 struct line line = {0};
@@ -84,16 +83,15 @@ static void print_answer(const uint8_t *answer)
 {
     struct line line = {0};
     add_answer(&line, answer);
-    printf("    answer    code %u, detail %u: %s\n", answer[PLEX_ANSWER_CODE],
-           answer[PLEX_ANSWER_DETAIL], line.text);
+    printf("    answer    code %u, detail %u: %s\n", answer[PLEX_ANSWER_CODE], answer[PLEX_ANSWER_DETAIL], line.text);
 }
 
 /* Who is in the way of a thread that was told to wait. */
 static int print_walk(uint32_t thread)
 {
     uint8_t met[PLEX_MET_SIZE];
-    uint32_t result = plex_walk(field.image, sizeof field.image, field.table, sizeof field.table,
-                                state, sizeof state, thread, met, sizeof met);
+    uint32_t result = plex_walk(field.image, sizeof field.image, field.table, sizeof field.table, state, sizeof state,
+                                thread, met, sizeof met);
     if (!accepted("plex_walk", result))
         return 0;
     printf("    the walk  thread %u", met[0]);
@@ -114,9 +112,8 @@ static int replay(uint32_t index)
         print_thread("before", thread);
         print_statement(thread);
     }
-    if (!accepted("plex_run", plex_run(field.image, sizeof field.image, field.table,
-                                       sizeof field.table, state, sizeof state, event,
-                                       PLEX_EVENT_SIZE, answer, sizeof answer)))
+    if (!accepted("plex_run", plex_run(field.image, sizeof field.image, field.table, sizeof field.table, state,
+                                       sizeof state, event, PLEX_EVENT_SIZE, answer, sizeof answer)))
         return 0;
     print_answer(answer);
     if (!is_arrival)
@@ -128,11 +125,9 @@ static int replay(uint32_t index)
 static int trace(void)
 {
     print_program();
-    if (!accepted("plex_check", plex_check(field.image, sizeof field.image, field.table,
-                                           sizeof field.table))
-        || !accepted("plex_fresh", plex_fresh(field.image, sizeof field.image, field.table,
-                                              sizeof field.table, field.words,
-                                              sizeof field.words, state, sizeof state)))
+    if (!accepted("plex_check", plex_check(field.image, sizeof field.image, field.table, sizeof field.table)) ||
+        !accepted("plex_fresh", plex_fresh(field.image, sizeof field.image, field.table, sizeof field.table,
+                                           field.words, sizeof field.words, state, sizeof state)))
         return 1;
     uint32_t north = north_charge(), south = south_charge();
     printf("\nThe image and the table are accepted, and a fresh machine is made.\n"
@@ -142,9 +137,8 @@ static int trace(void)
         if (!replay(index))
             return 1;
     int kept = north_charge() == north && south_charge() == south;
-    printf("\nThe charging words %s: North %u, South %u. The audit read %u.\n",
-           kept ? "are as they were" : "CHANGED", north_charge(), south_charge(),
-           get16(word_at(state, AUDIT, 0)));
+    printf("\nThe charging words %s: North %u, South %u. The audit read %u.\n", kept ? "are as they were" : "CHANGED",
+           north_charge(), south_charge(), get16(word_at(state, AUDIT, 0)));
     return kept ? 0 : 1;
 }
 
@@ -163,8 +157,8 @@ int main(int argc, char **argv)
     make_case(&field);
     if (argc < 2)
         return trace();
-    return write_part(argv[1], "case.image", field.image, sizeof field.image)
-        || write_part(argv[1], "case.table", field.table, sizeof field.table)
-        || write_part(argv[1], "case.words", field.words, sizeof field.words)
-        || write_part(argv[1], "case.events", field.events, sizeof field.events);
+    return write_part(argv[1], "case.image", field.image, sizeof field.image) ||
+           write_part(argv[1], "case.table", field.table, sizeof field.table) ||
+           write_part(argv[1], "case.words", field.words, sizeof field.words) ||
+           write_part(argv[1], "case.events", field.events, sizeof field.events);
 }

@@ -13,7 +13,8 @@ use Rattle.rules.specs.Events.{Event, arrive, turn}
 use Rattle.rules.specs.Answers.{answerBytes}
 use Rattle.rules.specs.Steps.{Rules, rulesBy, answers, final}
 use Rattle.rules.specs.Order.{Entry, order, orderBy, notesBy, events, byteOrder}
-use Rattle.rules.specs.Calls.{freshReturn, freshState, runReturn, stateLengthFault, stateFault, eventsLengthFault, eventFault, answersLengthFault}
+use Rattle.rules.specs.Calls.{freshReturn, freshState, runReturn, stateLengthFault, stateFault, eventsLengthFault, eventFault}
+use Rattle.rules.specs.Calls.{answersLengthFault}
 use Rattle.fields.specs.Each.{Each}
 use Rattle.laws.specs.Faults.{checked-of, checked-rest}
 use Rattle.one_by_one.specs.Reading.{AllValid}
@@ -85,7 +86,8 @@ module _ (image table words state : List ℕ) (runs : List Run) (calls : Calls i
   start-machine = ap machineFrom start-bytes ∙ machine-back first (first-good .sized)
 
   pub all : Joined image table checked first runs
-  all = joined image table checked first runs first-good (calls .bytes) (subst (λ (z : List ℕ). Follow image table z runs) start-bytes (calls .follow))
+  all = joined image table checked first runs first-good (calls .bytes)
+      (subst (λ (z : List ℕ). Follow image table z runs) start-bytes (calls .follow))
 
   -- the events of all calls, and with their answers
   abbrev pub joint : List Event

@@ -158,4 +158,5 @@ module _ (image events : List ℕ) (l : length events ≡ eventSize * eventsIn e
   pub events-valid : Each Valid (eventsFrom events)
   unfolding eventsFrom
   events-valid =
-      each-chunks Valid eventFrom 55 (eventsIn events) events (λ i li. event-valid image (drop (55 * i) events) (room i li) (event-at i li))
+      each-chunks Valid eventFrom 55 (eventsIn events) events (λ i li. event-valid image (drop (55 * i) events) (room i li)
+      (event-at i li))

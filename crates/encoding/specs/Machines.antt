@@ -98,7 +98,8 @@ machine-forth s h l e =
     ap (blocks threadBytes) (pad-full idle threadCount _ (length-chunks threadFrom threadSize threadCount (drop threadsPlace s)))
     ∙ blocks-chunks threadBytes threadFrom threadSize threadCount (drop threadsPlace s)
     (λ j lj. thread-forth (drop (threadSize * j) (drop threadsPlace s))
-    (bytes-drop (drop threadsPlace s) (threadSize * j) (bytes-drop s threadsPlace h)) (simp length-drop (omega arith)) (o .threads j lj)) in
+    (bytes-drop (drop threadsPlace s) (threadSize * j) (bytes-drop s threadsPlace h)) (simp length-drop (omega arith)) (o .threads j lj))
+    in
     let c : length (chunks treeFrom treeSize n (drop treesPlace s)) ∷ [] ≡ part s treeCountPlace 1 =
     ap (λ q. q ∷ []) (length-chunks treeFrom treeSize n (drop treesPlace s)) ∙ byte-forth s treeCountPlace (omega arith) in
     let r : blocks treeBytes (pad noTree treeCount (chunks treeFrom treeSize n (drop treesPlace s)))

@@ -81,7 +81,8 @@ values-forth p vs r (suc n) l h =
     (go (has r p) (h r (omega arith) (omega arith)) (values-forth p vs (suc r) n (omega arith) (λ i a b. h i (omega arith) (omega arith))))
   where
     go : (b : Bool) → (b || eqb (getD vs r 0) 0) ≡ true → map valueOr0 (registersFrom p vs (suc r) n) ≡ take n (drop (suc r) vs)
-        → valueOr0 (cond b (some (getD vs r 0)) none) ∷ map valueOr0 (registersFrom p vs (suc r) n) ≡ getD vs r 0 ∷ take n (drop (suc r) vs)
+        → valueOr0 (cond b (some (getD vs r 0)) none) ∷ map valueOr0 (registersFrom p vs (suc r) n) ≡ getD vs r 0 ∷ take n
+        (drop (suc r) vs)
     go true e ih = ap (λ l. getD vs r 0 ∷ l) ih
     go false e ih = rw (eqb-true (getD vs r 0) 0 e) (ap (λ l. 0 ∷ l) ih)
 

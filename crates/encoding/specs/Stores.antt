@@ -51,7 +51,8 @@ module _ (s : Machine) where
   word-put n v l h =
       let l′ : length (set (s .words) n v) ≡ wordTotal = length-set (s .words) n v ∙ l in
       rw (pad-full 0 wordTotal (s .words) l, pad-full 0 wordTotal (set (s .words) n v) l′)
-      (block-put le16 2 (λ x. refl) 0 [] _ (s .words) (2 * n) n 0 (le16 v) v (omega arith) (omega arith) (omega arith) (put-whole _ _ refl))
+      (block-put le16 2 (λ x. refl) 0 [] _ (s .words) (2 * n) n 0 (le16 v) v (omega arith) (omega arith) (omega arith)
+      (put-whole _ _ refl))
 
   -- a store inside thread t's record that makes it the record of w
   pub thread-inside : (t at j : ℕ) (a : List ℕ) (w : ThreadState) → length (s .threads) ≡ threadCount → t < threadCount

@@ -49,7 +49,8 @@ module _ (image table : List ℕ) where
   home-none [] t e = tt
   home-none (g ∷ p) t e = absurd (omega arith)
 
-  pub home-some : (p : List Signal) (t : ℕ) → 0 < length p → t ≡ rowAt table (blockAt image (getD p 0 noSignal .label)) .thread → HomeOf image table p t
+  pub home-some : (p : List Signal) (t : ℕ) → 0 < length p → t ≡ rowAt table (blockAt image (getD p 0 noSignal .label)) .thread
+      → HomeOf image table p t
   home-some [] t l e = absurd (omega arith)
   home-some (g ∷ p) t l e = e
 
@@ -69,7 +70,8 @@ module _ {image table b : List ℕ} (h : Ready image table b) where
   checked-parts = passed image table [] (h .checked) .0
 
   -- the label of a tree's oldest signal
-  pub oldest-below : (i : ℕ) → i < length (machineFrom b .trees) → 0 < length (pendingAt (machineFrom b) i) → getD (pendingAt (machineFrom b) i) 0 noSignal .label < labels image
+  pub oldest-below : (i : ℕ) → i < length (machineFrom b .trees) → 0 < length (pendingAt (machineFrom b) i)
+      → getD (pendingAt (machineFrom b) i) 0 noSignal .label < labels image
   oldest-below i l k =
       let x = each-at (TreeIn image table) (machineFrom b .trees) i noTree (h .sound .trees) l in
       pending-below image table _ (each-at (PendingIn image table) (pendingAt (machineFrom b) i) 0 noSignal (x .pending) k)
@@ -83,7 +85,8 @@ module _ {image table b : List ℕ} (h : Ready image table b) where
 
   -- ---- the thread cleared
 
-  pub cleared : (t : ℕ) {w : ThreadState} {b′ : List ℕ} → t < threadCount → w ≡ idleThread → b′ ≡ put b (threadPlace t) (rawBytes w) → Encodes b′ (withThread (machineFrom b) t idle)
+  pub cleared : (t : ℕ) {w : ThreadState} {b′ : List ℕ} → t < threadCount → w ≡ idleThread → b′ ≡ put b (threadPlace t) (rawBytes w)
+      → Encodes b′ (withThread (machineFrom b) t idle)
   cleared t {w} {b′} l i e =
       let f : b′ ≡ put b (threadPlace t) (rawBytes idleThread) = rw i at e in
       rw (idle-thread .state) at (written h t idleThread l (idle-thread .tidy) f)

@@ -157,13 +157,15 @@ module _ (block : ℕ → ℕ) (row : ℕ → Row) (t a b : ℕ) where
   quiet-resolve x y (got ends) rs l h = tt
   quiet-resolve x y (got (goes g)) rs l h = quiet-steer x y g (g .next) rs (l .0) h
 
-quiet-act : (image table : List ℕ) (t : ℕ) (j : Job) (words : List ℕ) (pending : ℕ) → Lockless (roleA (statementOf (recordAt image (j .label))))
+quiet-act : (image table : List ℕ) (t : ℕ) (j : Job) (words : List ℕ) (pending : ℕ)
+    → Lockless (roleA (statementOf (recordAt image (j .label))))
     → Quiet (actBy image table t j words pending)
 unfolding actBy
 quiet-act image table t j words pending h =
     let r : List ℕ = recordAt image (j .label) in
     let s : Statement = statementOf r in
-    quiet-resolve (blockAt image) (rowAt table) t (labelA r) (labelB r) (roleA s) (roleB s) (outcome (view j words pending) s (dataOf r)) (j .returns)
+    quiet-resolve (blockAt image) (rowAt table) t (labelA r) (labelB r) (roleA s) (roleB s) (outcome (view j words pending) s (dataOf r))
+    (j .returns)
     (refers (view j words pending) s (dataOf r)) h
 
 module _ (R : Rules) (s : Machine) (t l : ℕ) (j : Job) (p : List Signal) (runs : threadAt s t ≡ running l j)
@@ -177,7 +179,8 @@ module _ (R : Rules) (s : Machine) (t l : ℕ) (j : Job) (p : List Signal) (runs
       case (moves k ws g none) e q = answered _ _ (moves-by R s t l j p runs own k ws g e)
       case (moves k ws g (some b)) e q = absurd q
 
-pub wants-nothing : {image table b : List ℕ} {t : ℕ} {w : State.ThreadState} {r : List ℕ} → At image table b t w r → Lockless (roleA (statementOf r)) → Wants image table (machineFrom b) t Nothing
+pub wants-nothing : {image table b : List ℕ} {t : ℕ} {w : State.ThreadState} {r : List ℕ} → At image table b t w r
+    → Lockless (roleA (statementOf r)) → Wants image table (machineFrom b) t Nothing
 wants-nothing {image} {table} {b} {t} {w} {r} h q =
     quiet-asks (rulesBy image table) (machineFrom b) t (w .locks) (jobOf w) (tree h .0) (h .runs) (tree h .1)
     (quiet-act image table t (jobOf w) _ _ (subst (λ (x : List ℕ). Lockless (roleA (statementOf x))) (h .here) q))

@@ -5,7 +5,8 @@ use mathlib.Core.List.{List, [], _∷_, _++_}
 use Prim.Native.Nat.{ℕ}
 use lib.Dec.{eqb}
 use Rattle.rules.specs.Image.{recordAt, labelB}
-use Rattle.rules.specs.Statements.{statementOf, Way, following, branching, transferring, entering, posting, calling, returning, ending, way}
+use Rattle.rules.specs.Statements.{statementOf, Way, following, branching, transferring, entering, posting, calling, returning, ending}
+use Rattle.rules.specs.Statements.{way}
 use Rattle.rules.specs.Machine.{ThreadState, idle, running, Machine, threadAt, fresh}
 use Rattle.rules.specs.Events.{Event, arrive, turn}
 use Rattle.rules.specs.Steps.{Rules, older, react}

@@ -88,13 +88,15 @@ put-append t o p (x ∷ l) r h = go (ℕ-discrete (x .thread) t) (put-append t o
   where
     go : Dec (x .thread ≡ t) → (first t l ≡ some p → put t o (l ++ r) ≡ put t o l ++ r) → put t o (x ∷ (l ++ r)) ≡ put t o (x ∷ l) ++ r
     go (yes e) ih = rw (put-here t x (l ++ r) o e, put-here t x l o e) (refit-append t o l r)
-    go (no e) ih = rw (put-there t x (l ++ r) o e, put-there t x l o e) (ap (λ (s : List Tree). x ∷ s) (ih (sym (first-there t x l e) ∙ h)))
+    go (no e) ih = rw (put-there t x (l ++ r) o e, put-there t x l o e)
+        (ap (λ (s : List Tree). x ∷ s) (ih (sym (first-there t x l e) ∙ h)))
 
 -- a tree that gets other signals stays on its thread
 pub threads-put : (t : ℕ) (p : List Signal) (l : List Tree) → treeThreads (put t (some p) l) ≡ treeThreads l
 threads-put t p [] = unfold put in refl
 threads-put t p (x ∷ l) = case (ℕ-discrete (x .thread) t) (threads-put t p l)
   where
-    case : Dec (x .thread ≡ t) → treeThreads (put t (some p) l) ≡ treeThreads l → treeThreads (put t (some p) (x ∷ l)) ≡ treeThreads (x ∷ l)
+    case : Dec (x .thread ≡ t) → treeThreads (put t (some p) l) ≡ treeThreads l
+        → treeThreads (put t (some p) (x ∷ l)) ≡ treeThreads (x ∷ l)
     case (yes e) ih = rw (put-here t x l (some p) e, e) refl
     case (no e) ih = rw (put-there t x l (some p) e) (ap (λ (z : List ℕ). x .thread ∷ z) ih)

@@ -123,7 +123,8 @@ module _ {image table b : List ℕ} {t : ℕ} {w : ThreadState} {r : List ℕ} (
 
   module _ (vs : List ℕ) (g : readAll (cellsOf b w r) (dataOf r) ≡ got vs) where
     pub transferred : statementOf r ≡ Transfer → replyTo image table b (step t)
-        ≡ reply (withThread m t (running (w .locks) (job (labelA r) (returnsOf w) (map some vs ++ drop (length vs) (registersOf w))))) Moved
+        ≡ reply (withThread m t (running (w .locks) (job (labelA r) (returnsOf w) (map some vs ++ drop (length vs) (registersOf w)))))
+        Moved
     transferred e =
         rw (ap labelA (h .here))
         (law.transfers image table m t (w .locks) (jobOf w) (tree h .0) (h .runs) (tree h .1) vs (statement-here h Transfer e)

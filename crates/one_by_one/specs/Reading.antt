@@ -62,7 +62,8 @@ module _ (R : Rules) (L : Laws R) where
   about-attempt s e t m none g = rw (g .2) (row-of e t (g .1))
   about-attempt s e t m (some b) g = refl
 
-  about-carry : (s : Machine) (e : Event) (q : Plan) → Good R s (threadOf e) q → About s e (carry R s q .state) (sort (carry R s q .answer))
+  about-carry : (s : Machine) (e : Event) (q : Plan) → Good R s (threadOf e) q
+      → About s e (carry R s q .state) (sort (carry R s q .answer))
   unfolding carry
   about-carry s e (stay a) (inl g) = rw g refl
   about-carry s e (stay a) (inr g) = rw (g .0) (g .1)

@@ -249,7 +249,8 @@ few-slots r c h e most =
     let used : allFrom (valueOk r) 0 c ≡ allFrom (slotOk r) 0 c =
     all-same (valueOk r) (slotOk r) 0 c (λ k p q. used-slot r k (omega arith)) in
     let size : placesSize - operandSize * c ≡ operandSize * (operandCount - c) = omega arith in
-    let rest : isZeros (part r (operandsPlace + operandSize * c) (placesSize - operandSize * c)) ≡ allFrom (slotOk r) c (operandCount - c) =
+    let rest : isZeros (part r (operandsPlace + operandSize * c) (placesSize - operandSize * c)) ≡ allFrom (slotOk r) c
+    (operandCount - c) =
     rw size
     (zeros-from r operandsPlace (operandSize * c) (operandSize * (operandCount - c)) (omega arith)
     ∙ all-threes (λ i. eqb (getD r (operandsPlace + i) 0) 0) c (operandCount - c)

@@ -22,22 +22,31 @@ use Rattle.state.specs.Records.{wordPlace}
 use Rattle.step_laws.specs.Same.{window-at}
 
 abbrev pub cellsFrom : List ℕ → ℕ → ℕ → List ℕ → Cells
-cellsFrom state block present registers = record { registers = registersFrom present registers 0 registerCount; words = window block (wordsFrom state) }
+cellsFrom state block present registers = record {
+  registers = registersFrom present registers 0 registerCount;
+  words = window block
+      (wordsFrom state);
+}
 
 -- what the statement in the record r reads from, where thread w comes to it
 abbrev pub cellsOf : List ℕ → ThreadState → List ℕ → Cells
 cellsOf state w r = cellsFrom state (blockField r) (w .present) (w .registers)
 
-pub word-read : (state : List ℕ) (block w : ℕ) → block < blockCount → w < wordCount → getD (window block (wordsFrom state)) w 0 ≡ num16 (drop (wordPlace block w) state)
+pub word-read : (state : List ℕ) (block w : ℕ) → block < blockCount → w < wordCount
+    → getD (window block (wordsFrom state)) w 0 ≡ num16 (drop (wordPlace block w) state)
 unfolding wordsFrom
-word-read state block w b h = window-at block w (wordsFrom state) h ∙ chunks-at num16 2 (blockCount * wordCount) state 0 (wordCount * block + w) (omega arith)
+word-read state block w b h = window-at block w (wordsFrom state) h
+    ∙ chunks-at num16 2 (blockCount * wordCount) state 0 (wordCount * block + w) (omega arith)
 
 module _ (state : List ℕ) (block present : ℕ) (registers : List ℕ) where
-  register-is : (r : ℕ) → r < registerCount → getD (cellsFrom state block present registers .registers) r none ≡ registerOf present registers r
+  register-is : (r : ℕ) → r < registerCount
+      → getD (cellsFrom state block present registers .registers) r none ≡ registerOf present registers r
   register-is r h = register-at present registers 0 registerCount r h ∙ rw zero-add refl
 
-  pub register-read : (r : ℕ) → r < registerCount → has r present ≡ true → read (cellsFrom state block present registers) (Register r) ≡ got (getD registers r 0)
+  pub register-read : (r : ℕ) → r < registerCount → has r present ≡ true
+      → read (cellsFrom state block present registers) (Register r) ≡ got (getD registers r 0)
   register-read r h e = rw (register-is r h, e) refl
 
-  pub register-absent : (r : ℕ) → r < registerCount → has r present ≡ false → read (cellsFrom state block present registers) (Register r) ≡ trap absentRegisterCode
+  pub register-absent : (r : ℕ) → r < registerCount → has r present ≡ false
+      → read (cellsFrom state block present registers) (Register r) ≡ trap absentRegisterCode
   register-absent r h e = rw (register-is r h, e) refl

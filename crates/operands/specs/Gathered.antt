@@ -76,7 +76,8 @@ zeros-behind (suc n) zero h = absurd (omega arith)
 zeros-behind (suc n) (suc k) h = let e : k - n ≡ suc k - suc n = omega arith in zeros-behind n k (omega arith) ∙ ap (λ m. replicate m 0) e
 
 -- where zeros stood before, zeros stand behind the values
-pub zeros-stay : {g : Got (List ℕ)} {reason n : ℕ} {vs : List ℕ} → Reads g reason n (replicate operandCount 0) vs → reason ≡ 0 → ZerosAfter n vs
+pub zeros-stay : {g : Got (List ℕ)} {reason n : ℕ} {vs : List ℕ} → Reads g reason n (replicate operandCount 0) vs → reason ≡ 0
+    → ZerosAfter n vs
 zeros-stay {g} {reason} {n} {vs} h z =
     let k : length (take n vs) ≡ n = length-take-le n vs (omega (arith, h .sized, h .few)) in
     let u : drop n vs ≡ replicate (operandCount - n) 0 = h .rest z ∙ zeros-behind n operandCount (h .few) in

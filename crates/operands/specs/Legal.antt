@@ -46,11 +46,14 @@ operand-fits k v h = first (or-cases (eqb k 1 || (eqb k 2 && ltb v registerCount
     as-number : k ≡ 1 → Fits (cond (eqb k 1) (Number v) (cond (eqb k 2) (Register v) (Word v)))
     as-number e = rw e tt
 
-    second : (eqb k 1 ≡ true) ⊎ ((eqb k 2 && ltb v registerCount) ≡ true) → Fits (cond (eqb k 1) (Number v) (cond (eqb k 2) (Register v) (Word v)))
+    second : (eqb k 1 ≡ true) ⊎ ((eqb k 2 && ltb v registerCount) ≡ true)
+        → Fits (cond (eqb k 1) (Number v) (cond (eqb k 2) (Register v) (Word v)))
     second (inl e) = as-number (eqb-true k 1 e)
-    second (inr e) = let b = and-both (eqb k 2) (ltb v registerCount) e in as-register (eqb-true k 2 (b .0)) (ltb-true v registerCount (b .1))
+    second (inr e) = let b = and-both (eqb k 2) (ltb v registerCount) e in as-register (eqb-true k 2 (b .0))
+        (ltb-true v registerCount (b .1))
 
-    first : ((eqb k 1 || (eqb k 2 && ltb v registerCount)) ≡ true) ⊎ ((eqb k 3 && ltb v wordCount) ≡ true) → Fits (cond (eqb k 1) (Number v) (cond (eqb k 2) (Register v) (Word v)))
+    first : ((eqb k 1 || (eqb k 2 && ltb v registerCount)) ≡ true) ⊎ ((eqb k 3 && ltb v wordCount) ≡ true)
+        → Fits (cond (eqb k 1) (Number v) (cond (eqb k 2) (Register v) (Word v)))
     first (inl e) = second (or-cases (eqb k 1) (eqb k 2 && ltb v registerCount) e)
     first (inr e) = let b = and-both (eqb k 3) (ltb v wordCount) e in as-word (eqb-true k 3 (b .0)) (ltb-true v wordCount (b .1))
 
@@ -62,7 +65,8 @@ all-at ok i (suc n) h zero l = ap ok (omega arith) ∙ and-both (ok i) (allFrom 
 all-at ok i (suc n) h (suc k) l = ap ok (omega arith) ∙ all-at ok (i + 1) n (and-both (ok i) (allFrom ok (i + 1) n) h .1) k (omega arith)
 
 -- an operand that the record has is within limits
-pub slot-fits : (r : List ℕ) → allFrom (slotOk r) 0 operandCount ≡ true → (k : ℕ) → k < operands r → k < operandCount → Fits (operandAt r k)
+pub slot-fits : (r : List ℕ) → allFrom (slotOk r) 0 operandCount ≡ true → (k : ℕ) → k < operands r → k < operandCount
+    → Fits (operandAt r k)
 unfolding slotOk operandAt
 slot-fits r h k l m =
     let e : slotOk r k ≡ true = ap (slotOk r) (omega arith) ∙ all-at (slotOk r) 0 operandCount h k m in
@@ -81,5 +85,6 @@ unfolding labelOk
 label-below image Unused b v h = tt
 label-below image Inner b v h = ltb-true v (labels image) (and-both (ltb v (labels image)) _ h .0)
 label-below image Direct b v h = ltb-true v (labels image) (and-both (ltb v (labels image)) _ h .0)
-label-below image Local b v h = ltb-true v (labels image) (and-both (ltb v (labels image)) _ (and-both _ (eqb (entry (recordAt image v)) 1) h .0) .0)
+label-below image Local b v h = ltb-true v (labels image) (and-both (ltb v (labels image)) _
+    (and-both _ (eqb (entry (recordAt image v)) 1) h .0) .0)
 label-below image Buffered b v h = ltb-true v (labels image) (and-both (ltb v (labels image)) _ h .0)

@@ -11,7 +11,8 @@ use borrow.Author.Tests.{eqb-true}
 use Rattle.rules.specs.Sizes.{registerCount, wordCount}
 use Rattle.rules.specs.Codes.{ifCode, lessCode}
 use Rattle.rules.specs.Image.{opcode, operator, operands, kind, value}
-use Rattle.rules.specs.Statements.{operandOf, operandAt, operationAt, shape, destinations, optional, assignmentBy, assignmentOf, conditionOf, Other, others, otherIn, otherAt, otherOr, statementBy, statementOf}
+use Rattle.rules.specs.Statements.{operandOf, operandAt, operationAt, shape, destinations, optional, assignmentBy, assignmentOf}
+use Rattle.rules.specs.Statements.{conditionOf, Other, others, otherIn, otherAt, otherOr, statementBy, statementOf}
 use Rattle.rules.specs.Check.{operatorOk, otherOk, shapeOk}
 use Rattle.rules.specs.declared.statement.Operand.{Operand}
 use Rattle.rules.specs.declared.statement.Operand.the-variants.{Number, Register, Word}
@@ -46,7 +47,19 @@ AllSay r (x ∷ xs) = (opcode r ≡ x .opcode → otherAt r ≡ some (x .stateme
 
 others-say : (r : List ℕ) → AllSay r others
 unfolding AllSay
-others-say r = (λ e f. tt, (λ e f. tt, (λ e f. (f, e, refl), (λ e f. tt, (λ e f. tt, (λ e f. tt, (λ e f. tt, (λ e f. tt, (λ e f. tt, tt)))))))))
+others-say r = (
+  λ e f. tt,
+  (
+    λ e f. tt,
+    (
+      λ e f. (f, e, refl),
+      (
+        λ e f. tt,
+        (λ e f. tt, (λ e f. tt, (λ e f. tt, (λ e f. tt, (λ e f. tt, tt))))),
+      ),
+    ),
+  ),
+)
 
 says-in : (r : List ℕ) (xs : List Other) → AllSay r xs → otherAt r ≡ otherIn xs (opcode r) r → Says r (otherOr (otherIn xs (opcode r) r))
 unfolding AllSay
@@ -54,7 +67,8 @@ says-in r [] h f = tt
 says-in r (x ∷ xs) h f = case (eqb (opcode r) (x .opcode)) refl f (says-in r xs (h .1))
   where
     case : (b : Bool) → eqb (opcode r) (x .opcode) ≡ b → otherAt r ≡ cond b (some (x .statement r)) (otherIn xs (opcode r) r)
-        → (otherAt r ≡ otherIn xs (opcode r) r → Says r (otherOr (otherIn xs (opcode r) r))) → Says r (otherOr (cond b (some (x .statement r)) (otherIn xs (opcode r) r)))
+        → (otherAt r ≡ otherIn xs (opcode r) r → Says r (otherOr (otherIn xs (opcode r) r)))
+        → Says r (otherOr (cond b (some (x .statement r)) (otherIn xs (opcode r) r)))
     case true e f ih = h .0 (eqb-true (opcode r) (x .opcode) e) f
     case false e f ih = ih f
 
@@ -85,7 +99,8 @@ lands (suc zero) v h f = absurd (false≢true h)
 lands (suc (suc zero)) v h f = f
 lands (suc (suc (suc k))) v h f = case (eqb (suc (suc (suc k))) 1) (eqb (suc (suc (suc k))) 2) refl refl f
   where
-    case : (a b : Bool) → eqb (suc (suc (suc k))) 1 ≡ a → eqb (suc (suc (suc k))) 2 ≡ b → Fits (cond a (Number v) (cond b (Register v) (Word v))) → Lands (cond a (Number v) (cond b (Register v) (Word v)))
+    case : (a b : Bool) → eqb (suc (suc (suc k))) 1 ≡ a → eqb (suc (suc (suc k))) 2 ≡ b
+        → Fits (cond a (Number v) (cond b (Register v) (Word v))) → Lands (cond a (Number v) (cond b (Register v) (Word v)))
     case true b p q f = absurd (omega (arith, eqb-true (suc (suc (suc k))) 1 p))
     case false true p q f = f
     case false false p q f = f
@@ -108,7 +123,8 @@ module _ {image r : List ℕ} (p : Parts image r) (a : Assignment) (e : statemen
   slot : (k : ℕ) → k < destinations s + cond (s .right) 2 1 → k < 4 → Fits (operandAt r k)
   slot k h l = slot-fits r (p .slots) k (omega (arith, has .count)) (omega arith)
 
-  within : (b c : Bool) → (1 < cond b 2 1 + cond c 2 1) × (cond b 2 1 < cond b 2 1 + cond c 2 1) × (cond b 2 1 < 3) × (b ≡ true → 1 < cond b 2 1)
+  within : (b c : Bool)
+      → (1 < cond b 2 1 + cond c 2 1) × (cond b 2 1 < cond b 2 1 + cond c 2 1) × (cond b 2 1 < 3) × (b ≡ true → 1 < cond b 2 1)
       × (c ≡ true → cond b 2 1 + 1 < cond b 2 1 + cond c 2 1)
   within true true = (omega arith, omega arith, omega arith, λ z. omega arith, λ z. omega arith)
   within true false = (omega arith, omega arith, omega arith, λ z. omega arith, λ z. absurd (false≢true z))
@@ -126,7 +142,8 @@ module _ {image r : List ℕ} (p : Parts image r) (a : Assignment) (e : statemen
   left-fits = slot (destinations s) (within (s .second) (s .right) .1) (omega (arith, within (s .second) (s .right) .2))
 
   pub right-fits : Fits (optional (s .right) r (destinations s + 1))
-  right-fits = optional-fits (s .right) r (destinations s + 1) (λ z. slot (destinations s + 1) (within (s .second) (s .right) .4 z) (omega (arith, within (s .second) (s .right) .2)))
+  right-fits = optional-fits (s .right) r (destinations s + 1) (λ z. slot (destinations s + 1) (within (s .second) (s .right) .4 z)
+      (omega (arith, within (s .second) (s .right) .2)))
 
 -- ---- IF
 
@@ -141,7 +158,8 @@ module _ {image r : List ℕ} (p : Parts image r) (c : Condition) (e : statement
   two = case (operationAt (opcode r) (operator r)) refl (head-fields r (p .head) .shaped)
     where
       pair : otherOk r ≡ true → operands r ≡ 2
-      pair h = unfold otherOk in eqb-true (operands r) 2 (and-both (operatorOk lessCode (operator r)) (eqb (operands r) 2) (rw (said .0) at h) .1)
+      pair h = unfold otherOk in eqb-true (operands r) 2 (and-both (operatorOk lessCode (operator r)) (eqb (operands r) 2)
+          (rw (said .0) at h) .1)
 
       case : (k : Option Operation) → operationAt (opcode r) (operator r) ≡ k → shapeOk k r ≡ true → operands r ≡ 2
       case none f h = pair h

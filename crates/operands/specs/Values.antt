@@ -15,7 +15,8 @@ pub record Computes (g : Got Results) (d : Computation) : Type 0 where
   pub values : d .trap ≡ 0 → g ≡ got (record { first = d .first; second = d .second })
   pub trapped : (d .trap ≡ 0 → ⊥) → g ≡ trap (d .trap)
 
-pub computes-one : (g : Got Results) (d : Computation) → g ≡ got (record { first = d .first; second = d .second }) → d .trap ≡ 0 → Computes g d
+pub computes-one : (g : Got Results) (d : Computation) → g ≡ got (record { first = d .first; second = d .second }) → d .trap ≡ 0
+    → Computes g d
 computes-one g d e z = record { values = λ q. e; trapped = λ n. absurd (n z) }
 
 module _ (c : Cells) where

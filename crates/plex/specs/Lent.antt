@@ -100,7 +100,8 @@ module _ (image table state events space : List ℕ) where
         let whole : eventsLengthOk events ≡ true = refusal-zero _ 7 0 (omega arith) (seven .0) in (
           six .0,
           record {
-            whole = eqb-true _ _ (and-both (eqb (length events) (eventSize * eventsIn events)) (leb (eventsIn events) eventCount) whole .0);
+            whole = eqb-true _ _ (and-both (eqb (length events) (eventSize * eventsIn events)) (leb (eventsIn events) eventCount) whole
+                .0);
             ok = fault-free (eventAtOk image events) (eventsIn events) 8 (omega arith) (eight .0);
           },
           eqb-true (length space) (answerSize * eventsIn events) (refusal-zero _ 9 0 (omega arith) (nine .0)),

@@ -40,7 +40,8 @@ module _ (image r : List ℕ) where
       go false e = and-false (ltb (blockField r) 16 && ltb (entry r) 4)
 
   -- what the opcode asks for, once it is known
-  pub form-assign : (k : Operation) → found ≡ some k → formOk image r ≡ (shapeOk (some k) r && labelsOk image r (Assign (assignmentOf k r)))
+  pub form-assign : (k : Operation) → found ≡ some k
+      → formOk image r ≡ (shapeOk (some k) r && labelsOk image r (Assign (assignmentOf k r)))
   unfolding formOk statementOf
   form-assign k e = rw e refl
 

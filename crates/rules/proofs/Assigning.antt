@@ -63,7 +63,8 @@ length-stores zero i vs words = refl
 length-stores (suc n) i [] words = refl
 length-stores (suc n) i (v ∷ vs) words = length-set (stores n (suc i) vs words) i v ∙ length-stores n (suc i) vs words
 
-stored : (n i k : ℕ) (vs words : List ℕ) → k < n → k < length vs → i + k < length words → getD (stores n i vs words) (i + k) 0 ≡ getD vs k 0
+stored : (n i k : ℕ) (vs words : List ℕ) → k < n → k < length vs → i + k < length words
+    → getD (stores n i vs words) (i + k) 0 ≡ getD vs k 0
 unfolding stores
 stored zero i k vs words a b c = absurd (omega arith)
 stored (suc n) i k [] words a b c = absurd (omega arith)

@@ -10,18 +10,23 @@ use Rattle.rules.specs.Bytes.{num16, num32, part, isZeros, allFrom, firs
 use Rattle.rules.specs.Image.{labels, recordAt, rowAt}
 use Rattle.rules.specs.Statements.{operandOf, operandAt, operandsFrom, operationAt, optional, assignmentBy}
 use Rattle.rules.specs.Statements.{relationOf, conditionOf, otherAt, statementOf}
-use Rattle.rules.specs.Check.{assignOk, otherOk, headOk, slotOk, labelOk, ruleOk, recordOk, rowOk, imageLengthFault, tableLengthFault, tableFault, recordFault, firstOf}
+use Rattle.rules.specs.Check.{assignOk, otherOk, headOk, slotOk, labelOk, ruleOk, recordOk, rowOk, imageLengthFault}
+use Rattle.rules.specs.Check.{tableLengthFault, tableFault, recordFault, firstOf}
 use Rattle.rules.specs.Machine.{fresh, queue, first, put, cells, stores, window, keep}
 use Rattle.rules.specs.Encoding.{presence, threadRaw, threadBytes, registersFrom, jobFrom, threadFrom, signalBytes, signalFrom}
 use Rattle.rules.specs.Encoding.{treeBytes, treeFrom, encode, wordsFrom, machineFrom}
 use Rattle.rules.specs.Answers.{code, detail, answerBytes}
 use Rattle.rules.specs.Events.{eventFrom, arrivalOk, turnOk, eventOk, eventAtOk, eventsFrom}
 use Rattle.rules.specs.Effects.{readAll, perform, outcome}
-use Rattle.rules.specs.Steps.{alien, actBy, planArrive, planIdle, planRunning, planStep, planCut, plan, held, blocked, attempt, carry, react, answers, final}
-use Rattle.rules.specs.WellFormed.{absentZero, runningTidy, threadTidy, signalTidy, signalAtTidy, treeTidy, threadAtTidy, treeAtTidy, stateTidy, apart, placeOk, threadOk, threadsOk, pendingOk, treeOk, homed, queuesOk, machineOk, wellFormed}
+use Rattle.rules.specs.Steps.{alien, actBy, planArrive, planIdle, planRunning, planStep, planCut, plan, held, blocked, attempt}
+use Rattle.rules.specs.Steps.{carry, react, answers, final}
+use Rattle.rules.specs.WellFormed.{absentZero, runningTidy, threadTidy, signalTidy, signalAtTidy, treeTidy, threadAtTidy, treeAtTidy}
+use Rattle.rules.specs.WellFormed.{stateTidy, apart, placeOk, threadOk, threadsOk, pendingOk, treeOk, homed, queuesOk, machineOk}
+use Rattle.rules.specs.WellFormed.{wellFormed}
 use Rattle.rules.specs.Walk.{mem?, walkOn, walk, holder, awaits, walkFrom, metBytes, metCount}
 use Rattle.rules.specs.Calls.{threadFault, metLengthFault, walkFault, walkReturn, walkMet}
-use Rattle.rules.specs.Calls.{stateLengthFault, stateFault, eventsLengthFault, eventFault, answersLengthFault, wordsLengthFault, checkReturn, freshReturn, freshState, runReturn, runState, runAnswers}
+use Rattle.rules.specs.Calls.{stateLengthFault, stateFault, eventsLengthFault, eventFault, answersLengthFault, wordsLengthFault}
+use Rattle.rules.specs.Calls.{checkReturn, freshReturn, freshState, runReturn, runState, runAnswers}
 
 -- ---- records of an image, and events
 

@@ -9,7 +9,8 @@ use lib.Dec.{eqb, leb, ltb}
 use Rattle.rules.specs.Sizes.{returnCount, pendingCount}
 use Rattle.rules.specs.Codes.{absentRegisterCode, returnsFullCode, pendingFullCode}
 use Rattle.rules.specs.Machine.{fill}
-use Rattle.rules.specs.Statements.{Way, following, branching, transferring, entering, posting, calling, returning, ending, way, reads}
+use Rattle.rules.specs.Statements.{Way, following, branching, transferring, entering, posting, calling, returning, ending, way}
+use Rattle.rules.specs.Statements.{reads}
 use Rattle.rules.specs.declared.statement.Operand.{Operand}
 use Rattle.rules.specs.declared.statement.Operand.the-variants.{Number, Register, Word}
 use Rattle.rules.specs.declared.statement.Operation.{Operation}

@@ -72,7 +72,11 @@ module _ (block : ℕ → ℕ) (row : ℕ → Row) where
   resolve t rs a b (got (goes g)) = steer t a b g (g .next) rs
 
 abbrev pub view : Job → List ℕ → ℕ → View
-view j words pending = record { cells = record { registers = j .registers; words = words }; depth = length (j .returns); pending = pending }
+view j words pending = record {
+  cells = record { registers = j .registers; words = words };
+  depth = length (j .returns);
+  pending = pending;
+}
 
 -- ---- what the rules go by
 

@@ -84,7 +84,8 @@ module _ {image events : List ℕ} {i : ℕ} (h : EventAt image events i) (kind 
 
       pub full-done : roomFor (treeThreads (m .trees)) t ≡ false → Done (replyTo image table b (eventFrom bytes)) b ListFull
       full-done e =
-          done m ListFull (ap (replyTo image table b) arrival-is ∙ turned-away (rulesBy image table) m signal (asked e)) refl (k .canonical)
+          done m ListFull (ap (replyTo image table b) arrival-is ∙ turned-away (rulesBy image table) m signal (asked e)) refl
+          (k .canonical)
 
       pub arrived-done : {b′ : List ℕ} → roomFor (treeThreads (m .trees)) t ≡ true → Canonical b′ → machineFrom b′ ≡ arrived t signal m
           → Done (replyTo image table b (eventFrom bytes)) b′ Taken

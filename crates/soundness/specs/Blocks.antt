@@ -59,7 +59,8 @@ module _ (R : Rules) where
       case (inl h) = inl (List·Memᴰ·tail h)
       case (inr h) = inr h
 
-  calls-other : (j : Job) (a c : ℕ) → R .block c ≡ R .block (j .label) → (b : ℕ) → List·Memᴰ b (map (R .block) (a ∷ (j .returns ++ c ∷ [])))
+  calls-other : (j : Job) (a c : ℕ) → R .block c ≡ R .block (j .label) → (b : ℕ)
+      → List·Memᴰ b (map (R .block) (a ∷ (j .returns ++ c ∷ [])))
       → Needs R j b ⊎ (some (R .block a) ≡ some b)
   calls-other j a c h b (List·Memᴰ·head e) = inr (ap some (sym e))
   calls-other j a c h b (List·Memᴰ·tail m) = case (mem-snoc (j .returns) c b m)

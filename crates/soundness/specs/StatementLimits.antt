@@ -237,14 +237,16 @@ pub act-sized : (image table : List ℕ) → Passed image table → (t : ℕ) (j
 unfolding actBy
 act-sized image table ok t j words n l h k =
     let r = recordAt image (j .label) in
-    resolve-sized n (blockAt image) (rowAt table) t (labelA r) (labelB r) (j .returns) (outcome (view j words n) (statementOf r) (dataOf r))
+    resolve-sized n (blockAt image) (rowAt table) t (labelA r) (labelB r) (j .returns)
+    (outcome (view j words n) (statementOf r) (dataOf r))
     (outcome-sized (view j words n) (statementOf r) (dataOf r) h
     (rw (length-operands r 0 (operands r)) (operands-limit image table ok (j .label) l))) k
 
 -- labels are below 512, so that no label is the one that says idle
 pub labels-limit : (image : List ℕ) → labels image ≤ recordCount
 unfolding labels
-labels-limit image = case (eqb (length image) (recordSize * (length image / recordSize))) (leb (length image / recordSize) recordCount) refl
+labels-limit image = case (eqb (length image) (recordSize * (length image / recordSize))) (leb (length image / recordSize) recordCount)
+    refl
   where
     case : (a b : Bool) → leb (length image / recordSize) recordCount ≡ b → cond (a && b) (length image / recordSize) 0 ≤ recordCount
     case true true e = leb-true _ recordCount e

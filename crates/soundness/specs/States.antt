@@ -148,4 +148,5 @@ pub run-leaves-ready : (image table state events space : List ℕ) → runReturn
 unfolding runState
 run-leaves-ready image table state events space h =
     let g : Given image table state events = given-of image table state events space h in
-    rw h (encoded-ready image table _ (bytes-stay-well-formed image table (g .checked) state (eventsFrom events) (g .size) (g .formed) (g .accepted)))
+    rw h (encoded-ready image table _ (bytes-stay-well-formed image table (g .checked) state (eventsFrom events) (g .size) (g .formed)
+    (g .accepted)))

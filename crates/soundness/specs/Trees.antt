@@ -57,7 +57,8 @@ module _ (image table : List ℕ) where
 
   pub put-trees : (t : ℕ) (o : Option (List Signal)) (l : List Tree) → FirstIn o → t < threadCount → Each (TreeIn image table) l
       → Each (TreeIn image table) (put t o l)
-  put-trees t o l k v h = put-each (TreeIn image table) (Each (PendingIn image table)) t (λ p q. record { thread = v; pending = q }) o l k h
+  put-trees t o l k v h = put-each (TreeIn image table) (Each (PendingIn image table)) t (λ p q. record { thread = v; pending = q }) o l k
+      h
 
   module _ (checked : Passed image table) where
     home-below : (g : Signal) → PendingIn image table g → home (rulesBy image table) g < threadCount

@@ -54,14 +54,16 @@ unfoldable pub passes : List ℕ → ℕ → ℕ → ℕ → Bool
 passes b l out i = eqb i out || not (has l (num16 (drop (threadPlace i + locksPlace) b)))
 
 -- a search whose test is that of the threads ws, from i on
-search : (l : ℕ) (ok : ℕ → Bool) (ws : List ThreadState) (i : ℕ) → ((j : ℕ) → j < length ws → ok (i + j) ≡ not (has l (locksOf (getD ws j idle)))) → firstBad ok i (length ws) ≡ i + holder l ws
+search : (l : ℕ) (ok : ℕ → Bool) (ws : List ThreadState) (i : ℕ)
+    → ((j : ℕ) → j < length ws → ok (i + j) ≡ not (has l (locksOf (getD ws j idle)))) → firstBad ok i (length ws) ≡ i + holder l ws
 unfolding firstBad holder
 search l ok [] i h = omega arith
 search l ok (w ∷ ws) i h =
     let e : ok i ≡ not (has l (locksOf w)) = ap ok (omega arith) ∙ h 0 (omega arith) in
     rw e (go (has l (locksOf w)) (search l ok ws (i + 1) (λ j lj. ap ok (omega arith) ∙ h (suc j) (omega arith))))
   where
-    go : (b : Bool) → firstBad ok (i + 1) (length ws) ≡ i + 1 + holder l ws → cond (not b) (firstBad ok (i + 1) (length ws)) i ≡ i + cond b 0 (suc (holder l ws))
+    go : (b : Bool) → firstBad ok (i + 1) (length ws) ≡ i + 1 + holder l ws
+        → cond (not b) (firstBad ok (i + 1) (length ws)) i ≡ i + cond b 0 (suc (holder l ws))
     go true ih = omega arith
     go false ih = omega arith
 
@@ -82,10 +84,13 @@ module _ (b : List ℕ) (s : Machine) (z : Encodes b s) where
   holder-found l out =
       let n : length (set (s .threads) out idle) ≡ threadCount = length-set (s .threads) out idle ∙ z .sized .threads in
       let f : firstBad (passes b l out) 0 (length (set (s .threads) out idle)) ≡ 0 + holder l (set (s .threads) out idle) =
-      search l (passes b l out) (set (s .threads) out idle) 0 (λ j h. ap (passes b l out) (omega arith) ∙ go j (omega arith) (ℕ-discrete j out)) in
+      search l (passes b l out) (set (s .threads) out idle) 0 (λ j h. ap (passes b l out) (omega arith) ∙ go j (omega arith)
+      (ℕ-discrete j out)) in
       rw n at f ∙ omega arith
     where
-      go : (j : ℕ) → j < threadCount → Dec (j ≡ out) → (eqb j out || not (has l (num16 (drop (threadPlace j + locksPlace) b)))) ≡ not (has l (locksOf (getD (set (s .threads) out idle) j idle)))
+      go : (j : ℕ) → j < threadCount → Dec (j ≡ out)
+          → (eqb j out || not (has l (num16 (drop (threadPlace j + locksPlace) b)))) ≡ not
+          (has l (locksOf (getD (set (s .threads) out idle) j idle)))
       go j h (yes e) = rw (eq-eqb j out e, e, getD-set-same (s .threads) out idle idle (omega (arith, z .sized .threads)), has-none l)
       go j h (no e) = rw (ne-eqb j out e, locks-are j h, getD-set-other (s .threads) out j idle idle e)
 
@@ -104,7 +109,8 @@ held-is l (w ∷ ws) = go (has l (locksOf w)) (held-is l ws)
     go false ih = ih ∙ sym (leb·suc-suc (suc (holder l ws)) (length ws))
 
 -- and a thread other than t holds it where the search, t left out, finds one
-pub held-found : (b : List ℕ) (s : Machine) → Encodes b s → (l t : ℕ) {r : Holder} → r ≡ holderOf (holder l (set (s .threads) t idle)) → isHeld r ≡ held l (set (s .threads) t idle)
+pub held-found : (b : List ℕ) (s : Machine) → Encodes b s → (l t : ℕ) {r : Holder} → r ≡ holderOf (holder l (set (s .threads) t idle))
+    → isHeld r ≡ held l (set (s .threads) t idle)
 held-found b s z l t e =
     let n : length (set (s .threads) t idle) ≡ threadCount = length-set (s .threads) t idle ∙ z .sized .threads in
     ap isHeld e ∙ is-held (holder l (set (s .threads) t idle)) ∙ sym (held-is l (set (s .threads) t idle) ∙ rw n)

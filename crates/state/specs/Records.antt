@@ -25,9 +25,11 @@ module _ (b : List ℕ) (s : Machine) (h : Encodes b s) where
       let d = thread-on s t (threadPlace t) (h .sized .threads) l refl in
       rw (h .same, d .1) (bytes-of (threadAt s t) (thread-at-sized s t (h .sized) l) (d .0))
 
-  pub thread-written : (t : ℕ) (w : ThreadState) {b′ : List ℕ} → t < threadCount → Tidy w → b′ ≡ put b (threadPlace t) (rawBytes w) → Encodes b′ (withThread s t (stateOf w))
+  pub thread-written : (t : ℕ) (w : ThreadState) {b′ : List ℕ} → t < threadCount → Tidy w → b′ ≡ put b (threadPlace t) (rawBytes w)
+      → Encodes b′ (withThread s t (stateOf w))
   thread-written t w l z e =
-      encodes _ _ (thread-then s (h .sized) (h .same) t (stateOf w) l (e ∙ rw (bytes-are w z))) (sized-thread s t (stateOf w) (tidy-sized w z) (h .sized))
+      encodes _ _ (thread-then s (h .sized) (h .same) t (stateOf w) l (e ∙ rw (bytes-are w z)))
+      (sized-thread s t (stateOf w) (tidy-sized w z) (h .sized))
 
   -- word n written
   pub word-written : (n v : ℕ) {b′ : List ℕ} → n < wordTotal → b′ ≡ put b (2 * n) (le16 v) → Encodes b′ (withWord s n v)

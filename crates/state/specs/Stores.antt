@@ -23,7 +23,8 @@ size = length-blocks le16 2 (λ x. refl)
 
 -- ---- a run of numbers after the bytes a, which are stored at a place
 
-module _ (s : List ℕ) (at : ℕ) (bytes : AreBytes s) (a : List ℕ) (j k : ℕ) {s′ : List ℕ} (e : s′ ≡ put s at a) (n : length a ≡ j) (h : at + j + 2 * k ≤ length s) where
+module _ (s : List ℕ) (at : ℕ) (bytes : AreBytes s) (a : List ℕ) (j k : ℕ) {s′ : List ℕ} (e : s′ ≡ put s at a) (n : length a ≡ j)
+    (h : at + j + 2 * k ≤ length s) where
   abbrev there : List ℕ
   there = chunks num16 2 k (drop j (drop at s))
 
@@ -33,7 +34,8 @@ module _ (s : List ℕ) (at : ℕ) (bytes : AreBytes s) (a : List ℕ) (j k : �
   -- it stays
   kept : s′ ≡ put s′ (at + j) (blocks le16 there)
   kept =
-      let f : blocks le16 there ≡ part s (at + j) (2 * k) = ap (λ l. blocks le16 (chunks num16 2 k l)) (drop-drop j at s) ∙ nums-forth s (at + j) k (2 * k) bytes h refl in
+      let f : blocks le16 there ≡ part s (at + j) (2 * k) = ap (λ l. blocks le16 (chunks num16 2 k l)) (drop-drop j at s)
+      ∙ nums-forth s (at + j) k (2 * k) bytes h refl in
       let g : part s′ (at + j) (2 * k) ≡ part s (at + j) (2 * k) = rw (e, ← n) (part-beyond s at a (2 * k) (omega arith)) in
       sym (rw (f, ← g) (put-self s′ (at + j) (2 * k) (omega (arith, long))))
 
@@ -45,8 +47,10 @@ module _ (s : List ℕ) (at : ℕ) (bytes : AreBytes s) (a : List ℕ) (j k : �
   one-stored i v l f =
       f
       ∙ ap (λ q. put q (at + j + 2 * i) (le16 v)) kept
-      ∙ put-in s′ (at + j) (blocks le16 there) (2 * i) (le16 v) (omega (arith, size there, counted, long)) (omega (arith, size there, counted))
-      ∙ ap (put s′ (at + j)) (simp append-nil at (blocks-put le16 2 (λ x. refl) [] [] there 0 (2 * i) i v (omega arith) (omega (arith, counted))))
+      ∙ put-in s′ (at + j) (blocks le16 there) (2 * i) (le16 v) (omega (arith, size there, counted, long))
+      (omega (arith, size there, counted))
+      ∙ ap (put s′ (at + j)) (simp append-nil at (blocks-put le16 2 (λ x. refl) [] [] there 0 (2 * i) i v (omega arith)
+      (omega (arith, counted))))
 
 -- ---- the record, field after field
 
@@ -62,13 +66,15 @@ module _ (w : ThreadState) (n : length (w .returns) ≡ returnCount) (s : List �
   length-up : length (upToRegisters w) ≡ registersPlace
   length-up = simp length-append (omega (arith, size (w .returns)))
 
-  pub stored-up : {s₁ s₂ s₃ : List ℕ} → s₁ ≡ put s at (headBytes w) → s₂ ≡ put s₁ (at + returnsPlace) (blocks le16 (w .returns)) → s₃ ≡ put s₂ (at + presencePlace) (le32 (w .present))
+  pub stored-up : {s₁ s₂ s₃ : List ℕ} → s₁ ≡ put s at (headBytes w) → s₂ ≡ put s₁ (at + returnsPlace) (blocks le16 (w .returns))
+      → s₃ ≡ put s₂ (at + presencePlace) (le32 (w .present))
       → s₃ ≡ put s at (upToRegisters w)
   stored-up e₁ e₂ e₃ =
       let f₂ = put-then s at (headBytes w) _ _ e₁ e₂ refl in
       put-then s at _ _ _ f₂ e₃ (simp length-append (omega (arith, size (w .returns))))
 
-  pub stored-all : {s₃ s₄ : List ℕ} → length (w .registers) ≡ registerCount → s₃ ≡ put s at (upToRegisters w) → s₄ ≡ put s₃ (at + registersPlace) (blocks le16 (w .registers))
+  pub stored-all : {s₃ s₄ : List ℕ} → length (w .registers) ≡ registerCount → s₃ ≡ put s at (upToRegisters w)
+      → s₄ ≡ put s₃ (at + registersPlace) (blocks le16 (w .registers))
       → s₄ ≡ put s at (rawBytes w)
   unfolding rawBytes threadRaw
   stored-all m e₃ e₄ =
@@ -76,14 +82,18 @@ module _ (w : ThreadState) (n : length (w .returns) ≡ returnCount) (s : List �
       ∙ rw (pad-full 0 returnCount (w .returns) n, pad-full 0 registerCount (w .registers) m, append-assoc)
 
 -- the record of thread t in a state, where the return labels and all registers but one stay
-module _ (s : List ℕ) (t : ℕ) (bytes : AreBytes s) (long : length s ≡ stateSize) (l : t < threadCount) (w : ThreadState) (k v : ℕ) (h : k < registerCount)
+module _ (s : List ℕ) (t : ℕ) (bytes : AreBytes s) (long : length s ≡ stateSize) (l : t < threadCount) (w : ThreadState) (k v : ℕ)
+    (h : k < registerCount)
     (returns : w .returns ≡ returnsIn s t) (registers : w .registers ≡ set (registersIn s t) k v)
     (n : length (w .returns) ≡ returnCount) (m : length (w .registers) ≡ registerCount) where
   abbrev at : ℕ
   at = threadPlace t
 
-  pub stored-one : {s₁ s₂ s₃ : List ℕ} → s₁ ≡ put s at (headBytes w) → s₂ ≡ put s₁ (at + presencePlace) (le32 (w .present)) → s₃ ≡ put s₂ (at + registersPlace + 2 * k) (le16 v) → s₃ ≡ put s at (rawBytes w)
+  pub stored-one : {s₁ s₂ s₃ : List ℕ} → s₁ ≡ put s at (headBytes w) → s₂ ≡ put s₁ (at + presencePlace) (le32 (w .present))
+      → s₃ ≡ put s₂ (at + registersPlace + 2 * k) (le16 v) → s₃ ≡ put s at (rawBytes w)
   stored-one {s₁} {s₂} e₁ e₂ e₃ =
-      let f : s₁ ≡ put s₁ (at + returnsPlace) (blocks le16 (w .returns)) = rw returns (kept s at bytes (headBytes w) returnsPlace returnCount e₁ refl (omega arith)) in
+      let f : s₁ ≡ put s₁ (at + returnsPlace) (blocks le16 (w .returns)) = rw returns
+      (kept s at bytes (headBytes w) returnsPlace returnCount e₁ refl (omega arith)) in
       let up : s₂ ≡ put s at (upToRegisters w) = stored-up w n s at e₁ f e₂ in
-      stored-all w n s at m up (rw registers (one-stored s at bytes (upToRegisters w) registersPlace registerCount up (length-up w n s at) (omega arith) k v h e₃))
+      stored-all w n s at m up (rw registers (one-stored s at bytes (upToRegisters w) registersPlace registerCount up (length-up w n s at)
+      (omega arith) k v h e₃))

@@ -9,7 +9,8 @@ use Rattle.rules.specs.Sizes.{threadCount, treeCount, threadSize, treeSize, thr
 use Rattle.rules.specs.Bytes.{part, isZeros, allFrom, every, chunks}
 use Rattle.rules.specs.Machine.{ThreadState, Tree}
 use Rattle.rules.specs.Encoding.{threadFrom, treeFrom, machineFrom}
-use Rattle.rules.specs.WellFormed.{threadAtTidy, treeAtTidy, stateTidy, apart, threadOk, threadsOk, treeOk, queuesOk, machineOk, wellFormed}
+use Rattle.rules.specs.WellFormed.{threadAtTidy, treeAtTidy, stateTidy, apart, threadOk, threadsOk, treeOk, queuesOk, machineOk}
+use Rattle.rules.specs.WellFormed.{wellFormed}
 use Rattle.encoding.specs.Runs.{length-chunks}
 use Rattle.fields.specs.Runs.{all-same, all-both}
 use Rattle.fields.specs.Pieces.{every-chunk, next-place}
@@ -38,7 +39,8 @@ module _ (image table s : List ℕ) where
   all-threads =
       rw (threads-at 0 threadCount)
       (sym (all-both (threadAtTidy s) (λ i. threadOk image table i (threadFrom (drop (threadsPlace + threadSize * i) s))) 0 threadCount)
-      ∙ all-same _ (threadAtGood image table s) 0 threadCount (λ i l h. good-thread image table i (drop (threadsPlace + threadSize * i) s)))
+      ∙ all-same _ (threadAtGood image table s) 0 threadCount (λ i l h. good-thread image table i
+      (drop (threadsPlace + threadSize * i) s)))
 
   all-trees : (n : ℕ) → (allFrom (treeAtTidy s) 0 n && every (treeOk image table) (trees n)) ≡ allFrom (treeAtGood image s) 0 n
   unfolding treeAtTidy
@@ -73,5 +75,6 @@ module _ (image table s : List ℕ) where
         let p = pass image table (flagsOf s) (trees n) in
         let f : (c && (d && q)) ≡ (allFrom (treeAtGood image s) 0 n && p) =
         ap (λ x. c && x) (queues-pass image table threads (trees n)
-        (length-chunks threadFrom threadSize threadCount (drop threadsPlace s))) ∙ sym (and-assoc c d p) ∙ ap (λ x. x && p) (all-trees n) in
+        (length-chunks threadFrom threadSize threadCount (drop threadsPlace s))) ∙ sym (and-assoc c d p)
+        ∙ ap (λ x. x && p) (all-trees n) in
         rw (← e, le-leb n treeCount h) (regroup a c u b (apart threads) d q ∙ rw (f, all-threads))

@@ -88,7 +88,8 @@ module _ (image table : List ℕ) (s : Machine) (t l : ℕ) (j : Job) (p : List 
     branches c e h = case (holds (c .relation) x y) refl
       where
         case : (b : Bool) → holds (c .relation) x y ≡ b
-            → react R s (step t) ≡ reply (withThread s t (running l (job (cond b (labelA r) (labelB r)) (j .returns) (j .registers)))) Moved
+            → react R s (step t) ≡ reply (withThread s t (running l (job (cond b (labelA r) (labelB r)) (j .returns) (j .registers))))
+            Moved
         case true q = moves-on R s t l j p runs tree _ (unfold actBy outcome perform in rw (e, h, q) refl)
         case false q = moves-on R s t l j p runs tree _ (unfold actBy outcome perform in rw (e, h, q) refl)
 

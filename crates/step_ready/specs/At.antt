@@ -45,10 +45,12 @@ pub record At (image table b : List ℕ) (t : ℕ) (w : ThreadState) (r : List �
   pub readable : Readable r
 
 -- a thread that was read and is idle, or is not
-pub at-rest : {image table b : List ℕ} (h : Ready image table b) (t : ℕ) (w : ThreadState) → t < threadCount → Recorded b t w → eqb (w .label .0) idleLabel ≡ true → threadAt (machineFrom b) t ≡ idle
+pub at-rest : {image table b : List ℕ} (h : Ready image table b) (t : ℕ) (w : ThreadState) → t < threadCount → Recorded b t w
+    → eqb (w .label .0) idleLabel ≡ true → threadAt (machineFrom b) t ≡ idle
 at-rest h t w l e n = sym (says h t l e .state) ∙ idle-says w n
 
-module _ {image table b : List ℕ} (h : Ready image table b) (t : ℕ) (w : ThreadState) (l : t < threadCount) (e : Recorded b t w) (n : eqb (w .label .0) idleLabel ≡ false) where
+module _ {image table b : List ℕ} (h : Ready image table b) (t : ℕ) (w : ThreadState) (l : t < threadCount) (e : Recorded b t w)
+    (n : eqb (w .label .0) idleLabel ≡ false) where
   pub runs-job : threadAt (machineFrom b) t ≡ running (w .locks) (jobOf w)
   runs-job = sym (says h t l e .state) ∙ runs-says w n
 
@@ -62,7 +64,8 @@ module _ {image table b : List ℕ} (h : Ready image table b) (t : ℕ) (w : Thr
   pub at : {r : List ℕ} → r ≡ recordAt image (w .label .0) → At image table b t w r
   unfolding recordOk
   at {r} f =
-      let p : Parts image (recordAt image (w .label .0)) = rule-parts image (recordAt image (w .label .0)) (passed image table [] (h .checked) .0 .records (w .label .0) label-inside) in
+      let p : Parts image (recordAt image (w .label .0)) = rule-parts image (recordAt image (w .label .0))
+      (passed image table [] (h .checked) .0 .records (w .label .0) label-inside) in
       let q : Parts image r = subst (Parts image) (sym f) p in
       record {
         ready = h;
@@ -94,10 +97,12 @@ module _ {image table b : List ℕ} {t : ℕ} {w : ThreadState} {r : List ℕ} (
 
   -- its labels, where it uses them
   pub label-A : (S : Statement) → statementOf r ≡ S → Below image (roleA S) (labelA r)
-  label-A S e = subst (λ (q : Statement). Below image (roleA q) (labelA r)) e (label-below image (roleA (statementOf r)) (blockField r) (labelA r) (h .parts .a))
+  label-A S e = subst (λ (q : Statement). Below image (roleA q) (labelA r)) e
+      (label-below image (roleA (statementOf r)) (blockField r) (labelA r) (h .parts .a))
 
   pub label-B : (S : Statement) → statementOf r ≡ S → Below image (roleB S) (labelB r)
-  label-B S e = subst (λ (q : Statement). Below image (roleB q) (labelB r)) e (label-below image (roleB (statementOf r)) (blockField r) (labelB r) (h .parts .b))
+  label-B S e = subst (λ (q : Statement). Below image (roleB q) (labelB r)) e
+      (label-below image (roleB (statementOf r)) (blockField r) (labelB r) (h .parts .b))
 
   pub small : (l : ℕ) → l < labels image → l < idleLabel
   small l k = omega (arith, labels-small image)
@@ -106,15 +111,21 @@ module _ {image table b : List ℕ} {t : ℕ} {w : ThreadState} {r : List ℕ} (
   pub block-here : blockField r ≡ blockAt image (w .label .0)
   block-here = ap blockField (h .here)
 
-  pub cells-here : cellsOf b w r ≡ record { registers = jobOf w .registers; words = window (blockAt image (w .label .0)) (machineFrom b .words) }
+  pub cells-here : cellsOf b w r ≡ record {
+    registers = jobOf w .registers;
+    words = window (blockAt image (w .label .0))
+        (machineFrom b .words);
+  }
   unfolding machineFrom
   cells-here = ap (λ (q : ℕ). cellsFrom b q (w .present) (w .registers)) block-here
 
   -- the data of the law's record, read
   pub data-here : (g : Got (List ℕ)) → readAll (cellsOf b w r) (dataOf r) ≡ g
-      → readAll (record { registers = jobOf w .registers; words = window (blockAt image (w .label .0)) (machineFrom b .words) }) (dataOf (recordAt image (w .label .0))) ≡ g
+      → readAll (record { registers = jobOf w .registers; words = window (blockAt image (w .label .0)) (machineFrom b .words) })
+      (dataOf (recordAt image (w .label .0))) ≡ g
   data-here g q =
-      let f : readAll (cellsOf b w r) (dataOf (recordAt image (w .label .0))) ≡ g = subst (λ (z : List ℕ). readAll (cellsOf b w r) (dataOf z) ≡ g) (h .here) q in
+      let f : readAll (cellsOf b w r) (dataOf (recordAt image (w .label .0))) ≡ g = subst
+      (λ (z : List ℕ). readAll (cellsOf b w r) (dataOf z) ≡ g) (h .here) q in
       subst (λ (c : Cells). readAll c (dataOf (recordAt image (w .label .0))) ≡ g) cells-here f
 
   -- as many return labels as the thread counts

@@ -47,7 +47,8 @@ abbrev pub Ended : List ℕ → List ℕ → List ℕ → ℕ → List ℕ → T
 Ended image table before t after = Encodes after (finished (rulesBy image table) t (machineFrom before))
 
 -- the bytes that are left are those of a machine, which the reply has
-pub done : {r : Reply} {b : List ℕ} {a : Answer} (s : Machine) (x : Answer) → r ≡ record { state = s; answer = x } → a ≡ x → Encodes b s → Done r b a
+pub done : {r : Reply} {b : List ℕ} {a : Answer} (s : Machine) (x : Answer) → r ≡ record { state = s; answer = x } → a ≡ x → Encodes b s
+    → Done r b a
 done {r} {b} {a} s x e f h = record {
   answer = f ∙ ap (λ (q : Reply). q .answer) (sym e);
   canonical = encoded-canonical b s h;
@@ -66,13 +67,16 @@ module _ {image table b : List ℕ} (h : Ready image table b) where
   pub says : (t : ℕ) {w : ThreadState} → t < threadCount → Recorded b t w → Says w (threadAt (machineFrom b) t)
   says t l e = rw e (thread-read b (machineFrom b) (h .canonical) t l)
 
-  pub written : (t : ℕ) (w : ThreadState) {b′ : List ℕ} → t < threadCount → Tidy w → b′ ≡ put b (threadPlace t) (rawBytes w) → Encodes b′ (withThread (machineFrom b) t (stateOf w))
+  pub written : (t : ℕ) (w : ThreadState) {b′ : List ℕ} → t < threadCount → Tidy w → b′ ≡ put b (threadPlace t) (rawBytes w)
+      → Encodes b′ (withThread (machineFrom b) t (stateOf w))
   written t w l z e = thread-written b (machineFrom b) (h .canonical) t w l z e
 
-  pub runs-written : (t : ℕ) {w : ThreadState} {locks : ℕ} {j : Job} {b′ : List ℕ} → t < threadCount → Runs w locks j → b′ ≡ put b (threadPlace t) (rawBytes w) → Encodes b′ (withThread (machineFrom b) t (running locks j))
+  pub runs-written : (t : ℕ) {w : ThreadState} {locks : ℕ} {j : Job} {b′ : List ℕ} → t < threadCount → Runs w locks j
+      → b′ ≡ put b (threadPlace t) (rawBytes w) → Encodes b′ (withThread (machineFrom b) t (running locks j))
   runs-written t {w} l r e = rw (r .state) at (written t w l (r .running .tidy) e)
 
   -- a step that leaves the thread with these locks and this job, and all else as it was
-  pub thread-stepped : (t : ℕ) {w : ThreadState} {locks : ℕ} {j : Job} {b′ : List ℕ} (x : Answer) → t < threadCount → replyTo image table b (step t) ≡ record { state = withThread (machineFrom b) t (running locks j); answer = x }
+  pub thread-stepped : (t : ℕ) {w : ThreadState} {locks : ℕ} {j : Job} {b′ : List ℕ} (x : Answer) → t < threadCount
+      → replyTo image table b (step t) ≡ record { state = withThread (machineFrom b) t (running locks j); answer = x }
       → Runs w locks j → b′ ≡ put b (threadPlace t) (rawBytes w) → Stepped image table b t b′ x
   thread-stepped t {w} {locks} {j} x l e r f = done (withThread (machineFrom b) t (running locks j)) x e refl (runs-written t l r f)

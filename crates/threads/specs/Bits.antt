@@ -31,7 +31,8 @@ pub ones-bit : (i k : ℕ) → i < k → (2 ^ k - 1) / 2 ^ i % 2 ≡ 1
 ones-bit i k h =
     let e : k ≡ suc (k - i - 1) + i = omega arith in
     let s : 2 ^ (suc (k - i - 1) + i) - 1 ≡ (2 ^ suc (k - i - 1) - 1) * 2 ^ i + (2 ^ i - 1) = ones-split (suc (k - i - 1)) i in
-    let d : (2 ^ k - 1) / 2 ^ i ≡ 2 ^ suc (k - i - 1) - 1 = ap (λ n. (2 ^ n - 1) / 2 ^ i) e ∙ rw s (high (2 ^ suc (k - i - 1) - 1) i (ones-lt i)) in
+    let d : (2 ^ k - 1) / 2 ^ i ≡ 2 ^ suc (k - i - 1) - 1 = ap (λ n. (2 ^ n - 1) / 2 ^ i) e
+    ∙ rw s (high (2 ^ suc (k - i - 1) - 1) i (ones-lt i)) in
     rw d (omega (arith, pow-suc 2 (k - i - 1), pow-pos (k - i - 1)))
 
 pub ones-none : (i k : ℕ) → k ≤ i → (2 ^ k - 1) / 2 ^ i % 2 ≡ 0
@@ -62,4 +63,5 @@ pub has-or-low : (p k i : ℕ) → i < k → has i (bitOr p (2 ^ k - 1)) ≡ tru
 has-or-low p k i h = let e : bitOr p (2 ^ k - 1) / 2 ^ i % 2 ≡ 1 = omega (arith, or-bit p (2 ^ k - 1) i, ones-bit i k h) in rw e
 
 pub has-or-high : (p k i : ℕ) → k ≤ i → has i (bitOr p (2 ^ k - 1)) ≡ has i p
-has-or-high p k i h = let e : bitOr p (2 ^ k - 1) / 2 ^ i % 2 ≡ p / 2 ^ i % 2 = omega (arith, or-bit p (2 ^ k - 1) i, ones-none i k h) in rw e
+has-or-high p k i h = let e : bitOr p (2 ^ k - 1) / 2 ^ i % 2 ≡ p / 2 ^ i % 2 = omega (arith, or-bit p (2 ^ k - 1) i, ones-none i k h)
+    in rw e

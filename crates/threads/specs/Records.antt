@@ -11,7 +11,8 @@ use lib.ListN.{length, getD, set, take, drop, replicate, length-append, length-d
 use lib.Seq.{drop-drop, ext-getD, getD-drop, getD-take, length-take-le, take-all}
 use borrow.Author.Tests.{eqb-true, eqb-false}
 use Rattle.rules.specs.Sorts.{label}
-use Rattle.rules.specs.Sizes.{returnCount, registerCount, threadSize, threadsPlace, locksPlace, returnCountPlace, returnsPlace, presencePlace, registersPlace, idleLabel}
+use Rattle.rules.specs.Sizes.{returnCount, registerCount, threadSize, threadsPlace, locksPlace, returnCountPlace, returnsPlace}
+use Rattle.rules.specs.Sizes.{presencePlace, registersPlace, idleLabel}
 use Rattle.rules.specs.Bytes.{num16, num32, part, isZeros, pad, chunks}
 use Rattle.rules.specs.Machine as law
 use Rattle.rules.specs.Machine.{idle, running}
@@ -62,20 +63,28 @@ module _ (w : ThreadState) (z : Tidy w) where
 
   values-are : map valueOr0 (registersOf w) ≡ w .registers
   values-are =
-      values-forth (w .present) (w .registers) 0 registerCount (omega (arith, z .registers .sized)) (λ i l h. z .registers .absent i (omega arith))
+      values-forth (w .present) (w .registers) 0 registerCount (omega (arith, z .registers .sized))
+      (λ i l h. z .registers .absent i (omega arith))
       ∙ take-all registerCount (w .registers) (omega (arith, z .registers .sized))
 
   running-bytes : threadBytes (running (w .locks) (jobOf w)) ≡ rawBytes w
   unfolding threadBytes rawBytes threadRaw
   running-bytes =
       let r = z .returns in
-      rw (length-take-le (w .depth) (w .returns) (omega (arith, r .sized, r .within)), padded returnCount (w .depth) (w .returns) (r .sized) (r .within) (r .unused), present-is, values-are)
+      rw (
+        length-take-le (w .depth) (w .returns) (omega (arith, r .sized, r .within)),
+        padded returnCount (w .depth) (w .returns)
+            (r .sized) (r .within) (r .unused),
+        present-is,
+        values-are,
+      )
 
   idle-bytes : w .label .0 ≡ idleLabel → threadBytes idle ≡ rawBytes w
   unfolding threadBytes rawBytes threadRaw pad
   idle-bytes e =
       let n = z .nothing e in
-      let r : pad 0 returnCount (w .returns) ≡ pad 0 returnCount [] = sym (padded returnCount (w .depth) (w .returns) (z .returns .sized) (z .returns .within) (z .returns .unused)) ∙ rw (n .1) in
+      let r : pad 0 returnCount (w .returns) ≡ pad 0 returnCount [] = sym
+      (padded returnCount (w .depth) (w .returns) (z .returns .sized) (z .returns .within) (z .returns .unused)) ∙ rw (n .1) in
       let v : w .registers ≡ replicate registerCount 0 = sym values-are ∙ rw (n .2, none-registers (w .registers) 0 registerCount) in
       let g : pad 0 registerCount (w .registers) ≡ pad 0 registerCount [] = rw v in
       rw (e, n .0, n .1, n .2, r, g)
@@ -98,12 +107,15 @@ values-set (x ∷ l) (suc k) v = ap (λ q. valueOr0 x ∷ q) (values-set l k v)
 module _ (w w′ : ThreadState) (z : Tidy w) (z′ : Tidy w′) where
   pub same-returns : returnsOf w′ ≡ returnsOf w → w′ .returns ≡ w .returns
   same-returns e =
-      let f = padded returnCount (w .depth) (w .returns) (z .returns .sized) (z .returns .within) (z .returns .unused) ∙ pad-full 0 returnCount (w .returns) (z .returns .sized) in
-      let f′ = padded returnCount (w′ .depth) (w′ .returns) (z′ .returns .sized) (z′ .returns .within) (z′ .returns .unused) ∙ pad-full 0 returnCount (w′ .returns) (z′ .returns .sized) in
+      let f = padded returnCount (w .depth) (w .returns) (z .returns .sized) (z .returns .within) (z .returns .unused)
+      ∙ pad-full 0 returnCount (w .returns) (z .returns .sized) in
+      let f′ = padded returnCount (w′ .depth) (w′ .returns) (z′ .returns .sized) (z′ .returns .within) (z′ .returns .unused)
+      ∙ pad-full 0 returnCount (w′ .returns) (z′ .returns .sized) in
       sym f′ ∙ ap (pad 0 returnCount) e ∙ f
 
   pub set-registers : (k v : ℕ) → registersOf w′ ≡ set (registersOf w) k (some v) → w′ .registers ≡ set (w .registers) k v
-  set-registers k v e = sym (values-are w′ z′) ∙ ap (map valueOr0) e ∙ values-set (registersOf w) k v ∙ ap (λ l. set l k v) (values-are w z)
+  set-registers k v e = sym (values-are w′ z′) ∙ ap (map valueOr0) e ∙ values-set (registersOf w) k v
+      ∙ ap (λ l. set l k v) (values-are w z)
 
 -- ---- read
 
@@ -118,11 +130,13 @@ module _ (l : List ℕ) (k m : ℕ) (z : part l k m ≡ replicate m 0) where
 
   zero-num : (i : ℕ) → k ≤ i → i + 1 < k + m → num16 (drop i l) ≡ 0
   unfolding num16
-  zero-num i h h′ = rw (getD-drop i l 0 0, getD-drop i l 1 0, add-zero) (omega (arith, zero-byte i h (omega arith), zero-byte (i + 1) (omega arith) h′))
+  zero-num i h h′ = rw (getD-drop i l 0 0, getD-drop i l 1 0, add-zero)
+      (omega (arith, zero-byte i h (omega arith), zero-byte (i + 1) (omega arith) h′))
 
 module _ (b : List ℕ) where
   -- the numbers at the places of return labels that are not in use are zero
-  returns-read : (n : ℕ) → n ≤ returnCount → ((j : ℕ) → n ≤ j → j < returnCount → num16 (drop (2 * j) (drop 5 b)) ≡ 0) → TidyReturns n (chunks num16 2 returnCount (drop 5 b))
+  returns-read : (n : ℕ) → n ≤ returnCount → ((j : ℕ) → n ≤ j → j < returnCount → num16 (drop (2 * j) (drop 5 b)) ≡ 0)
+      → TidyReturns n (chunks num16 2 returnCount (drop 5 b))
   returns-read n h z =
       let l = chunks num16 2 returnCount (drop 5 b) in
       let s : length l ≡ returnCount = length-chunks num16 2 returnCount (drop 5 b) in
@@ -132,14 +146,17 @@ module _ (b : List ℕ) where
         within = h;
         unused = ext-getD 0 (drop n l) (replicate (returnCount - n) 0) (d ∙ sym (length-replicate (returnCount - n) 0)) (λ i hi.
             let hi′ : i < returnCount - n = rw d at hi in
-            getD-drop n l i 0 ∙ chunks-at num16 2 returnCount (drop 5 b) 0 (n + i) (omega arith) ∙ z (n + i) (omega arith) (omega arith) ∙ sym (getD-replicate (returnCount - n) i 0 0 hi′));
+            getD-drop n l i 0 ∙ chunks-at num16 2 returnCount (drop 5 b) 0 (n + i) (omega arith) ∙ z (n + i) (omega arith) (omega arith)
+            ∙ sym (getD-replicate (returnCount - n) i 0 0 hi′));
       }
 
   running-tidy : (num16 b ≡ idleLabel → ⊥) → RunningRead b → Tidy (rawThread b)
   unfolding rawThread absentZero
   running-tidy e o =
       record {
-        returns = rw (getD-drop 4 b 0 0) (returns-read (getD b 4 0) (o .few) (λ j h h′. zero-num (drop 5 b) (2 * getD b 4 0) (2 * (returnCount - getD b 4 0)) (o .zeros) (2 * j) (omega arith) (omega arith)));
+        returns = rw (getD-drop 4 b 0 0) (returns-read (getD b 4 0) (o .few)
+            (λ j h h′. zero-num (drop 5 b) (2 * getD b 4 0) (2 * (returnCount - getD b 4 0)) (o .zeros) (2 * j) (omega arith)
+            (omega arith)));
         registers = record {
           sized = length-chunks num16 2 registerCount (drop 25 b);
           within = o .present;
@@ -152,10 +169,18 @@ module _ (b : List ℕ) where
   unfolding rawThread num32
   idle-tidy z =
       let d : getD (drop 4 b) 0 0 ≡ 0 = getD-drop 4 b 0 0 ∙ zero-byte b 2 73 z 4 (omega arith) (omega arith) in
-      let p : num32 (drop 21 b) ≡ 0 = omega (arith, zero-num b 2 73 z 21 (omega arith) (omega arith), zero-num b 2 73 z 23 (omega arith) (omega arith), ap num16 (drop-drop 2 21 b)) in
+      let p : num32 (drop 21 b) ≡ 0 = omega (
+        arith,
+        zero-num b 2 73 z 21 (omega arith) (omega arith),
+        zero-num b 2 73 z 23 (omega arith)
+            (omega arith),
+        ap num16 (drop-drop 2 21 b),
+      ) in
       record {
         returns = rw d (returns-read 0 (omega arith) (λ j h h′. rw drop-drop (zero-num b 2 73 z (5 + 2 * j) (omega arith) (omega arith))));
-        registers = rw p (none-tidy _ (length-chunks num16 2 registerCount (drop 25 b)) (λ r h. rw (chunks-at num16 2 registerCount (drop 25 b) 0 r h, drop-drop) (zero-num b 2 73 z (25 + 2 * r) (omega arith) (omega arith))));
+        registers = rw p (none-tidy _ (length-chunks num16 2 registerCount (drop 25 b))
+            (λ r h. rw (chunks-at num16 2 registerCount (drop 25 b) 0 r h, drop-drop)
+            (zero-num b 2 73 z (25 + 2 * r) (omega arith) (omega arith))));
         nothing = λ q. (zero-num b 2 73 z 2 (omega arith) (omega arith), d, p);
       }
 
@@ -174,21 +199,28 @@ bytes-say b l e = go (eqb (num16 b) idleLabel) refl e
         let h : getD (drop 4 b) 0 0 ≤ returnCount = omega (arith, getD-drop 4 b 0 0, o .few) in
         rw (take-chunks num16 2 (getD (drop 4 b) 0 0) returnCount (drop 5 b) h)
 
-    state-is : (c : Bool) → eqb (num16 b) idleLabel ≡ c → stateOf (rawThread b) ≡ cond c idle (running (num16 (drop 2 b)) (jobOf (rawThread b)))
+    state-is : (c : Bool) → eqb (num16 b) idleLabel ≡ c
+        → stateOf (rawThread b) ≡ cond c idle (running (num16 (drop 2 b)) (jobOf (rawThread b)))
     state-is c p = unfold stateOf rawThread in rw p
 
     from-is : (c : Bool) → eqb (num16 b) idleLabel ≡ c → threadFrom b ≡ cond c idle (running (num16 (drop 2 b)) (jobFrom b))
     from-is c p = unfold threadFrom in rw p
 
-    go : (c : Bool) → eqb (num16 b) idleLabel ≡ c → cond c (isZeros (part b 2 73)) (runningTidy b) ≡ true → Says (rawThread b) (threadFrom b)
+    go : (c : Bool) → eqb (num16 b) idleLabel ≡ c → cond c (isZeros (part b 2 73)) (runningTidy b) ≡ true
+        → Says (rawThread b) (threadFrom b)
     go true p t = record { state = state-is true p ∙ sym (from-is true p); tidy = idle-tidy b (zeros-part b 2 73 (omega arith) t) }
     go false p t =
         let o = running-read b l t in
-        record { state = state-is false p ∙ ap (running (num16 (drop 2 b))) (job-is o) ∙ sym (from-is false p); tidy = running-tidy b (eqb-false (num16 b) idleLabel p) o }
+        record {
+          state = state-is false p ∙ ap (running (num16 (drop 2 b))) (job-is o)
+              ∙ sym (from-is false p);
+          tidy = running-tidy b (eqb-false (num16 b) idleLabel p) o;
+        }
 
 -- the thread that bytes were written of
 pub bytes-of : (x : law.ThreadState) → SizedThread x → (q : List ℕ) → Says (rawThread (threadBytes x ++ q)) x
-bytes-of x z q = rw (thread-back x z q) at (bytes-say (threadBytes x ++ q) (simp length-append (omega (arith, length-thread x))) (thread-tidy x z q))
+bytes-of x z q = rw (thread-back x z q) at (bytes-say (threadBytes x ++ q) (simp length-append (omega (arith, length-thread x)))
+    (thread-tidy x z q))
 
 -- what a tidy state says is within the limits
 pub tidy-sized : (w : ThreadState) → Tidy w → SizedThread (stateOf w)
@@ -199,6 +231,11 @@ tidy-sized w z = go (eqb (w .label .0) idleLabel) refl
     go true e = tt
     go false e = record {
       label = eqb-false (w .label .0) idleLabel e;
-      returns = omega (arith, z .returns .within, length-take-le (w .depth) (w .returns) (omega (arith, z .returns .within, z .returns .sized)));
+      returns = omega (
+        arith,
+        z .returns .within,
+        length-take-le (w .depth) (w .returns)
+            (omega (arith, z .returns .within, z .returns .sized)),
+      );
       registers = length-registers (w .present) (w .registers) 0 registerCount;
     }

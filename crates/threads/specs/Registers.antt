@@ -9,7 +9,8 @@ use native.Mathlib.Decide.{decLt, ℕ-discrete}
 use native.Mathlib.Omega.{arith}
 use lib.Bits.{bitOr, or-lt}
 use lib.Dec.{eqb}
-use lib.ListN.{length, getD, set, drop, replicate, length-append, length-drop, length-set, length-replicate, getD-replicate, List·getD-append}
+use lib.ListN.{length, getD, set, drop, replicate, length-append, length-drop, length-set, length-replicate, getD-replicate}
+use lib.ListN.{List·getD-append}
 use lib.Pow.{pow-lt, pow-mono, pow-pos}
 use lib.Seq.{ext-getD, getD-append-add, getD-drop, getD-set-same, getD-set-other}
 use Rattle.rules.specs.Sizes.{registerCount}
@@ -34,7 +35,8 @@ registers-are : (present : ℕ) (values : List ℕ) (l : List (Option ℕ)) → 
     → ((r : ℕ) → r < registerCount → registerOf present values r ≡ getD l r none) → registersFrom present values 0 registerCount ≡ l
 registers-are present values l n e =
     ext-getD none _ l (length-registers present values 0 registerCount ∙ sym n)
-    (λ r h. let k : r < registerCount = omega (arith, length-registers present values 0 registerCount) in register-at present values 0 registerCount r k ∙ rw zero-add (e r k))
+    (λ r h. let k : r < registerCount = omega (arith, length-registers present values 0 registerCount) in register-at present values 0
+    registerCount r k ∙ rw zero-add (e r k))
 
 length-some : (vs : List ℕ) → length (map some vs) ≡ length vs
 length-some [] = refl
@@ -47,7 +49,8 @@ some-at (v ∷ vs) l (suc r) h = some-at vs l r (omega arith)
 
 module _ {A : Type 0} (xs ys : List A) (d : A) (r : ℕ) where
   past : length xs ≤ r → getD (xs ++ ys) r d ≡ getD ys (r - length xs) d
-  past h = let e : r ≡ length xs + (r - length xs) = omega arith in ap (λ k. getD (xs ++ ys) k d) e ∙ getD-append-add xs ys (r - length xs) d
+  past h = let e : r ≡ length xs + (r - length xs) = omega arith in ap (λ k. getD (xs ++ ys) k d) e
+      ∙ getD-append-add xs ys (r - length xs) d
 
 past-some : (vs : List ℕ) (l : List (Option ℕ)) (r : ℕ) → length vs ≤ r → getD (map some vs ++ l) r none ≡ getD l (r - length vs) none
 past-some vs l r h = past (map some vs) l none r (omega (arith, length-some vs)) ∙ rw length-some
@@ -55,14 +58,29 @@ past-some vs l r h = past (map some vs) l none r (omega (arith, length-some vs))
 -- ---- a register is stored to
 
 module _ (present : ℕ) (values : List ℕ) (r v : ℕ) (sized : length values ≡ registerCount) (h : r < registerCount) where
-  pub stored-registers : registersFrom (bitOr present (2 ^ r)) (set values r v) 0 registerCount ≡ set (registersFrom present values 0 registerCount) r (some v)
-  stored-registers = registers-are _ _ _ (length-set (registersFrom present values 0 registerCount) r (some v) ∙ length-registers present values 0 registerCount) (λ i k. go i k (ℕ-discrete i r))
+  pub stored-registers : registersFrom (bitOr present (2 ^ r)) (set values r v) 0 registerCount ≡ set
+      (registersFrom present values 0 registerCount) r (some v)
+  stored-registers = registers-are _ _ _ (length-set (registersFrom present values 0 registerCount) r (some v) ∙ length-registers present
+      values 0 registerCount) (λ i k. go i k (ℕ-discrete i r))
     where
-      go : (i : ℕ) → i < registerCount → Dec (i ≡ r) → registerOf (bitOr present (2 ^ r)) (set values r v) i ≡ getD (set (registersFrom present values 0 registerCount) r (some v)) i none
+      go : (i : ℕ) → i < registerCount → Dec (i ≡ r)
+          → registerOf (bitOr present (2 ^ r)) (set values r v) i ≡ getD (set (registersFrom present values 0 registerCount) r (some v)) i
+          none
       go i k (yes e) =
-          rw (e, has-set present r, getD-set-same values r v 0 (omega arith), getD-set-same (registersFrom present values 0 registerCount) r (some v) none (omega (arith, length-registers present values 0 registerCount)))
+          rw (
+            e,
+            has-set present r,
+            getD-set-same values r v 0 (omega arith),
+            getD-set-same (registersFrom present values 0 registerCount)
+                r (some v) none (omega (arith, length-registers present values 0 registerCount)),
+          )
       go i k (no e) =
-          rw (has-other present r i (λ q. e (sym q)), getD-set-other values r i v 0 e, getD-set-other (registersFrom present values 0 registerCount) r i (some v) none e)
+          rw (
+            has-other present r i (λ q. e (sym q)),
+            getD-set-other values r i v 0 e,
+            getD-set-other
+                (registersFrom present values 0 registerCount) r i (some v) none e,
+          )
           (sym (register-at present values 0 registerCount i k ∙ rw zero-add))
 
   stored-absent : AbsentZero present values → AbsentZero (bitOr present (2 ^ r)) (set values r v)
@@ -73,7 +91,11 @@ module _ (present : ℕ) (values : List ℕ) (r v : ℕ) (sized : length values 
       go (no e) = rw (has-other present r i (λ q. e (sym q)), getD-set-other values r i v 0 e) (z i k)
 
   pub stored-tidy : TidyRegisters present values → TidyRegisters (bitOr present (2 ^ r)) (set values r v)
-  stored-tidy z = record { sized = length-set values r v ∙ sized; within = or-lt registerCount present (2 ^ r) (z .within) (pow-lt h); absent = stored-absent (z .absent) }
+  stored-tidy z = record {
+    sized = length-set values r v ∙ sized;
+    within = or-lt registerCount present (2 ^ r) (z .within) (pow-lt h);
+    absent = stored-absent (z .absent);
+  }
 
 -- ---- registers 0 upward have the values, the others are absent
 
@@ -82,10 +104,13 @@ module _ (vs : List ℕ) (few : length vs ≤ registerCount) where
   filled-at r h k = past vs _ 0 r h ∙ getD-replicate (registerCount - length vs) (r - length vs) 0 0 (omega arith)
 
   pub filled-registers : registersFrom (2 ^ length vs - 1) (vs ++ replicate (registerCount - length vs) 0) 0 registerCount ≡ fill vs
-  filled-registers = registers-are _ _ _ (simp (length-append, length-some, length-replicate) (omega arith)) (λ r k. go r k (decLt r (length vs)))
+  filled-registers = registers-are _ _ _ (simp (length-append, length-some, length-replicate) (omega arith))
+      (λ r k. go r k (decLt r (length vs)))
     where
-      go : (r : ℕ) → r < registerCount → Dec (r < length vs) → registerOf (2 ^ length vs - 1) (vs ++ replicate (registerCount - length vs) 0) r ≡ getD (fill vs) r none
-      go r k (yes h) = rw (has-low (length vs) r h, List·getD-append vs (replicate (registerCount - length vs) 0) 0 r h) (sym (some-at vs _ r h))
+      go : (r : ℕ) → r < registerCount → Dec (r < length vs)
+          → registerOf (2 ^ length vs - 1) (vs ++ replicate (registerCount - length vs) 0) r ≡ getD (fill vs) r none
+      go r k (yes h) = rw (has-low (length vs) r h, List·getD-append vs (replicate (registerCount - length vs) 0) 0 r h)
+          (sym (some-at vs _ r h))
       go r k (no h) =
           rw (has-high (length vs) r (omega arith))
           (sym (past-some vs _ r (omega arith) ∙ getD-replicate (registerCount - length vs) (r - length vs) none none (omega arith)))
@@ -107,17 +132,23 @@ module _ (vs : List ℕ) (few : length vs ≤ registerCount) where
 -- ---- registers 0 upward have the values, the others stay
 
 module _ (present : ℕ) (values vs : List ℕ) (sized : length values ≡ registerCount) (few : length vs ≤ registerCount) where
-  pub overlaid-registers : registersFrom (bitOr present (2 ^ length vs - 1)) (vs ++ drop (length vs) values) 0 registerCount ≡ map some vs ++ drop (length vs) (registersFrom present values 0 registerCount)
+  pub overlaid-registers : registersFrom (bitOr present (2 ^ length vs - 1)) (vs ++ drop (length vs) values) 0 registerCount ≡ map some vs
+      ++ drop (length vs) (registersFrom present values 0 registerCount)
   overlaid-registers =
-      registers-are _ _ _ (simp (length-append, length-some, length-drop, length-registers) (omega arith)) (λ r k. go r k (decLt r (length vs)))
+      registers-are _ _ _ (simp (length-append, length-some, length-drop, length-registers) (omega arith))
+      (λ r k. go r k (decLt r (length vs)))
     where
       go : (r : ℕ) → r < registerCount → Dec (r < length vs)
-          → registerOf (bitOr present (2 ^ length vs - 1)) (vs ++ drop (length vs) values) r ≡ getD (map some vs ++ drop (length vs) (registersFrom present values 0 registerCount)) r none
-      go r k (yes h) = rw (has-or-low present (length vs) r h, List·getD-append vs (drop (length vs) values) 0 r h) (sym (some-at vs _ r h))
+          → registerOf (bitOr present (2 ^ length vs - 1)) (vs ++ drop (length vs) values) r ≡ getD
+          (map some vs ++ drop (length vs) (registersFrom present values 0 registerCount)) r none
+      go r k (yes h) = rw (has-or-low present (length vs) r h, List·getD-append vs (drop (length vs) values) 0 r h)
+          (sym (some-at vs _ r h))
       go r k (no h) =
           let e : length vs + (r - length vs) ≡ r = omega arith in
-          let a : getD (vs ++ drop (length vs) values) r 0 ≡ getD values r 0 = past vs _ 0 r (omega arith) ∙ getD-drop (length vs) values (r - length vs) 0 ∙ rw e in
-          let b : getD (map some vs ++ drop (length vs) (registersFrom present values 0 registerCount)) r none ≡ getD (registersFrom present values 0 registerCount) r none =
+          let a : getD (vs ++ drop (length vs) values) r 0 ≡ getD values r 0 = past vs _ 0 r (omega arith)
+          ∙ getD-drop (length vs) values (r - length vs) 0 ∙ rw e in
+          let b : getD (map some vs ++ drop (length vs) (registersFrom present values 0 registerCount)) r none ≡ getD
+          (registersFrom present values 0 registerCount) r none =
           past-some vs _ r (omega arith) ∙ getD-drop (length vs) _ (r - length vs) none ∙ rw e in
           rw (has-or-high present (length vs) r (omega arith), a) (sym (b ∙ register-at present values 0 registerCount r k ∙ rw zero-add))
 
@@ -128,7 +159,8 @@ module _ (present : ℕ) (values vs : List ℕ) (sized : length values ≡ regis
       go (yes h) = rw (has-or-low present (length vs) r h)
       go (no h) =
           let e : length vs + (r - length vs) ≡ r = omega arith in
-          let a : getD (vs ++ drop (length vs) values) r 0 ≡ getD values r 0 = past vs _ 0 r (omega arith) ∙ getD-drop (length vs) values (r - length vs) 0 ∙ rw e in
+          let a : getD (vs ++ drop (length vs) values) r 0 ≡ getD values r 0 = past vs _ 0 r (omega arith)
+          ∙ getD-drop (length vs) values (r - length vs) 0 ∙ rw e in
           rw (has-or-high present (length vs) r (omega arith), a) (z r k)
 
   pub overlaid-tidy : TidyRegisters present values → TidyRegisters (bitOr present (2 ^ length vs - 1)) (vs ++ drop (length vs) values)
@@ -145,5 +177,6 @@ unfolding registersFrom
 none-registers values r zero = refl
 none-registers values r (suc n) = rw (has-none r, none-registers values (suc r) n)
 
-pub none-tidy : (values : List ℕ) → length values ≡ registerCount → ((r : ℕ) → r < registerCount → getD values r 0 ≡ 0) → TidyRegisters 0 values
+pub none-tidy : (values : List ℕ) → length values ≡ registerCount → ((r : ℕ) → r < registerCount → getD values r 0 ≡ 0)
+    → TidyRegisters 0 values
 none-tidy values n z = record { sized = n; within = omega arith; absent = λ r h. rw (z r h, has-none r) }

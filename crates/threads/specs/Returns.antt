@@ -48,8 +48,14 @@ module _ (depth : ℕ) (returns : List ℕ) (z : TidyReturns depth returns) wher
     pub pushed-tidy : TidyReturns (depth + 1) (set returns depth l)
     pushed-tidy =
         let n : returnCount - depth ≡ suc (returnCount - (depth + 1)) = omega arith in
-        let e : getD returns depth 0 ∷ drop (suc depth) returns ≡ 0 ∷ replicate (returnCount - (depth + 1)) 0 = sym (drop-cons returns depth 0 (omega (arith, z .sized))) ∙ z .unused ∙ rw n in
-        record { sized = length-set returns depth l ∙ z .sized; within = omega arith; unused = drop-set-lt (depth + 1) returns depth l (omega arith) ∙ ap (λ k. drop k returns) (add-one depth) ∙ ap (drop 1) e }
+        let e : getD returns depth 0 ∷ drop (suc depth) returns ≡ 0 ∷ replicate (returnCount - (depth + 1)) 0 = sym
+        (drop-cons returns depth 0 (omega (arith, z .sized))) ∙ z .unused ∙ rw n in
+        record {
+          sized = length-set returns depth l ∙ z .sized;
+          within = omega arith;
+          unused = drop-set-lt (depth + 1) returns depth l
+              (omega arith) ∙ ap (λ k. drop k returns) (add-one depth) ∙ ap (drop 1) e;
+        }
 
   -- the newest goes
   module _ (h : 0 < depth) where
@@ -72,4 +78,9 @@ module _ (depth : ℕ) (returns : List ℕ) (z : TidyReturns depth returns) wher
         let m : suc (depth - 1) ≡ depth = omega arith in
         let g : getD r (depth - 1) 0 ≡ 0 = getD-set-same returns (depth - 1) 0 0 (omega (arith, z .sized, z .within)) in
         let d : drop depth r ≡ replicate (returnCount - depth) 0 = drop-set-lt depth returns (depth - 1) 0 (omega arith) ∙ z .unused in
-        record { sized = s; within = omega (arith, z .within); unused = drop-cons r (depth - 1) 0 (omega (arith, z .within)) ∙ rw (g, m, d, n) }
+        record {
+          sized = s;
+          within = omega (arith, z .within);
+          unused = drop-cons r (depth - 1) 0 (omega (arith, z .within))
+              ∙ rw (g, m, d, n);
+        }

@@ -63,13 +63,30 @@ pub record Runs (w : ThreadState) (locks : ℕ) (j : Job) : Type 0 where
 
 -- a thread with nothing to do
 abbrev pub idleThread : ThreadState
-idleThread = record { present = 0; label = label idleLabel; locks = 0; depth = 0; returns = replicate returnCount 0; registers = replicate registerCount 0 }
+idleThread = record {
+  present = 0;
+  label = label idleLabel;
+  locks = 0;
+  depth = 0;
+  returns = replicate returnCount 0;
+  registers = replicate
+      registerCount 0;
+}
 
 pub idle-thread : Idle idleThread
 unfolding stateOf
-idle-thread = record { state = refl; tidy = record { returns = no-returns; registers = none-tidy _ refl (λ r h. getD-replicate {A = ℕ} registerCount r 0 0 h); nothing = λ e. (refl, refl, refl) } }
+idle-thread = record {
+  state = refl;
+  tidy = record {
+    returns = no-returns;
+    registers = none-tidy _ refl
+        (λ r h. getD-replicate {A = ℕ} registerCount r 0 0 h);
+    nothing = λ e. (refl, refl, refl);
+  };
+}
 
-pub running-thread : (w : ThreadState) (locks : ℕ) (j : Job) → w .label .0 < idleLabel → TidyReturns (w .depth) (w .returns) → TidyRegisters (w .present) (w .registers)
+pub running-thread : (w : ThreadState) (locks : ℕ) (j : Job) → w .label .0 < idleLabel → TidyReturns (w .depth) (w .returns)
+    → TidyRegisters (w .present) (w .registers)
     → w .locks ≡ locks → jobOf w ≡ j → Runs w locks j
 unfolding stateOf
 running-thread w locks j h returns registers e f = record {
@@ -79,7 +96,14 @@ running-thread w locks j h returns registers e f = record {
 
 -- a running thread with other return labels
 pub tidy-with : (w : ThreadState) (depth : ℕ) (returns : List ℕ) → Running w → TidyReturns depth returns
-    → Tidy (record { label = w .label; locks = w .locks; depth = depth; returns = returns; present = w .present; registers = w .registers })
+    → Tidy (record {
+      label = w .label;
+      locks = w .locks;
+      depth = depth;
+      returns = returns;
+      present = w .present;
+      registers = w .registers;
+    })
 tidy-with w depth returns h z = record { returns = z; registers = h .tidy .registers; nothing = λ q. absurd (omega (arith, h .label)) }
 
 pub runs-as : {w : ThreadState} {locks locks′ : ℕ} {j j′ : Job} → Runs w locks j → locks ≡ locks′ → j ≡ j′ → Runs w locks′ j′
@@ -97,11 +121,13 @@ runs-says w e = rw e refl
 -- the fields of a thread that runs a job
 pub runs-fields : {w : ThreadState} {locks : ℕ} {j : Job} → Runs w locks j → (w .locks ≡ locks) × (jobOf w ≡ j)
 runs-fields {w} {locks} {j} h =
-    let e : running (w .locks) (jobOf w) ≡ running locks j = sym (runs-says w (ne-eqb (w .label .0) idleLabel (λ q. omega (arith, h .running .label)))) ∙ h .state in
+    let e : running (w .locks) (jobOf w) ≡ running locks j = sym (runs-says w
+    (ne-eqb (w .label .0) idleLabel (λ q. omega (arith, h .running .label)))) ∙ h .state in
     (cc, cc)
 
 -- a change of locks and job after another
-pub runs-then : {x y : ThreadState} {locks : ℕ} {j : Job} (L : ℕ → ℕ) (F : Job → Job) → Runs x locks j → Runs y (L (x .locks)) (F (jobOf x)) → Runs y (L locks) (F j)
+pub runs-then : {x y : ThreadState} {locks : ℕ} {j : Job} (L : ℕ → ℕ) (F : Job → Job) → Runs x locks j
+    → Runs y (L (x .locks)) (F (jobOf x)) → Runs y (L locks) (F j)
 runs-then L F m n = runs-as n (ap L (runs-fields m .0)) (ap F (runs-fields m .1))
 
 -- an idle thread holds no lock, and has no return label and no register
@@ -131,14 +157,24 @@ filled w vs = record {
   registers = vs ++ replicate (registerCount - length vs) 0;
 }
 
-pub filled-runs : (w : ThreadState) (vs : List ℕ) → w .label .0 < idleLabel → TidyReturns (w .depth) (w .returns) → length vs ≤ registerCount
+pub filled-runs : (w : ThreadState) (vs : List ℕ) → w .label .0 < idleLabel → TidyReturns (w .depth) (w .returns)
+    → length vs ≤ registerCount
     → Runs (filled w vs) (w .locks) (job (w .label .0) (returnsOf w) (fill vs))
 unfolding filled
-filled-runs w vs h z few = running-thread _ _ _ h z (filled-tidy vs few) refl (ap (λ l. job (w .label .0) (returnsOf w) l) (filled-registers vs few))
+filled-runs w vs h z few = running-thread _ _ _ h z (filled-tidy vs few) refl
+    (ap (λ l. job (w .label .0) (returnsOf w) l) (filled-registers vs few))
 
 -- registers 0 to n - 1 have the first n values, the others stay
-pub transferred-runs : (w : ThreadState) (l n : ℕ) (values : List ℕ) → Running w → l < idleLabel → n ≤ registerCount → length values ≡ registerCount → drop n values ≡ drop n (w .registers)
-    → Runs (record { present = bitOr (w .present) (2 ^ n - 1); label = label l; locks = w .locks; depth = w .depth; returns = w .returns; registers = values }) (w .locks)
+pub transferred-runs : (w : ThreadState) (l n : ℕ) (values : List ℕ) → Running w → l < idleLabel → n ≤ registerCount
+    → length values ≡ registerCount → drop n values ≡ drop n (w .registers)
+    → Runs (record {
+      present = bitOr (w .present) (2 ^ n - 1);
+      label = label l;
+      locks = w .locks;
+      depth = w .depth;
+      returns = w .returns;
+      registers = values;
+    }) (w .locks)
     (job l (returnsOf w) (map some (take n values) ++ drop n (registersOf w)))
 transferred-runs w l n values h b few sized same =
     let z = h .tidy .registers in
@@ -146,7 +182,9 @@ transferred-runs w l n values h b few sized same =
     let c : length (take n values) ≡ n = length-take-le n values (omega arith) in
     let f : length (take n values) ≤ registerCount = omega arith in
     let e : take n values ++ drop n (w .registers) ≡ values = rw (← same) (take-append-drop n values) in
-    let t : TidyRegisters (bitOr (w .present) (2 ^ n - 1)) (take n values ++ drop n (w .registers)) = rw c at (overlaid-tidy (w .present) (w .registers) vs (z .sized) f z) in
-    let r : registersFrom (bitOr (w .present) (2 ^ n - 1)) (take n values ++ drop n (w .registers)) 0 registerCount ≡ map some (take n values) ++ drop n (registersOf w) =
+    let t : TidyRegisters (bitOr (w .present) (2 ^ n - 1)) (take n values ++ drop n (w .registers)) = rw c at
+    (overlaid-tidy (w .present) (w .registers) vs (z .sized) f z) in
+    let r : registersFrom (bitOr (w .present) (2 ^ n - 1)) (take n values ++ drop n (w .registers)) 0 registerCount ≡ map some
+    (take n values) ++ drop n (registersOf w) =
     rw c at (overlaid-registers (w .present) (w .registers) vs (z .sized) f) in
     running-thread _ _ _ b (h .tidy .returns) (rw e at t) refl (ap (λ q. job l (returnsOf w) q) (rw e at r))

@@ -40,7 +40,8 @@ module _ {b : List ℕ} (k : Canon b) (i : ℕ) (h : i < length (machineFrom b .
   module _ (some : 0 < length (pendingAt (machineFrom b) i)) where
     pub label-read : num16 (drop (at + 2) b) ≡ getD (pendingAt (machineFrom b) i) 0 noSignal .label
     unfolding signalFrom
-    label-read = ap (λ (g : Signal). g .label) (signal-is (machineFrom b) i (k .same) (k .sized .trees) h at ea (k .sized .eachTree) 0 some)
+    label-read = ap (λ (g : Signal). g .label) (signal-is (machineFrom b) i (k .same) (k .sized .trees) h at ea (k .sized .eachTree) 0
+        some)
 
     pub oldest-read : {r : Value.Signal} → r ≡ signalRead (drop (at + 2) b)
         → (signalOf r ≡ getD (pendingAt (machineFrom b) i) 0 noSignal) × TidySignal r

@@ -53,7 +53,11 @@ distinct-count p n (x ∷ l) d h =
     let e : count p n ≡ suc (count (without x p) n) = count-without x p n (k .0) (k .1) in
     let i : length l ≤ count (without x p) n =
     distinct-count (without x p) n l (d .1)
-    (λ y m. (h y (List·Memᴰ·tail m) .0, without-other x p y (λ q. d .0 (subst (λ (z : ℕ). List·Memᴰ z l) q m)) ∙ h y (List·Memᴰ·tail m) .1))
+    (λ y m. (
+      h y (List·Memᴰ·tail m) .0,
+      without-other x p y (λ q. d .0 (subst (λ (z : ℕ). List·Memᴰ z l) q m))
+          ∙ h y (List·Memᴰ·tail m) .1,
+    ))
     in
     omega arith
 

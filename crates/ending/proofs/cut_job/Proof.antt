@@ -20,8 +20,12 @@ returns c =
 
 finish-requires : tie.Need-finish-requires
 finish-requires c κs =
-    let s = c .before .before .before .before .before .before in
-    (s .pre .0, s .pre .1, busy (s .pre .0) (s .args .t .0) (s .args .w) (s .pre .1) (s .pre .2) (sym (c .before .before .is-idle .ensures) ∙ c .before .if1 .left))
+    let s = c .before .before .before .before .before .before in (
+      s .pre .0,
+      s .pre .1,
+      busy (s .pre .0) (s .args .t .0) (s .args .w) (s .pre .1) (s .pre .2)
+          (sym (c .before .before .is-idle .ensures) ∙ c .before .if1 .left),
+    )
 
 returns-2 : tie.Need-returns-2
 returns-2 c =
@@ -29,8 +33,10 @@ returns-2 c =
     let a = s .args in
     let m = machineFrom (a .state .now) in
     let R = rulesBy (a .image .now) (a .table .now) in
-    let e = runs-job (s .pre .0) (a .t .0) (a .w) (s .pre .1) (s .pre .2) (sym (c .before .before .before .before .before .is-idle .ensures) ∙ c .before .before .before .before .if1 .left) in
-    done (finished R (a .t .0) m) WasCut (cut-running R m (a .t .0) (a .w .locks) (jobOf (a .w)) e) refl (c .before .before .finish .ensures)
+    let e = runs-job (s .pre .0) (a .t .0) (a .w) (s .pre .1) (s .pre .2)
+    (sym (c .before .before .before .before .before .is-idle .ensures) ∙ c .before .before .before .before .if1 .left) in
+    done (finished R (a .t .0) m) WasCut (cut-running R m (a .t .0) (a .w .locks) (jobOf (a .w)) e) refl
+    (c .before .before .finish .ensures)
 
 pub cut-job-spec : {M : Type 1} → statement M
 cut-job-spec = tie.close (tie.spec (λ c κs. search needs) returns finish-requires (λ c. search needs) returns-2)

@@ -15,7 +15,8 @@ pending-requires c κs = (c .before .before .before .pre .0 .canonical, c .befor
 returns : tie.Need-returns
 returns c =
     let s = c .before .before .before .before .before .before in
-    home-none (s .args .image .now) (s .args .table .now) (pendingAt (machineFrom (s .args .state .now)) (s .args .i)) (c .thread-of .result .0) (sym (c .before .before .pending .ensures) ∙ c .before .if1 .taken)
+    home-none (s .args .image .now) (s .args .table .now) (pendingAt (machineFrom (s .args .state .now)) (s .args .i))
+    (c .thread-of .result .0) (sym (c .before .before .pending .ensures) ∙ c .before .if1 .taken)
 
 oldest-label-requires : tie.Need-oldest-label-requires
 oldest-label-requires c κs =
@@ -43,4 +44,5 @@ returns-2 c =
     (rw (c .thread-at .ensures, c .before .block-at .ensures, c .before .before .oldest-label .ensures) refl)
 
 pub home-spec : {M : Type 1} → statement M
-home-spec = tie.close (tie.spec pending-requires (λ c κs. search needs) returns oldest-label-requires block-at-requires thread-at-requires returns-2)
+home-spec = tie.close (tie.spec pending-requires (λ c κs. search needs) returns oldest-label-requires block-at-requires thread-at-requires
+    returns-2)

@@ -23,7 +23,8 @@ returns c =
     let h = s .pre .0 in
     let m = machineFrom (a .state .now) in
     done (finished (rulesBy (a .image .now) (a .table .now)) (a .t .0) m) Exited
-    (leaves (a .image .now) (a .table .now) m (a .t .0) (a .w .locks) (jobOf (a .w)) (tree h .0) (h .runs) (tree h .1) (statement-here h Exit (s .pre .1)))
+    (leaves (a .image .now) (a .table .now) m (a .t .0) (a .w .locks) (jobOf (a .w)) (tree h .0) (h .runs) (tree h .1)
+    (statement-here h Exit (s .pre .1)))
     refl
     (c .before .before .finish .ensures)
 

@@ -16,7 +16,8 @@ use Rattle.operands.proofs.read_data.Statement.{statement}
 use Rattle.operands.proofs.read_data.Tie as tie
 
 abbrev Inv-loop : tie.InvT-loop
-Inv-loop state w r values₀ block registers n k₀ values k = (length values ≡ operandCount) × ReadSoFar (cellsOf state w r) r n k values × Unstored k values₀ values
+Inv-loop state w r values₀ block registers n k₀ values k = (length values ≡ operandCount) × ReadSoFar (cellsOf state w r) r n k values ×
+    Unstored k values₀ values
 
 abbrev μ-loop : tie.MeasureT-loop
 μ-loop state w r values₀ block registers n k₀ values k = n - k
@@ -29,35 +30,71 @@ operand-count-requires c κs = c .before .before .before .before .pre .1 .long
 
 loop-holds : tie.Need-loop-holds Inv-loop μ-loop
 loop-holds c =
-    let a = c .before .before .before .before .before .before .args in
-    (c .before .before .before .before .before .before .pre .2, reads-none (cellsOf (a .state .now) (a .w) (a .r .now)) (a .r .now) (c .wide .result) (a .values .now), refl)
+    let a = c .before .before .before .before .before .before .args in (
+      c .before .before .before .before .before .before .pre .2,
+      reads-none (cellsOf (a .state .now) (a .w) (a .r .now)) (a .r .now)
+          (c .wide .result) (a .values .now),
+      refl,
+    )
 
 operand-at-requires : tie.Need-operand-at-requires Inv-loop μ-loop
-operand-at-requires c κs = omega (arith, c .before .before .before .wide .ensures .0, c .before .before .before .before .operand-count .ensures, c .before .before .before .before .before .before .before .before .before .pre .1 .few, c .before .before .before .before .before .before .before .before .before .pre .1 .long)
+operand-at-requires c κs = omega (
+  arith,
+  c .before .before .before .wide .ensures .0,
+  c .before .before .before .before .operand-count
+      .ensures,
+  c .before .before .before .before .before .before .before .before .before .pre .1 .few,
+  c .before .before .before .before
+      .before .before .before .before .before .pre .1 .long,
+)
 
 read-operand-requires : tie.Need-read-operand-requires Inv-loop μ-loop
 read-operand-requires c κs =
     let s = c .before .before .before .before .before .before .before .before .before .before in
     let k = c .before .before .before .loop .k in
-    let n = c .before .before .before .before .wide .ensures .0 ∙ c .before .before .before .before .before .operand-count .ensures in
-    (s .pre .0, rw (c .before .before .before .before .before .before .before .block-field .ensures) (s .pre .1 .block), rw (c .operand-at .ensures) (slot-fits (s .args .r .now) (s .pre .1 .slots) k (omega (arith, n)) (omega (arith, n, s .pre .1 .few))))
+    let n = c .before .before .before .before .wide .ensures .0 ∙ c .before .before .before .before .before .operand-count .ensures in (
+      s .pre .0,
+      rw (c .before .before .before .before .before .before .before .block-field .ensures) (s .pre .1 .block),
+      rw
+          (c .operand-at .ensures) (slot-fits (s .args .r .now) (s .pre .1 .slots) k (omega (arith, n))
+          (omega (arith, n, s .pre .1 .few))),
+    )
 
 element-write-values : tie.Need-element-write-values Inv-loop μ-loop
-element-write-values c = omega (arith, c .before .before .before .before .before .before .before .before .wide .ensures .0, c .before .before .before .before .before .before .before .before .before .operand-count .ensures, c .before .before .before .before .before .before .before .before .before .before .before .before .before .before .pre .1 .few)
+element-write-values c = omega (
+  arith,
+  c .before .before .before .before .before .before .before .before .wide .ensures .0,
+  c .before
+      .before .before .before .before .before .before .before .before .operand-count .ensures,
+  c .before .before .before .before .before
+      .before .before .before .before .before .before .before .before .before .pre .1 .few,
+)
 
 returns : tie.Need-returns Inv-loop μ-loop
 returns c =
     let s = c .before .before .before .before .before .before .before .before .before .before .before .before .before .before in
     let a = s .args in
     let l = c .before .before .before .before .before .before .before .loop in
-    let n : c .before .before .before .before .before .before .before .before .wide .result ≡ operands (a .r .now) = c .before .before .before .before .before .before .before .before .wide .ensures .0 ∙ c .before .before .before .before .before .before .before .before .before .operand-count .ensures in
+    let n : c .before .before .before .before .before .before .before .before .wide .result ≡ operands (a .r .now) = c .before .before
+    .before .before .before .before .before .before .wide .ensures .0
+    ∙ c .before .before .before .before .before .before .before .before .before .operand-count .ensures in
     let cells : Cells = cellsOf (a .state .now) (a .w) (a .r .now) in
     let x : ℕ = c .before .reason .given .0 .0 in
-    let f : read cells (c .before .before .before .before .operand-at .result) ≡ trap x = reading-trap _ x (sym (rw (c .before .before .before .before .before .before .before .before .before .before .before .block-field .ensures) at (c .before .before .before .read-operand .ensures)) ∙ c .before .reason .given .1) in
+    let f : read cells (c .before .before .before .before .operand-at .result) ≡ trap x = reading-trap _ x
+    (sym (rw (c .before .before .before .before .before .before .before .before .before .before .before .block-field .ensures) at
+    (c .before .before .before .read-operand .ensures)) ∙ c .before .reason .given .1) in
     let e : read cells (operandAt (a .r .now) (l .k)) ≡ trap x = rw (c .before .before .before .before .operand-at .ensures) at f in
     let one : x ≡ absentRegisterCode = read-reason cells (operandAt (a .r .now) (l .k)) x e in
-    let all = reads-trap cells (a .r .now) (c .before .before .before .before .before .before .before .before .wide .result) (l .k) (l .values) (l .inv .1) (omega arith) x e in
-    record { few = s .pre .1 .few; values = λ z. absurd (omega arith); trapped = λ z. rw n at all; sized = l .inv .0; rest = λ z. absurd (omega arith) }
+    let all = reads-trap cells (a .r .now) (c .before .before .before .before .before .before .before .before .wide .result) (l .k)
+    (l .values) (l .inv .1) (omega arith) x e in
+    record {
+      few = s .pre .1 .few;
+      values = λ z. absurd (omega arith);
+      trapped = λ z. rw n at all;
+      sized = l .inv .0;
+      rest = λ z. absurd
+          (omega arith);
+    }
 
 loop-again : tie.Need-loop-again Inv-loop μ-loop
 loop-again c =
@@ -65,23 +102,43 @@ loop-again c =
     let a = s .args in
     let l = c .before .before .before .before .before .before .before .loop in
     let n = c .before .before .before .before .before .before .before .before .wide .result in
-    let few : n ≤ operandCount = omega (arith, c .before .before .before .before .before .before .before .before .wide .ensures .0, c .before .before .before .before .before .before .before .before .before .operand-count .ensures, s .pre .1 .few) in
+    let few : n ≤ operandCount = omega (
+      arith,
+      c .before .before .before .before .before .before .before .before .wide .ensures .0,
+      c
+          .before .before .before .before .before .before .before .before .before .operand-count .ensures,
+      s .pre .1 .few,
+    ) in
     let cells : Cells = cellsOf (a .state .now) (a .w) (a .r .now) in
     let v : ℕ = c .before .v .given .0 .0 in
-    let f : read cells (c .before .before .before .before .operand-at .result) ≡ got v = reading-value _ v (sym (rw (c .before .before .before .before .before .before .before .before .before .before .before .block-field .ensures) at (c .before .before .before .read-operand .ensures)) ∙ c .before .v .given .1) in
+    let f : read cells (c .before .before .before .before .operand-at .result) ≡ got v = reading-value _ v
+    (sym (rw (c .before .before .before .before .before .before .before .before .before .before .before .block-field .ensures) at
+    (c .before .before .before .read-operand .ensures)) ∙ c .before .v .given .1) in
     let e : read cells (operandAt (a .r .now) (l .k)) ≡ got v = rw (c .before .before .before .before .operand-at .ensures) at f in
-    let h : l .k < length (l .values) = omega (arith, l .inv .0) in
-    (length-set (l .values) (l .k) v ∙ l .inv .0, reads-more cells (a .r .now) n (l .k) (l .values) (l .inv .1) (omega arith) v e h, stored-more (l .k) v (a .values .now) (l .values) (l .inv .2))
+    let h : l .k < length (l .values) = omega (arith, l .inv .0) in (
+      length-set (l .values) (l .k) v ∙ l .inv .0,
+      reads-more cells (a .r .now) n (l .k) (l .values) (l .inv .1) (omega arith) v e h,
+      stored-more (l .k) v (a .values .now) (l .values) (l .inv .2),
+    )
 
 returns-2 : tie.Need-returns-2 Inv-loop μ-loop
 returns-2 c =
     let s = c .before .before .before .before .before .before .before .before in
     let a = s .args in
     let l = c .before .loop in
-    let n : c .before .before .wide .result ≡ operands (a .r .now) = c .before .before .wide .ensures .0 ∙ c .before .before .before .operand-count .ensures in
-    let all = reads-all (cellsOf (a .state .now) (a .w) (a .r .now)) (a .r .now) (c .before .before .wide .result) (l .k) (l .values) (l .inv .1) (omega arith) in
+    let n : c .before .before .wide .result ≡ operands (a .r .now) = c .before .before .wide .ensures .0
+    ∙ c .before .before .before .operand-count .ensures in
+    let all = reads-all (cellsOf (a .state .now) (a .w) (a .r .now)) (a .r .now) (c .before .before .wide .result) (l .k) (l .values)
+    (l .inv .1) (omega arith) in
     let e : l .k ≡ operands (a .r .now) = omega (arith, l .inv .1 .0) in
-    record { few = s .pre .1 .few; values = λ z. rw n at all; trapped = λ z. absurd (z refl); sized = l .inv .0; rest = λ z. rw e at (l .inv .2) }
+    record {
+      few = s .pre .1 .few;
+      values = λ z. rw n at all;
+      trapped = λ z. absurd (z refl);
+      sized = l .inv .0;
+      rest = λ z. rw e at
+          (l .inv .2);
+    }
 
 pub read-data-spec : {M : Type 1} → statement M
 read-data-spec =

@@ -16,11 +16,17 @@ shr-if1 c =
 
 element-copy-out-t19 : tie.Need-element-copy-out-t19
 element-copy-out-t19 c =
-    let h : c .before .before .p2 .given .0 .0 < registerCount = rw (c .before .before .p2 .given .1) at (c .before .before .before .before .before .pre .2) in
+    let h : c .before .before .p2 .given .0 .0 < registerCount = rw (c .before .before .p2 .given .1) at
+    (c .before .before .before .before .before .pre .2) in
     omega arith
 
 read-word-requires : tie.Need-read-word-requires
-read-word-requires c κs = (c .before .before .before .before .pre .0, c .before .before .before .before .pre .1, rw (c .before .p3 .given .1) at (c .before .before .before .before .pre .2))
+read-word-requires c κs = (
+  c .before .before .before .before .pre .0,
+  c .before .before .before .before .pre .1,
+  rw
+      (c .before .p3 .given .1) at (c .before .before .before .before .pre .2),
+)
 
 returns : tie.Need-returns
 returns c = rw (c .before .p .given .1)
@@ -31,7 +37,11 @@ returns-2 c =
     let a = s .args in
     let r = c .before .before .before .p2 .given in
     let h : r .0 .0 < registerCount = rw (r .1) at (s .pre .2) in
-    rw (r .1, register-read (a .state .now) (a .block .0) (a .present) (a .registers .now) (r .0 .0) h (eq-eqb _ _ (c .before .if1 .taken)))
+    rw (
+      r .1,
+      register-read (a .state .now) (a .block .0) (a .present) (a .registers .now) (r .0 .0) h
+          (eq-eqb _ _ (c .before .if1 .taken)),
+    )
 
 returns-3 : tie.Need-returns-3
 returns-3 c =

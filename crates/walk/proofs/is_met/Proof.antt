@@ -36,8 +36,11 @@ loop-again c =
     let t = c .before .before .before .before .thread-number in
     let s = c .before .before .before .before .before .before in
     let a = s .args in
-    let e : eqb (getD (a .met .now) (l .k) 0) (t .result) ≡ false = ne-eqb _ _ (c .if1 .left) in
-    (omega arith, l .inv .1 ∙ among-step (a .met .now) (t .result) (a .n) (l .k) (c .before .before .loop-test .taken) (s .pre) ∙ rw e refl)
+    let e : eqb (getD (a .met .now) (l .k) 0) (t .result) ≡ false = ne-eqb _ _ (c .if1 .left) in (
+      omega arith,
+      l .inv .1 ∙ among-step (a .met .now) (t .result) (a .n) (l .k) (c .before .before .loop-test .taken) (s .pre)
+          ∙ rw e refl,
+    )
 
 returns-2 : tie.Need-returns-2 Inv-loop μ-loop
 returns-2 c =

@@ -64,7 +64,11 @@ lock-at-requires c κs = (
 )
 
 held-by-other-requires : tie.Need-held-by-other-requires
-held-by-other-requires c κs = (c .before .before .before .before .before .before .before .before .before .pre .0 .canonical, found c .small)
+held-by-other-requires c κs = (
+  c .before .before .before .before .before .before .before .before .before .pre .0 .canonical,
+  found c
+      .small,
+)
 
 returns-2 : tie.Need-returns-2
 returns-2 c = (

@@ -5,7 +5,8 @@ use Rattle.fields.proofs.write.put32.Statement.{statement}
 use Rattle.fields.proofs.write.put32.Tie as tie
 
 returns : tie.Need-returns
-returns c = put-then _ _ _ _ _ (c .before .before .before .before .before .before .put16 .ensures) (c .before .before .put162 .ensures) refl
+returns c = put-then _ _ _ _ _ (c .before .before .before .before .before .before .put16 .ensures) (c .before .before .put162 .ensures)
+    refl
 
 pub put32-spec : {M : Type 1} → statement M
 put32-spec =

@@ -5,14 +5,31 @@ use Rattle.image.proofs.decode.assignment_of.Statement.{statement}
 use Rattle.image.proofs.decode.assignment_of.Tie as tie
 
 operand-at-requires-2 : tie.Need-operand-at-requires-2
-operand-at-requires-2 c κs = (c .before .before .before .before .before .pre, omega (arith, c .before .before .destinations-of .ensures .0))
+operand-at-requires-2 c κs = (
+  c .before .before .before .before .before .pre,
+  omega
+      (arith, c .before .before .destinations-of .ensures .0),
+)
 
 optional-at-requires-2 : tie.Need-optional-at-requires-2
-optional-at-requires-2 c κs = (c .before .before .before .before .before .before .pre, omega (arith, c .before .before .before .destinations-of .ensures .0))
+optional-at-requires-2 c κs = (
+  c .before .before .before .before .before .before .pre,
+  omega
+      (arith, c .before .before .before .destinations-of .ensures .0),
+)
 
 returns : tie.Need-returns
 unfolding assignmentBy
-returns c = simp (c .optional-at2 .ensures, c .before .operand-at2 .ensures, c .before .before .optional-at .ensures, c .before .before .before .operand-at .ensures, c .before .before .before .before .destinations-of .ensures .1, c .before .before .before .before .before .shape-of .ensures)
+returns c = simp (
+  c .optional-at2 .ensures,
+  c .before .operand-at2 .ensures,
+  c .before .before .optional-at .ensures,
+  c .before .before
+      .before .operand-at .ensures,
+  c .before .before .before .before .destinations-of .ensures .1,
+  c .before .before .before .before .before
+      .shape-of .ensures,
+)
 
 pub assignment-of-spec : {M : Type 1} → statement M
 assignment-of-spec =

@@ -9,7 +9,8 @@ use Rattle.image.proofs.record_fields.block_field.Statement.{statement}
 use Rattle.image.proofs.record_fields.block_field.Tie as tie
 
 returns : tie.Need-returns
-returns c = c .block-of .ensures ∙ ap (λ (n : ℕ). block n) (getD-any (c .before .before .before .args .r .now) blockPlace 0 blockCount (omega arith))
+returns c = c .block-of .ensures ∙ ap (λ (n : ℕ). block n) (getD-any (c .before .before .before .args .r .now) blockPlace 0 blockCount
+    (omega arith))
 
 pub block-field-spec : {M : Type 1} → statement M
 block-field-spec = tie.close (tie.spec (λ c. search needs) (λ c κs. search needs) returns)

@@ -11,17 +11,28 @@ mul-from : tie.Need-mul-from
 mul-from c = let s = c .before .before in omega (arith, c .index-of .ensures, record-fits (s .args .image .now) (s .args .at .0) (s .pre))
 
 add-result : tie.Need-add-result
-add-result c = let s = c .before .before in omega (arith, c .index-of .ensures, record-fits (s .args .image .now) (s .args .at .0) (s .pre))
+add-result c = let s = c .before .before in omega (
+  arith,
+  c .index-of .ensures,
+  record-fits (s .args .image .now) (s .args .at .0)
+      (s .pre),
+)
 
 part-result-end : tie.Need-part-result-end
-part-result-end c = let s = c .before .before in omega (arith, c .index-of .ensures, record-fits (s .args .image .now) (s .args .at .0) (s .pre))
+part-result-end c = let s = c .before .before in omega (
+  arith,
+  c .index-of .ensures,
+  record-fits (s .args .image .now) (s .args .at .0)
+      (s .pre),
+)
 
 returns : tie.Need-returns
 returns c =
     let s = c .before .before .before in
     let a = s .args in
     let e : recordSize * a .at .0 + recordSize - recordSize * a .at .0 ≡ recordSize = omega arith in
-    rw (c .before .index-of .ensures, e, ← record-part (a .image .now) (a .at .0) (s .pre)) (refl, length-record (a .image .now) (a .at .0) (s .pre))
+    rw (c .before .index-of .ensures, e, ← record-part (a .image .now) (a .at .0) (s .pre))
+    (refl, length-record (a .image .now) (a .at .0) (s .pre))
 
 pub record-of-spec : {M : Type 1} → statement M
 record-of-spec =

@@ -9,7 +9,12 @@ use Rattle.image.proofs.table.field_ok.Tie as tie
 returns : tie.Need-returns
 returns c =
     let a = c .before .before .before .args in
-    simp (c .wide .ensures .0, c .before .field-at .ensures, getD-any (a .table .now) (rowSize * a .b .0 + a .place) 0 (a .limit) (omega arith))
+    simp (
+      c .wide .ensures .0,
+      c .before .field-at .ensures,
+      getD-any (a .table .now) (rowSize * a .b .0 + a .place) 0 (a .limit)
+          (omega arith),
+    )
 
 pub field-ok-spec : {M : Type 1} → statement M
 field-ok-spec = tie.close (tie.spec (λ c κs. search needs) (λ c κs. search needs) returns)

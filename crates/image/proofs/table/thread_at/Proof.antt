@@ -11,7 +11,12 @@ returns : tie.Need-returns
 unfolding rowAt
 returns c =
     let a = c .before .before .before .args in
-    simp (c .thread-of .ensures, c .before .field-at .ensures, getD-any (a .table .now) (rowSize * a .b .0 + rowThreadPlace) 0 threadCount (omega arith))
+    simp (
+      c .thread-of .ensures,
+      c .before .field-at .ensures,
+      getD-any (a .table .now) (rowSize * a .b .0 + rowThreadPlace) 0 threadCount
+          (omega arith),
+    )
 
 pub thread-at-spec : {M : Type 1} → statement M
 thread-at-spec = tie.close (tie.spec (λ c κs. search needs) (λ c κs. search needs) returns)

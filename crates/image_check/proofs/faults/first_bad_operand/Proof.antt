@@ -48,7 +48,11 @@ returns-2 c =
     let s = c .before .before .before .before .before .before .before .before .before .before .before in
     let l = c .before .before .before .before .before .before .before .before .before .loop in
     let e : c .before .few-ok .result ≡ slotsAt (s .args .image .now) (l .l) =
-    c .before .few-ok .ensures ∙ rw (c .before .before .before .before .before .before .record-of .ensures .0, c .before .before .before .before .before .before .before .label-at .ensures) refl in
+    c .before .few-ok .ensures ∙ rw (
+      c .before .before .before .before .before .before .record-of .ensures .0,
+      c .before .before .before
+          .before .before .before .before .label-at .ensures,
+    ) refl in
     here (slotsAt (s .args .image .now)) (s .args .m) (l .l) (l .inv) _
     (c .before .before .before .before .before .before .before .before .loop-test .taken) e (c .if2 .taken)
 
@@ -57,7 +61,11 @@ loop-again c =
     let s = c .before .before .before .before .before .before .before .before .before .before .before in
     let l = c .before .before .before .before .before .before .before .before .before .loop in
     let e : c .before .few-ok .result ≡ slotsAt (s .args .image .now) (l .l) =
-    c .before .few-ok .ensures ∙ rw (c .before .before .before .before .before .before .record-of .ensures .0, c .before .before .before .before .before .before .before .label-at .ensures) refl in
+    c .before .few-ok .ensures ∙ rw (
+      c .before .before .before .before .before .before .record-of .ensures .0,
+      c .before .before .before
+          .before .before .before .before .label-at .ensures,
+    ) refl in
     next (slotsAt (s .args .image .now)) (s .args .m) (l .l) (l .inv) _
     (c .before .before .before .before .before .before .before .before .loop-test .taken) e (c .if2 .left)
 

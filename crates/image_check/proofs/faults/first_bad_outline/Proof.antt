@@ -31,7 +31,8 @@ returns c =
     let l = c .before .before .before .before .before .loop in
     let e : c .before .outline-ok .result ≡ outlineAt (s .args .image .now) (l .l) = c .before .outline-ok .ensures
     ∙ rw (c .before .before .record-of .ensures .0, c .before .before .before .label-at .ensures) in
-    here (outlineAt (s .args .image .now)) (s .args .n) (l .l) (l .inv) _ (c .before .before .before .before .loop-test .taken) e (c .if1 .taken)
+    here (outlineAt (s .args .image .now)) (s .args .n) (l .l) (l .inv) _ (c .before .before .before .before .loop-test .taken) e
+    (c .if1 .taken)
 
 loop-again : tie.Need-loop-again Inv-loop μ-loop
 loop-again c =
@@ -39,7 +40,8 @@ loop-again c =
     let l = c .before .before .before .before .before .loop in
     let e : c .before .outline-ok .result ≡ outlineAt (s .args .image .now) (l .l) = c .before .outline-ok .ensures
     ∙ rw (c .before .before .record-of .ensures .0, c .before .before .before .label-at .ensures) in
-    next (outlineAt (s .args .image .now)) (s .args .n) (l .l) (l .inv) _ (c .before .before .before .before .loop-test .taken) e (c .if1 .left)
+    next (outlineAt (s .args .image .now)) (s .args .n) (l .l) (l .inv) _ (c .before .before .before .before .loop-test .taken) e
+    (c .if1 .left)
 
 returns-2 : tie.Need-returns-2 Inv-loop μ-loop
 returns-2 c =

@@ -33,15 +33,30 @@ unfolding Marks allFrom
 slots-ok-requires c κs =
     let r = c .before .before .before .before .record-of in
     let few = c .before .before .before .before .before .before .before .before .before .pre .2
-    (c .before .before .before .before .before .before .before .loop .l) (c .before .before .before .before .before .before .loop-test .taken) in
-    (r .ensures .1, c .wide .ensures .0, rw (c .wide .ensures .0, r .ensures .0, c .before .before .before .before .before .label-at .ensures) few, refl, refl)
+    (c .before .before .before .before .before .before .before .loop .l)
+    (c .before .before .before .before .before .before .loop-test .taken) in (
+      r .ensures .1,
+      c .wide .ensures .0,
+      rw (
+        c .wide .ensures .0,
+        r .ensures .0,
+        c .before .before .before .before .before .label-at
+            .ensures,
+      ) few,
+      refl,
+      refl,
+    )
 
 returns : tie.Need-returns Inv-loop μ-loop
 returns c =
     let s = c .before .before .before .before .before .before .before .before .before .before .before in
     let l = c .before .before .before .before .before .before .before .before .before .loop in
     let e : c .before .slots-ok .result ≡ slotsAt (s .args .image .now) (l .l) =
-    c .before .slots-ok .ensures ∙ rw (c .before .before .before .before .before .before .record-of .ensures .0, c .before .before .before .before .before .before .before .label-at .ensures) refl in
+    c .before .slots-ok .ensures ∙ rw (
+      c .before .before .before .before .before .before .record-of .ensures .0,
+      c .before .before .before
+          .before .before .before .before .label-at .ensures,
+    ) refl in
     sym (l .inv .1 ∙ stops (slotsAt (s .args .image .now)) (l .l) (s .args .m)
     (c .before .before .before .before .before .before .before .before .loop-test .taken) (sym e ∙ not-true _ (c .if1 .taken)))
 
@@ -50,7 +65,11 @@ loop-again c =
     let s = c .before .before .before .before .before .before .before .before .before .before .before in
     let l = c .before .before .before .before .before .before .before .before .before .loop in
     let e : c .before .slots-ok .result ≡ slotsAt (s .args .image .now) (l .l) =
-    c .before .slots-ok .ensures ∙ rw (c .before .before .before .before .before .before .record-of .ensures .0, c .before .before .before .before .before .before .before .label-at .ensures) refl in (
+    c .before .slots-ok .ensures ∙ rw (
+      c .before .before .before .before .before .before .record-of .ensures .0,
+      c .before .before .before
+          .before .before .before .before .label-at .ensures,
+    ) refl in (
       omega arith,
       l .inv .1 ∙ goes-on (slotsAt (s .args .image .now)) (l .l) (s .args .m)
           (c .before .before .before .before .before .before .before .before .loop-test .taken) (sym e ∙ not-false _ (c .if1 .left)),

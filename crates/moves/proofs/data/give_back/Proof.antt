@@ -23,7 +23,8 @@ returns-2 c =
     let if1 = c .before .before .before .before .before .before .if1 in
     let read-data = c .before .before .before .before .before .before .before .read-data in
     let s = c .before .before .before .before .before .before .before .before .before .before .before .before .before .before in
-    unreturned (s .pre .0) _ (read-data .ensures .values (if1 .left)) (s .pre .1) (if2 .taken) (trapped2 .ensures .0) (trapped2 .ensures .1)
+    unreturned (s .pre .0) _ (read-data .ensures .values (if1 .left)) (s .pre .1) (if2 .taken) (trapped2 .ensures .0)
+    (trapped2 .ensures .1)
 
 return-to-caller-requires : tie.Need-return-to-caller-requires
 return-to-caller-requires c κs =

@@ -7,11 +7,25 @@ use Rattle.record_check.proofs.rule.assign_ok.Tie as tie
 
 returns : tie.Need-returns
 unfolding assignOk
-returns c = rw (c .before .before .before .before .before .if1 .taken, c .before .get162 .ensures, c .before .before .get16 .ensures, c .before .before .before .before .before .before .before .destinations-of2 .ensures .1, c .before .before .before .before .before .before .before .before .destinations-of .ensures .1, c .before .before .before .before .before .if1 .taken)
+returns c = rw (
+  c .before .before .before .before .before .if1 .taken,
+  c .before .get162 .ensures,
+  c .before .before .get16 .ensures,
+  c
+      .before .before .before .before .before .before .before .destinations-of2 .ensures .1,
+  c .before .before .before .before .before
+      .before .before .before .destinations-of .ensures .1,
+  c .before .before .before .before .before .if1 .taken,
+)
 
 returns-2 : tie.Need-returns-2
 unfolding assignOk
-returns-2 c = rw (c .before .before .destinations-of2 .ensures .1, c .before .before .before .destinations-of .ensures .1, c .if1 .left, and-true)
+returns-2 c = rw (
+  c .before .before .destinations-of2 .ensures .1,
+  c .before .before .before .destinations-of .ensures .1,
+  c .if1 .left,
+  and-true,
+)
 
 pub assign-ok-spec : {M : Type 1} → statement M
 assign-ok-spec =

@@ -21,7 +21,8 @@ returns : tie.Need-returns
 returns c =
     let s = c .before .before .before .before .before .before in
     let found : otherAt (s .args .r .now) ≡ some Skip =
-    ⊎-elim (λ e. other-found (s .args .r .now) skipCode Skip e refl) (λ e. other-found (s .args .r .now) gotoCode Skip e refl) (c .before .match .keys1)
+    ⊎-elim (λ e. other-found (s .args .r .now) skipCode Skip e refl) (λ e. other-found (s .args .r .now) gotoCode Skip e refl)
+    (c .before .match .keys1)
     in
     rw (c .labels-ok .ensures, form-other (s .args .image .now) (s .args .r .now) Skip found, ← s .pre .2)
 
@@ -70,7 +71,13 @@ returns-8 c =
 returns-9 : tie.Need-returns-9
 returns-9 c =
     let no = c .match .rest in
-    rw (no-other _ (λ h. no .0 .0 .0 .0 .0 .0 .0 .1 (inl h), (λ h. no .0 .0 .0 .0 .0 .0 .0 .1 (inr h), (no .0 .0 .0 .0 .0 .0 .1, (no .0 .0 .0 .0 .0 .1, (no .0 .0 .0 .0 .1, (no .0 .0 .0 .1, (no .0 .0 .1, (no .0 .1, (no .1, tt))))))))))
+    rw (no-other _ (
+      λ h. no .0 .0 .0 .0 .0 .0 .0 .1 (inl h),
+      (
+        λ h. no .0 .0 .0 .0 .0 .0 .0 .1 (inr h),
+        (no .0 .0 .0 .0 .0 .0 .1, (no .0 .0 .0 .0 .0 .1, (no .0 .0 .0 .0 .1, (no .0 .0 .0 .1, (no .0 .0 .1, (no .0 .1, (no .1, tt))))))),
+      ),
+    ))
 
 pub other-ok-spec : {M : Type 1} → statement M
 other-ok-spec =

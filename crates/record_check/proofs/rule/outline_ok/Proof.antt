@@ -12,7 +12,12 @@ returns c = sym (too-many _ _ (omega arith))
 
 returns-2 : tie.Need-returns-2
 unfolding outlineOk
-returns-2 c = rw (c .form-ok .ensures, getD-any (c .before .before .before .before .before .before .before .before .before .args .r .now) 1 16 0 (omega arith), c .before .before .wide2 .ensures .0)
+returns-2 c = rw (
+  c .form-ok .ensures,
+  getD-any (c .before .before .before .before .before .before .before .before .before .args .r .now) 1
+      16 0 (omega arith),
+  c .before .before .wide2 .ensures .0,
+)
 
 pub outline-ok-spec : {M : Type 1} → statement M
 outline-ok-spec =

@@ -23,7 +23,12 @@ loop-holds : tie.Need-loop-holds Inv-loop μ-loop
 loop-holds c = begin _ threadCount
 
 passed-requires : tie.Need-passed-requires Inv-loop μ-loop
-passed-requires c κs = (c .before .before .before .before .pre .0 .long, c .before .before .before .before .pre .1, rw (c .thread-of .ensures) (c .before .loop-test .taken))
+passed-requires c κs = (
+  c .before .before .before .before .pre .0 .long,
+  c .before .before .before .before .pre .1,
+  rw
+      (c .thread-of .ensures) (c .before .loop-test .taken),
+)
 
 returns : tie.Need-returns Inv-loop μ-loop
 returns c =
@@ -31,7 +36,8 @@ returns c =
     let l = c .before .before .before .before .loop in
     let e = rw (c .before .before .thread-of .ensures) at (c .before .passed .ensures) in
     let p : l .i ≡ holder (s .args .lock .0) (set (machineFrom (s .args .state .now) .threads) (s .args .out .0) idle) =
-    here _ threadCount _ (l .inv) _ (c .before .before .before .loop-test .taken) e (c .if1 .taken) ∙ holder-found _ _ (s .pre .0) (s .args .lock .0) (s .args .out .0) in
+    here _ threadCount _ (l .inv) _ (c .before .before .before .loop-test .taken) e (c .if1 .taken)
+    ∙ holder-found _ _ (s .pre .0) (s .args .lock .0) (s .args .out .0) in
     ap Held (c .before .before .thread-of .ensures) ∙ holder-held (l .i) (c .before .before .before .loop-test .taken) ∙ ap holderOf p
 
 loop-again : tie.Need-loop-again Inv-loop μ-loop

@@ -13,7 +13,8 @@ returns : tie.Need-returns
 unfolding isHeld
 returns c =
     let s = c .before .before .before .before in
-    let e : isHeld (c .before .before .first-holder .result) ≡ held (s .args .lock .0) (set (machineFrom (s .args .state .now) .threads) (s .args .t .0) idle) =
+    let e : isHeld (c .before .before .first-holder .result) ≡ held (s .args .lock .0)
+    (set (machineFrom (s .args .state .now) .threads) (s .args .t .0) idle) =
     held-found _ _ (s .pre .0) (s .args .lock .0) (s .args .t .0) (c .before .before .first-holder .ensures) in
     rw (c .enum-told .given .1) at e
 
@@ -21,7 +22,8 @@ returns-2 : tie.Need-returns-2
 unfolding isHeld
 returns-2 c =
     let s = c .before .before .before .before in
-    let e : isHeld (c .before .before .first-holder .result) ≡ held (s .args .lock .0) (set (machineFrom (s .args .state .now) .threads) (s .args .t .0) idle) =
+    let e : isHeld (c .before .before .first-holder .result) ≡ held (s .args .lock .0)
+    (set (machineFrom (s .args .state .now) .threads) (s .args .t .0) idle) =
     held-found _ _ (s .pre .0) (s .args .lock .0) (s .args .t .0) (c .before .before .first-holder .ensures) in
     rw (c .enum-told2 .given .1) at e
 

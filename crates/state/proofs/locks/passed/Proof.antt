@@ -17,8 +17,16 @@ returns-2 : tie.Need-returns-2
 unfolding passes
 returns-2 c =
     let a = c .before .before .before .before .before .before .before .args in
-    let e : eqb (a .t .0) (a .out .0) ≡ false = sym (c .before .before .before .before .before .same-thread .ensures) ∙ c .before .before .before .before .if1 .left in
-    rw (e, c .before .get16 .ensures, c .before .before .wide .ensures .0, c .before .before .before .thread-number .ensures, c .lock-number .ensures)
+    let e : eqb (a .t .0) (a .out .0) ≡ false = sym (c .before .before .before .before .before .same-thread .ensures)
+    ∙ c .before .before .before .before .if1 .left in
+    rw (
+      e,
+      c .before .get16 .ensures,
+      c .before .before .wide .ensures .0,
+      c .before .before .before .thread-number .ensures,
+      c
+          .lock-number .ensures,
+    )
 
 pub passed-spec : {M : Type 1} → statement M
 passed-spec =

@@ -12,8 +12,19 @@ returns : tie.Need-returns
 unfolding rawThread
 returns c =
     let s = now (c .before .before .before .before .before .before .before .before .before .before .before .before .before .args .state) in
-    let at = threadPlace (c .before .before .before .before .before .before .before .before .before .before .before .before .before .args .t .0) in
-    cc (c .before .before .before .before .before .before .before .before .before .before .before .record-at .ensures, drop-drop locksPlace at s, drop-drop returnsPlace at s, drop-drop presencePlace at s, drop-drop registersPlace at s, drop-drop returnCountPlace at s, getD-drop (at + returnCountPlace) s 0 0, add-zero (at + returnCountPlace))
+    let at = threadPlace (c .before .before .before .before .before .before .before .before .before .before .before .before .before .args
+    .t .0) in
+    cc (
+      c .before .before .before .before .before .before .before .before .before .before .before .record-at .ensures,
+      drop-drop locksPlace
+          at s,
+      drop-drop returnsPlace at s,
+      drop-drop presencePlace at s,
+      drop-drop registersPlace at s,
+      drop-drop returnCountPlace at s,
+      getD-drop (at + returnCountPlace) s 0 0,
+      add-zero (at + returnCountPlace),
+    )
 
 pub read-thread-spec : {M : Type 1} → statement M
 read-thread-spec =

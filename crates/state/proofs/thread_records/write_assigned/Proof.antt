@@ -19,9 +19,15 @@ returns c =
     let a = s .args in
     let p = s .pre in
     let b : List ℕ = a .state .now in
-    let bytes : AreBytes b = λ i. omega (arith, c .before .before .before .before .before .before .before .before .before .before .before .before .before .slice-known .given i) in
+    let bytes : AreBytes b = λ i. omega (
+      arith,
+      c .before .before .before .before .before .before .before .before .before .before .before
+          .before .before .slice-known .given i,
+    ) in
     let at = c .before .before .before .before .before .before .before .before .before .before .before .before .record-at .ensures in
-    stored-one b (a .t .0) bytes (p .0) (p .1) (a .w) (a .register) (a .value) (p .3) (p .4) (p .5) (sized s .0) (sized s .1) (rw at at (c .before .before .before .before .before .before .before .before .before .before .write-head .ensures)) (rw at at (c .before .before .before .before .before .before .put32 .ensures)) (rw at at (c .before .before .put16 .ensures))
+    stored-one b (a .t .0) bytes (p .0) (p .1) (a .w) (a .register) (a .value) (p .3) (p .4) (p .5) (sized s .0) (sized s .1)
+    (rw at at (c .before .before .before .before .before .before .before .before .before .before .write-head .ensures))
+    (rw at at (c .before .before .before .before .before .before .put32 .ensures)) (rw at at (c .before .before .put16 .ensures))
 
 pub write-assigned-spec : {M : Type 1} → statement M
 write-assigned-spec =

@@ -6,7 +6,8 @@ use Rattle.state.proofs.thread_records.write_head.Tie as tie
 
 returns : tie.Need-returns
 returns c =
-    let label = rw (c .before .before .before .before .before .before .before .before .before .before .before .before .label-number .ensures) at (c .before .before .before .before .before .before .before .before .before .before .before .put16 .ensures) in
+    let label = rw (c .before .before .before .before .before .before .before .before .before .before .before .before .label-number
+    .ensures) at (c .before .before .before .before .before .before .before .before .before .before .before .put16 .ensures) in
     let locks = put-then _ _ _ _ _ label (c .before .before .before .before .before .before .before .put162 .ensures) refl in
     put-then _ _ _ _ _ locks (c .before .before .put8 .ensures) refl
 

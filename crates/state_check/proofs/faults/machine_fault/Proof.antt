@@ -42,7 +42,8 @@ returns-3 c =
     let a = c .before .before .before .before .before .before .before .before .args in
     let xs : List ℕ = imageFaults (now (a .image)) (now (a .table)) [] in
     let ys : List ℕ = stateLengthFault (now (a .state)) ∷ stateFault (now (a .image)) (now (a .table)) (now (a .state)) ∷ [] in
-    let e : c .before .before .before .before .image-fault .result ≡ firstOf xs = c .before .before .before .before .image-fault .ensures in
+    let e : c .before .before .before .before .image-fault .result ≡ firstOf xs = c .before .before .before .before .image-fault .ensures
+    in
     let f : c .before .before .state-length-fault .result ≡ stateLengthFault (now (a .state)) =
     c .before .before .state-length-fault .ensures in
     c .state-fault .ensures ∙ sym (after xs ys (sym e ∙ c .before .before .before .if1 .left)

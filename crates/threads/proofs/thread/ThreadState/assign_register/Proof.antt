@@ -12,8 +12,10 @@ returns c =
     let z = p .0 .tidy .registers in
     let w = a .self in
     rw (c .mark .ensures)
-    (running-thread _ _ _ (p .0 .label) (p .0 .tidy .returns) (stored-tidy (w .present) (w .registers) (a .register) (a .value) (z .sized) (p .1) z) refl
-    (ap (λ l. job (w .label .0) (returnsOf w) l) (stored-registers (w .present) (w .registers) (a .register) (a .value) (z .sized) (p .1))))
+    (running-thread _ _ _ (p .0 .label) (p .0 .tidy .returns) (stored-tidy (w .present) (w .registers) (a .register) (a .value) (z .sized)
+    (p .1) z) refl
+    (ap (λ l. job (w .label .0) (returnsOf w) l) (stored-registers (w .present) (w .registers) (a .register) (a .value) (z .sized)
+    (p .1))))
 
 pub assign-register-spec : {M : Type 1} → statement M
 assign-register-spec =

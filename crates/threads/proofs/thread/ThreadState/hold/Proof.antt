@@ -9,7 +9,8 @@ use Rattle.threads.proofs.thread.ThreadState.hold.Tie as tie
 returns : tie.Need-returns
 returns c =
     let p = c .before .before .pre in
-    running-thread _ _ _ (p .0 .label) (p .0 .tidy .returns) (p .0 .tidy .registers) (rw (c .before .lock-number .ensures, one-mul, mod-eq-of-lt (pow-lt (p .1)))) refl
+    running-thread _ _ _ (p .0 .label) (p .0 .tidy .returns) (p .0 .tidy .registers)
+    (rw (c .before .lock-number .ensures, one-mul, mod-eq-of-lt (pow-lt (p .1)))) refl
 
 pub hold-spec : {M : Type 1} → statement M
 hold-spec = tie.close (tie.spec (λ c κs. omega arith) (λ c. omega arith) (λ c. omega arith) returns)

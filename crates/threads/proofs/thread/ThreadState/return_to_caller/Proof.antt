@@ -13,7 +13,8 @@ enter-requires c κs =
     let s = c .before .before .before in
     let w = s .args .self in
     let p = s .pre in
-    let l : c .label-of .result .0 ≡ newestOf (returnsOf w) = ap (λ l. l .0) (c .label-of .ensures) ∙ popped-label (w .depth) (w .returns) (p .0 .tidy .returns) (p .1) in
+    let l : c .label-of .result .0 ≡ newestOf (returnsOf w) = ap (λ l. l .0) (c .label-of .ensures)
+    ∙ popped-label (w .depth) (w .returns) (p .0 .tidy .returns) (p .1) in
     (tidy-with w _ _ (p .0) (popped-tidy (w .depth) (w .returns) (p .0 .tidy .returns) (p .1)), rw l (p .2), p .3, p .4)
 
 returns : tie.Need-returns
@@ -22,7 +23,8 @@ returns c =
     let a = s .args in
     let w = a .self in
     let z = s .pre .0 .tidy .returns in
-    let l : c .before .label-of .result .0 ≡ newestOf (returnsOf w) = ap (λ l. l .0) (c .before .label-of .ensures) ∙ popped-label (w .depth) (w .returns) z (s .pre .1) in
+    let l : c .before .label-of .result .0 ≡ newestOf (returnsOf w) = ap (λ l. l .0) (c .before .label-of .ensures)
+    ∙ popped-label (w .depth) (w .returns) z (s .pre .1) in
     runs-as (c .enter .ensures) refl (λ i. job (l i) (popped (w .depth) (w .returns) z (s .pre .1) i) (fill (take (a .count) (a .values))))
 
 pub return-to-caller-spec : {M : Type 1} → statement M

@@ -10,7 +10,8 @@ returns : tie.Need-returns
 returns c =
     let a = c .before .args in
     let z = idle-fields (a .self) (c .before .pre .0) in
-    runs-as (c .enter .ensures) (z .0) (ap (λ k. job (a .label .0) (take k (a .self .returns)) (fill (take (a .count) (a .values)))) (z .1))
+    runs-as (c .enter .ensures) (z .0) (ap (λ k. job (a .label .0) (take k (a .self .returns)) (fill (take (a .count) (a .values))))
+    (z .1))
 
 pub take-spec : {M : Type 1} → statement M
 take-spec = tie.close (tie.spec (λ c κs. search needs) returns)
