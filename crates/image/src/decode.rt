@@ -1,6 +1,21 @@
 // The statement in a record, and its operands.
 use fields::read::get16;
+use rules::codes::ADD;
+use rules::codes::ASSIGN;
+use rules::codes::CALL;
+use rules::codes::COPY;
 use rules::codes::EQUAL;
+use rules::codes::GOTO;
+use rules::codes::IF;
+use rules::codes::MULTIPLY;
+use rules::codes::NUMBER_OPERAND;
+use rules::codes::REGISTER_OPERAND;
+use rules::codes::RETURN;
+use rules::codes::SEND_BUFFERED;
+use rules::codes::SEND_DIRECT;
+use rules::codes::SKIP;
+use rules::codes::SUBTRACT;
+use rules::codes::TRANSFER;
 use rules::layout::OPCODE_PLACE;
 use rules::layout::OPERAND_SIZE;
 use rules::layout::OPERANDS_PLACE;
@@ -28,8 +43,8 @@ pub fn operand_of(kind: u8, value: u16) -> Operand
     ensures { λ z. ⌜ z ≡ operandOf kind value ⌝ }
 {
     match kind {
-        1 => Operand::Number(value),
-        2 => Operand::Register(value),
+        NUMBER_OPERAND => Operand::Number(value),
+        REGISTER_OPERAND => Operand::Register(value),
         _ => Operand::Word(value),
     }
 }
@@ -55,11 +70,11 @@ pub fn operation_at(opcode: u8, operator: u8) -> Assigns
     ensures { λ z. ⌜ z ≡ assignsOf (operationAt opcode operator) ⌝ }
 {
     match opcode {
-        2 => match operator {
-            1 => Assigns::Work(Operation::Copy),
-            2 => Assigns::Work(Operation::Add),
-            3 => Assigns::Work(Operation::Subtract),
-            4 => Assigns::Work(Operation::Multiply),
+        ASSIGN => match operator {
+            COPY => Assigns::Work(Operation::Copy),
+            ADD => Assigns::Work(Operation::Add),
+            SUBTRACT => Assigns::Work(Operation::Subtract),
+            MULTIPLY => Assigns::Work(Operation::Multiply),
             _ => Assigns::Nothing,
         },
         _ => Assigns::Nothing,
@@ -157,13 +172,13 @@ pub fn other_of(r: &[u8]) -> Statement
     ensures { λ z. ⌜ z ≡ otherOf (now (r .entry)) ⌝ }
 {
     match r[OPCODE_PLACE] {
-        1 | 3 => Statement::Skip,
-        4 => Statement::If(condition_of(r)),
-        5 => Statement::SendDirect,
-        6 => Statement::SendBuffered,
-        7 => Statement::Call,
-        8 => Statement::Return,
-        9 => Statement::Transfer,
+        SKIP | GOTO => Statement::Skip,
+        IF => Statement::If(condition_of(r)),
+        SEND_DIRECT => Statement::SendDirect,
+        SEND_BUFFERED => Statement::SendBuffered,
+        CALL => Statement::Call,
+        RETURN => Statement::Return,
+        TRANSFER => Statement::Transfer,
         _ => Statement::Exit,
     }
 }

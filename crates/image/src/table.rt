@@ -19,6 +19,7 @@ ghost use Rattle.rules.specs.Sorts.{thread, lock};
 ghost use Rattle.rules.specs.Bytes.{allFrom, firstBad};
 ghost use Rattle.rules.specs.Image.{rowAt};
 ghost use Rattle.rules.specs.Check.{rowOk};
+ghost use Rattle.image.specs.Columns.{Power, inColumn};
 
 // The field at a place of a block's row.
 pub fn field_at(table: &[u8], b: Block, place: usize) -> u8
@@ -70,18 +71,27 @@ pub fn row_ok(table: &[u8], b: Block) -> bool
         & field_ok(table, b, ROW_KIND_PLACE, Block::KINDS)
 }
 
+// The field at a place of every row has one of so many values, a power of two: all the fields' bits together are below it.
+pub fn column_ok(table: &[u8], place: usize, limit: usize) -> bool
+    requires { ⌜ (length (now table) ≡ tableSize) × (place < rowSize) × Power limit ⌝ }
+    ensures { λ r. ⌜ r ≡ allFrom (inColumn (now (table .entry)) place limit) 0 blockCount ⌝ }
+{
+    let mut seen: u8 = 0;
+    let mut b = 0;
+    while b < Block::COUNT {
+        seen = seen | field_at(table, block_of(b as u8), place);
+        b += 1;
+    }
+    wide(seen) < limit
+}
+
 // Every row is in range.
 pub fn rows_ok(table: &[u8]) -> bool
     requires { ⌜ length (now table) ≡ tableSize ⌝ }
     ensures { λ r. ⌜ r ≡ allFrom (rowOk (now (table .entry))) 0 blockCount ⌝ }
 {
-    let mut ok = true;
-    let mut b = 0;
-    while b < Block::COUNT {
-        ok = ok & row_ok(table, block_of(b as u8));
-        b += 1;
-    }
-    ok
+    column_ok(table, ROW_THREAD_PLACE, Thread::COUNT)
+        & column_ok(table, ROW_KIND_PLACE, Block::KINDS)
 }
 
 // The first block whose row is out of range, or 16.

@@ -1,49 +1,17 @@
-use mathlib.Core.Path.{_∙_}
-use mathlib.Core.Bool.{true}
-use Prim.Native.Nat.{_-_}
-use native.Mathlib.Omega.{arith}
+use mathlib.Core.Path.{refl, sym, _∙_}
 use borrow.Author.Needs.{needs}
-use Rattle.rules.specs.Sizes.{blockCount}
-use Rattle.rules.specs.Check.{rowOk}
-use Rattle.fields.specs.Pieces.{Tested, tested-none, tested-next, tested-all}
+use Rattle.image.specs.Columns.{columns}
 use Rattle.image.proofs.table.rows_ok.Statement.{statement}
 use Rattle.image.proofs.table.rows_ok.Tie as tie
 
-abbrev Inv-loop : tie.InvT-loop
-Inv-loop table ok₀ b₀ ok b = Tested true (rowOk table) blockCount b ok
+column-ok-requires : tie.Need-column-ok-requires
+column-ok-requires c κs = (c .before .pre, search needs, (3, refl))
 
-abbrev μ-loop : tie.MeasureT-loop
-μ-loop table ok₀ b₀ ok b = blockCount - b
+column-ok-requires-2 : tie.Need-column-ok-requires-2
+column-ok-requires-2 c κs = (c .before .before .pre, search needs, (1, refl))
 
-loop-holds : tie.Need-loop-holds Inv-loop μ-loop
-loop-holds c = tested-none true (rowOk (c .before .args .table .now)) blockCount
-
-row-ok-requires : tie.Need-row-ok-requires Inv-loop μ-loop
-row-ok-requires c κs = (rw (c .block-of .ensures) (c .before .loop-test .taken), c .before .before .before .before .pre)
-
-loop-again : tie.Need-loop-again Inv-loop μ-loop
-loop-again c =
-    let a = c .before .before .before .before .before .args in
-    let l = c .before .before .before .loop in
-    tested-next true (rowOk (a .table .now)) blockCount (l .b) (l .ok) (l .inv) (c .row-ok .result) (c .before .before .loop-test .taken)
-    (c .row-ok .ensures ∙ rw (c .before .block-of .ensures))
-
-returns : tie.Need-returns Inv-loop μ-loop
-returns c =
-    let l = c .before .loop in
-    tested-all true (rowOk (c .before .before .before .args .table .now)) blockCount (l .b) (l .ok) (l .inv) (c .loop-test .left)
+returns : tie.Need-returns
+returns c = simp (c .column-ok2 .ensures, c .before .column-ok .ensures) (sym (columns (c .before .before .before .args .table .now)))
 
 pub rows-ok-spec : {M : Type 1} → statement M
-rows-ok-spec =
-    tie.close
-    (tie.spec
-    Inv-loop
-    μ-loop
-    loop-holds
-    (λ c. omega arith)
-    (λ c κs. search needs)
-    row-ok-requires
-    (λ c. omega arith)
-    (λ c. omega arith)
-    loop-again
-    returns)
+rows-ok-spec = tie.close (tie.spec column-ok-requires column-ok-requires-2 returns)
