@@ -19,7 +19,6 @@ ghost use Rattle.rules.specs.Sorts.{thread, lock};
 ghost use Rattle.rules.specs.Bytes.{allFrom, firstBad};
 ghost use Rattle.rules.specs.Image.{rowAt};
 ghost use Rattle.rules.specs.Check.{rowOk};
-ghost use Rattle.image.specs.Columns.{Power, inColumn};
 
 // The field at a place of a block's row.
 pub fn field_at(table: &[u8], b: Block, place: usize) -> u8
@@ -71,27 +70,22 @@ pub fn row_ok(table: &[u8], b: Block) -> bool
         & field_ok(table, b, ROW_KIND_PLACE, Block::KINDS)
 }
 
-// The field at a place of every row has one of so many values, a power of two: all the fields' bits together are below it.
-pub fn column_ok(table: &[u8], place: usize, limit: usize) -> bool
-    requires { ⌜ (length (now table) ≡ tableSize) × (place < rowSize) × Power limit ⌝ }
-    ensures { λ r. ⌜ r ≡ allFrom (inColumn (now (table .entry)) place limit) 0 blockCount ⌝ }
-{
-    let mut seen: u8 = 0;
-    let mut b = 0;
-    while b < Block::COUNT {
-        seen = seen | field_at(table, block_of(b as u8), place);
-        b += 1;
-    }
-    wide(seen) < limit
-}
-
-// Every row is in range.
+// Every row is in range. The rows' fields are gathered without a branch: the limit of each is a power of two, so all the fields of a
+// column are below it exactly if their bits together are.
 pub fn rows_ok(table: &[u8]) -> bool
     requires { ⌜ length (now table) ≡ tableSize ⌝ }
     ensures { λ r. ⌜ r ≡ allFrom (rowOk (now (table .entry))) 0 blockCount ⌝ }
 {
-    column_ok(table, ROW_THREAD_PLACE, Thread::COUNT)
-        & column_ok(table, ROW_KIND_PLACE, Block::KINDS)
+    let mut threads: u8 = 0;
+    let mut kinds: u8 = 0;
+    let mut b = 0;
+    while b < Block::COUNT {
+        let row = block_of(b as u8);
+        threads = threads | field_at(table, row, ROW_THREAD_PLACE);
+        kinds = kinds | field_at(table, row, ROW_KIND_PLACE);
+        b += 1;
+    }
+    (wide(threads) < Thread::COUNT) & (wide(kinds) < Block::KINDS)
 }
 
 // The first block whose row is out of range, or 16.
