@@ -2,4 +2,4 @@
 pub mod Records
 pub mod Assigns
 pub mod OtherRows
-pub mod Columns
+pub mod Rows

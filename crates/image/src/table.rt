@@ -1,4 +1,5 @@
 // The block table.
+use fields::read::get16;
 use fields::read::wide;
 use rules::layout::ROW_KIND_PLACE;
 use rules::layout::ROW_SIZE;
@@ -70,22 +71,19 @@ pub fn row_ok(table: &[u8], b: Block) -> bool
         & field_ok(table, b, ROW_KIND_PLACE, Block::KINDS)
 }
 
-// Every row is in range. The rows' fields are gathered without a branch: the limit of each is a power of two, so all the fields of a
-// column are below it exactly if their bits together are.
+// Every row is in range. The rows are gathered as numbers without a branch, and then tested field by field: the limit of each field is
+// a power of two, so a field of all rows is below it exactly if its bits together are.
 pub fn rows_ok(table: &[u8]) -> bool
     requires { ⌜ length (now table) ≡ tableSize ⌝ }
     ensures { λ r. ⌜ r ≡ allFrom (rowOk (now (table .entry))) 0 blockCount ⌝ }
 {
-    let mut threads: u8 = 0;
-    let mut kinds: u8 = 0;
+    let mut seen: u16 = 0;
     let mut b = 0;
     while b < Block::COUNT {
-        let row = block_of(b as u8);
-        threads = threads | field_at(table, row, ROW_THREAD_PLACE);
-        kinds = kinds | field_at(table, row, ROW_KIND_PLACE);
+        seen = seen | get16(table, ROW_SIZE * b);
         b += 1;
     }
-    (wide(threads) < Thread::COUNT) & (wide(kinds) < Block::KINDS)
+    (seen % 256 < Thread::COUNT as u16) & (seen / 256 < Block::KINDS as u16)
 }
 
 // The first block whose row is out of range, or 16.
