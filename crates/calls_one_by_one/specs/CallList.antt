@@ -1,4 +1,5 @@
--- "The one-by-one reading" of document 01: an accepted Fresh and any number of Runs, the event list that they make, and what is claimed of
+-- "The one-by-one reading" of docs/MACHINE.md: an accepted Fresh and any number of Runs, the event list that they make, and what is
+-- claimed of
 -- its second order. The calls are those of the law, which the exported calls promise: `freshReturn`, `freshState`, `runReturn`, `runState`
 -- and `runAnswers`.
 use mathlib.Core.Path.{_≡_}

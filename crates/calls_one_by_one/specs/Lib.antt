@@ -1,4 +1,4 @@
--- Demand 3 of document 01, "The one-by-one reading", of a list of calls and its bytes. CallList says what a list of calls is and what is
+-- Demand 3, "The one-by-one reading", of a list of calls and its bytes. CallList says what a list of calls is and what is
 -- claimed of it; Whole has the theorem, `calls-one-by-one`; Jobs says that a row is one job, `one-job-a-row`.
 pub mod CallList
 pub mod Accepted

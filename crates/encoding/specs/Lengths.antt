@@ -1,4 +1,4 @@
--- The sizes of document 01: every encoding has its length, whatever the value.
+-- The sizes of docs/MACHINE.md: every encoding has its length, whatever the value.
 use mathlib.Core.Path.{_≡_, refl}
 use mathlib.Core.List.{List}
 use Prim.Native.Nat.{ℕ, _*_}

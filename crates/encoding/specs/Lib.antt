@@ -1,4 +1,4 @@
--- The bytes of document 01 and the values that they say: each kind of record, the state, events and entries read and written; then
+-- The machine's bytes and the values that they say: each kind of record, the state, events and entries read and written; then
 -- stores into a state's bytes.
 pub mod Lengths
 pub mod Sized

@@ -1,4 +1,5 @@
--- The machines that the state's bytes have room for: counts within the limits of document 01, and no running thread at the label that says
+-- The machines that the state's bytes have room for: counts within the limits of docs/MACHINE.md, and no running thread at the label that
+-- says
 -- idle. Of the numbers themselves nothing is asked.
 use mathlib.Core.Path.{_≡_}
 use Prim.Native.Nat.{_*_, _≤_}

@@ -1,4 +1,4 @@
--- The marked trials of document 01 as one table. What is common to all threads, locks and widths is said over the number: of any image
+-- The marked trials of docs/MACHINE.md as one table. What is common to all threads, locks and widths is said over the number: of any image
 -- and block table, and of any machine s, thread t of it, lock set, job j and values. The trials are computed on bytes besides (OnBytes).
 use mathlib.Core.Path.{_≡_, refl, ap, _∙_}
 use mathlib.Core.Logic.{_≢_}

@@ -1,4 +1,4 @@
--- The answer to an event: its code and its detail, the two bytes of document 01, and what the one-by-one reading does with it.
+-- The answer to an event: its code and its detail, the two bytes of docs/MACHINE.md, and what the one-by-one reading does with it.
 use mathlib.Core.Bool.{cond, _||_}
 use mathlib.Core.List.{List, [], _∷_}
 use Prim.Native.Nat.{ℕ}

@@ -1,4 +1,4 @@
--- The law of the machine, in the order of document 01. Whoever believes these files need believe nothing else.
+-- The law of the machine, in the order of docs/MACHINE.md. Whoever believes these files need believe nothing else.
 pub mod Sorts
 pub mod Sizes
 pub mod Codes

@@ -1,4 +1,4 @@
--- The limits, the sizes and the places of document 01, each said here and nowhere else. A count is a number of things, a size a number
+-- The limits, the sizes and the places of docs/MACHINE.md, each said here and nowhere else. A count is a number of things, a size a number
 -- of bytes, and a place the byte at which a field begins in the record that holds it.
 use Prim.Native.Nat.{ℕ, _+_, _*_}
 

@@ -1,4 +1,4 @@
--- "Well formed": which state bytes a call accepts. The sentences of document 01 in their order.
+-- "Well formed": which state bytes a call accepts. The sentences of docs/MACHINE.md in their order.
 use mathlib.Core.Bool.{Bool, true, false, cond, _&&_, _||_}
 use mathlib.Core.List.{List, [], _∷_}
 use Prim.Native.Nat.{ℕ, _+_, _*_, _-_, _^_}

@@ -1,4 +1,4 @@
-// Where the fields of document 01's bytes stand (places), and how long they are (sizes), worked out from the limits. specs/Sizes.antt
+// Where the fields of the machine's bytes stand (places), and how long they are (sizes), worked out from the limits. specs/Sizes.antt
 // has the same names.
 use crate::limits::Image;
 use crate::limits::Tree;

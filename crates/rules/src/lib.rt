@@ -1,4 +1,4 @@
-// The vocabulary of the Core PLEX plug-in machine: what document 01 speaks of, as types. The law over it stands in specs/.
+// The vocabulary of the Core PLEX plug-in machine: what docs/MACHINE.md speaks of, as types. The law over it stands in specs/.
 pub mod answer;
 pub mod codes;
 pub mod layout;

@@ -1,4 +1,4 @@
-// The limits of document 01, each at the thing that it limits.
+// The limits of docs/MACHINE.md, each at the thing that it limits.
 use crate::sorts::Block;
 use crate::sorts::Label;
 use crate::sorts::Lock;

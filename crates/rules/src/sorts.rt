@@ -1,4 +1,4 @@
-// The four sorts of number of document 01. Their fields are private: only the named functions here convert, so one sort given for
+// The four sorts of number of docs/MACHINE.md. Their fields are private: only the named functions here convert, so one sort given for
 // another, or a plain number given for one, does not compile.
 ghost use mathlib.Core.Path.{_≡_};
 ghost use lib.Dec.{eqb};

@@ -1,4 +1,4 @@
--- Well formed machines: the test of document 01's sentences, and the facts that it says, one for the other.
+-- Well formed machines: the test of docs/MACHINE.md's sentences, and the facts that it says, one for the other.
 use mathlib.Core.Path.{_≡_, refl, sym, ap, _∙_}
 use mathlib.Core.Bool.{Bool, true, _&&_}
 use mathlib.Core.Option.{some}

@@ -1,4 +1,4 @@
-// The trial of document 01 that is not marked: 43,008 image bytes pass the length test, 43,092 do not.
+// A trial that is not marked: 43,008 image bytes pass the length test, 43,092 do not.
 use crate::calls::check;
 use crate::files::load;
 use crate::memory::IMAGE;

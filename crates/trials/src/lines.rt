@@ -1,5 +1,5 @@
 // Trials that are the lines of a file: CASE CALL EDIT.. => RETURN. A call is handed the files of its case, CASE.image and the others,
-// with the edits carried out in order. The vectors are what independent implementations of document 01 agree on.
+// with the edits carried out in order. The vectors are what independent implementations of the rules agree on.
 use crate::claims::agrees;
 use crate::edits::apply;
 use crate::files::load;

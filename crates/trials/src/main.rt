@@ -1,4 +1,4 @@
-// Tries the exported calls: what document 01 does not mark with M, and the vectors. Prints a line for each group of trials.
+// Tries the exported calls: the trials that are not proved, and the vectors. Prints a line for each group of trials.
 mod calls;
 mod cases;
 mod claims;
