@@ -1,8 +1,8 @@
 -- The laws of the image's records: how many there are, and the bytes of each.
-use mathlib.Core.Path.{_≡_, refl}
+use mathlib.Core.Path.{_≡_, refl, sym}
 use mathlib.Core.Bool.{Bool, true, false, cond, _&&_}
 use mathlib.Core.List.{List, [], _∷_}
-use Prim.Native.Nat.{ℕ, zero, suc, _+_, _*_, _/_, _≤_, _<_}
+use Prim.Native.Nat.{ℕ, zero, suc, _+_, _*_, _-_, _/_, _≤_, _<_}
 use native.Mathlib.Omega.{arith}
 use lib.Dec.{leb, eqb}
 use lib.ListN.{length, getD, take, drop, length-drop}
@@ -52,6 +52,12 @@ module _ (s : List ℕ) (l : ℕ) (h : l < labels s) where
   pub record-part : recordAt s l ≡ take recordSize (drop (recordSize * l) s)
   unfolding recordAt
   record-part = rw (lt-ltb l (labels s) h)
+
+  -- as the code takes it: from its place up to the next
+  pub record-taken : take (recordSize * l + recordSize - recordSize * l) (drop (recordSize * l) s) ≡ recordAt s l
+  record-taken =
+      let e : recordSize * l + recordSize - recordSize * l ≡ recordSize = omega arith in
+      rw e (sym record-part)
 
   pub length-record : length (recordAt s l) ≡ recordSize
   length-record = rw record-part (length-take-le recordSize (drop (recordSize * l) s) (simp length-drop (omega (arith, record-fits))))

@@ -7,12 +7,11 @@ use rules::sorts::Block;
 use rules::sorts::Label;
 use rules::sorts::block_of;
 use rules::sorts::label_number;
-use rules::sorts::label_of;
 ghost use mathlib.Core.Path.{_≡_};
 ghost use Prim.Native.Nat.{_<_};
 ghost use lib.ListN.{length};
-ghost use Rattle.rules.specs.Sizes.{recordCount, recordSize};
-ghost use Rattle.rules.specs.Sorts.{block, label};
+ghost use Rattle.rules.specs.Sizes.{recordSize};
+ghost use Rattle.rules.specs.Sorts.{block};
 ghost use Rattle.rules.specs.Image.{labels, recordAt, blockField, entry};
 
 // How many records an image has: none where its length is bad.
@@ -33,14 +32,6 @@ pub fn index_of(at: Label) -> usize
 {
     let number = label_number(at);
     number as usize
-}
-
-// The label of a record at an index.
-pub fn label_at(index: usize) -> Label
-    requires { ⌜ index < recordCount ⌝ }
-    ensures { λ r. ⌜ r ≡ label index ⌝ }
-{
-    label_of(index as u16)
 }
 
 // The record at a label: that part of the image, or its empty part.

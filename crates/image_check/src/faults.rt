@@ -3,8 +3,6 @@ use crate::marks::MARKS;
 use crate::marks::ROOM;
 use fields::read::wide;
 use image::records::count_labels;
-use image::records::label_at;
-use image::records::record_of;
 use image::table::first_bad_row;
 use image::table::rows_ok;
 use operand_check::operand_places::FEW;
@@ -12,6 +10,7 @@ use operand_check::operand_places::few_ok;
 use operand_check::operand_places::slots_ok;
 use record_check::rule::outline_ok;
 use rules::layout::OPERAND_COUNT_PLACE;
+use rules::layout::RECORD_SIZE;
 use rules::layout::TABLE_SIZE;
 use rules::sorts::Block;
 ghost use mathlib.Core.Path.{_≡_};
@@ -49,7 +48,8 @@ pub fn first_bad_outline(image: &[u8], n: usize) -> usize
 {
     let mut l = 0;
     while l < n {
-        let r = record_of(image, label_at(l));
+        let at = RECORD_SIZE * l;
+        let r = &image[at..at + RECORD_SIZE];
         if !outline_ok(image, n, r) {
             return l;
         }
@@ -67,7 +67,8 @@ pub fn first_bad_slots(image: &[u8], from: usize, m: usize) -> usize
     let room = ROOM;
     let mut l = from;
     while l < m {
-        let r = record_of(image, label_at(l));
+        let at = RECORD_SIZE * l;
+        let r = &image[at..at + RECORD_SIZE];
         if !slots_ok(r, &marks, &room, wide(r[OPERAND_COUNT_PLACE])) {
             return l;
         }
@@ -84,7 +85,8 @@ pub fn first_bad_operand(image: &[u8], m: usize) -> usize
     let room = ROOM;
     let mut l: usize = 0;
     while l < m {
-        let r = record_of(image, label_at(l));
+        let at = RECORD_SIZE * l;
+        let r = &image[at..at + RECORD_SIZE];
         let c = wide(r[OPERAND_COUNT_PLACE]);
         if FEW < c {
             return first_bad_slots(image, l, m);

@@ -7,7 +7,7 @@ use Prim.Native.Nat.{ℕ, _≤_, _<_}
 use native.Mathlib.Omega.{arith}
 use lib.Dec.{eqb, ltb}
 use borrow.Author.Tests.{le-leb}
-use Rattle.rules.specs.Sizes.{operandCount}
+use Rattle.rules.specs.Sizes.{blockCount, operandCount}
 use Rattle.rules.specs.Image.{opcode, blockField, entry, operator, operands}
 use Rattle.rules.specs.Statements.{operationAt, assignmentOf, others, otherAt, otherOf, statementOf, carried, usage}
 use Rattle.rules.specs.declared.statement.Operation.{Operation}
@@ -38,6 +38,15 @@ module _ (image r : List ℕ) where
       go : (q : Bool) → shapeOk found r ≡ q → (ltb (blockField r) 16 && ltb (entry r) 4 && (q && labelsOk image r (statementOf r))) ≡ false
       go true e = absurd (omega (arith, few-by found r e))
       go false e = and-false (ltb (blockField r) 16 && ltb (entry r) 4)
+
+  -- where the block and the entry are in range, the rest is what the opcode asks for
+  pub begun : (ltb (blockField r) blockCount && ltb (entry r) 4) ≡ true → outlineOk image r ≡ formOk image r
+  unfolding outlineOk
+  begun e = rw e refl
+
+  pub not-begun : (ltb (blockField r) blockCount && ltb (entry r) 4) ≡ false → outlineOk image r ≡ false
+  unfolding outlineOk
+  not-begun e = rw e refl
 
   -- what the opcode asks for, once it is known
   pub form-assign : (k : Operation) → found ≡ some k

@@ -165,5 +165,9 @@ pub fn outline_ok(image: &[u8], n: usize, r: &[u8]) -> bool
     if Image::OPERANDS < c {
         return false;
     }
-    (wide(r[BLOCK_PLACE]) < Block::COUNT) & (r[ENTRY_PLACE] < 4) & form_ok(image, n, r, c)
+    if (wide(r[BLOCK_PLACE]) < Block::COUNT) & (r[ENTRY_PLACE] < 4) {
+        form_ok(image, n, r, c)
+    } else {
+        false
+    }
 }

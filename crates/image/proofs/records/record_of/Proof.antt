@@ -1,8 +1,6 @@
 use native.Mathlib.Omega.{arith}
-use mathlib.Core.Path.{_≡_, refl}
-use Prim.Native.Nat.{_+_, _*_, _-_}
-use Rattle.rules.specs.Sizes.{recordSize}
-use Rattle.image.specs.Records.{record-fits, record-part, length-record}
+use mathlib.Core.Path.{refl}
+use Rattle.image.specs.Records.{record-fits, record-taken, length-record}
 use borrow.Author.Needs.{needs}
 use Rattle.image.proofs.records.record_of.Statement.{statement}
 use Rattle.image.proofs.records.record_of.Tie as tie
@@ -30,8 +28,7 @@ returns : tie.Need-returns
 returns c =
     let s = c .before .before .before in
     let a = s .args in
-    let e : recordSize * a .at .0 + recordSize - recordSize * a .at .0 ≡ recordSize = omega arith in
-    rw (c .before .index-of .ensures, e, ← record-part (a .image .now) (a .at .0) (s .pre))
+    rw (c .before .index-of .ensures, record-taken (a .image .now) (a .at .0) (s .pre))
     (refl, length-record (a .image .now) (a .at .0) (s .pre))
 
 pub record-of-spec : {M : Type 1} → statement M

@@ -1,8 +1,8 @@
 use Prim.Native.Nat.{_-_}
-use mathlib.Core.Path.{_≡_, _∙_}
+use mathlib.Core.Path.{_≡_, refl, _∙_}
 use native.Mathlib.Omega.{arith}
 use Rattle.fields.specs.Tests.{Searching, begin, next, here, none}
-use Rattle.image.specs.Records.{labels-small}
+use Rattle.image.specs.Records.{labels-small, record-fits, record-taken, length-record}
 use Rattle.image_check.specs.Labels.{outlineAt}
 use Rattle.image_check.proofs.faults.first_bad_outline.Statement.{statement}
 use Rattle.image_check.proofs.faults.first_bad_outline.Tie as tie
@@ -16,31 +16,41 @@ abbrev μ-loop : tie.MeasureT-loop
 loop-holds : tie.Need-loop-holds Inv-loop μ-loop
 loop-holds c = begin _ _
 
-label-at-requires : tie.Need-label-at-requires Inv-loop μ-loop
-label-at-requires c κs = let s = c .before .before .before in omega (arith, labels-small (s .args .image .now))
+mul-at : tie.Need-mul-at Inv-loop μ-loop
+mul-at c = let s = c .before .before .before in omega (arith, labels-small (s .args .image .now))
 
-record-of-requires : tie.Need-record-of-requires Inv-loop μ-loop
-record-of-requires c κs = rw (c .label-at .ensures) (omega arith)
+add-r : tie.Need-add-r Inv-loop μ-loop
+add-r c = let s = c .before .before .before in omega (arith, labels-small (s .args .image .now))
+
+part-r-end : tie.Need-part-r-end Inv-loop μ-loop
+part-r-end c =
+    let s = c .before .before .before in
+    omega (arith, record-fits (s .args .image .now) (c .before .loop .l) (omega arith))
 
 outline-ok-requires : tie.Need-outline-ok-requires Inv-loop μ-loop
-outline-ok-requires c κs = (c .before .before .before .before .before .pre, c .record-of .ensures .1)
+outline-ok-requires c κs =
+    let s = c .before .before .before .before in
+    let l = c .before .before .loop .l in (
+      s .pre,
+      rw (record-taken (s .args .image .now) l (omega arith)) (length-record (s .args .image .now) l (omega arith)),
+    )
 
 returns : tie.Need-returns Inv-loop μ-loop
 returns c =
-    let s = c .before .before .before .before .before .before .before in
-    let l = c .before .before .before .before .before .loop in
+    let s = c .before .before .before .before .before .before in
+    let l = c .before .before .before .before .loop in
     let e : c .before .outline-ok .result ≡ outlineAt (s .args .image .now) (l .l) = c .before .outline-ok .ensures
-    ∙ rw (c .before .before .record-of .ensures .0, c .before .before .before .label-at .ensures) in
-    here (outlineAt (s .args .image .now)) (s .args .n) (l .l) (l .inv) _ (c .before .before .before .before .loop-test .taken) e
+    ∙ rw (record-taken (s .args .image .now) (l .l) (omega arith)) refl in
+    here (outlineAt (s .args .image .now)) (s .args .n) (l .l) (l .inv) _ (c .before .before .before .loop-test .taken) e
     (c .if1 .taken)
 
 loop-again : tie.Need-loop-again Inv-loop μ-loop
 loop-again c =
-    let s = c .before .before .before .before .before .before .before in
-    let l = c .before .before .before .before .before .loop in
+    let s = c .before .before .before .before .before .before in
+    let l = c .before .before .before .before .loop in
     let e : c .before .outline-ok .result ≡ outlineAt (s .args .image .now) (l .l) = c .before .outline-ok .ensures
-    ∙ rw (c .before .before .record-of .ensures .0, c .before .before .before .label-at .ensures) in
-    next (outlineAt (s .args .image .now)) (s .args .n) (l .l) (l .inv) _ (c .before .before .before .before .loop-test .taken) e
+    ∙ rw (record-taken (s .args .image .now) (l .l) (omega arith)) refl in
+    next (outlineAt (s .args .image .now)) (s .args .n) (l .l) (l .inv) _ (c .before .before .before .loop-test .taken) e
     (c .if1 .left)
 
 returns-2 : tie.Need-returns-2 Inv-loop μ-loop
@@ -55,8 +65,11 @@ first-bad-outline-spec =
     Inv-loop
     μ-loop
     loop-holds
-    label-at-requires
-    record-of-requires
+    mul-at
+    add-r
+    (λ c. omega arith)
+    (λ c. omega arith)
+    part-r-end
     outline-ok-requires
     returns
     (λ c. omega arith)
