@@ -14,7 +14,7 @@
 #include <time.h>
 
 /* A row has so many rounds, or as many as its time allows. */
-enum { ROUNDS = 2000, FEWEST_ROUNDS = 50, ROUND_NS = 20000, ROW_NS = 1000000000, MOST_POINTS = 8 };
+enum { ROUNDS = 20000, FEWEST_ROUNDS = 50, ROUND_NS = 20000, ROW_NS = 1000000000, MOST_POINTS = 8 };
 
 static const struct {
     const char *file, *title;
