@@ -1,14 +1,15 @@
 -- Events: what is written is read back, and what breaks no rule is written again as it was; so of whole lists.
 use mathlib.Core.Path.{_≡_, refl, sym, ap, _∙_}
 use mathlib.Core.Bool.{Bool, true, false, cond, _&&_}
-use mathlib.Core.List.{List, [], _∷_, _++_, append-nil}
-use Prim.Native.Nat.{ℕ, _+_, _*_, _-_, _/_, _≤_, _<_}
+use mathlib.Core.List.{List, [], _∷_, _++_}
+use Prim.Native.Nat.{ℕ, _+_, _*_, _-_, _≤_, _<_}
 use native.Mathlib.Omega.{arith}
 use lib.Dec.{eqb, leb, ltb}
 use lib.ListN.{length, getD, take, drop, replicate, length-drop}
 use lib.Seq.{getD-drop, take-all}
 use borrow.Author.Tests.{eqb-true, ltb-true}
-use Rattle.rules.specs.Sizes.{threadCount, signalSize, eventKindPlace, eventThreadPlace, eventSignalPlace, eventSize}
+use Rattle.rules.specs.Sizes.{threadCount, registerCount, valuesPlace, signalSize, eventSize}
+use Rattle.rules.specs.Sizes.{eventKindPlace, eventThreadPlace, eventSignalPlace}
 use Rattle.rules.specs.Codes.{arrivalCode}
 use Rattle.rules.specs.Bytes.{num16, part, isZeros, blocks}
 use Rattle.rules.specs.Image.{entry, recordAt}
@@ -16,13 +17,11 @@ use Rattle.rules.specs.Encoding.{noSignal, signalBytes, signalFrom}
 use Rattle.rules.specs.WellFormed.{signalTidy}
 use Rattle.rules.specs.Events.{stepping, cutting, Event, arrive, turn, kindCode, kindOf, Valid, eventBytes, eventFrom, arrivalOk, turnOk}
 use Rattle.rules.specs.Events.{eventOk, eventsIn, eventAtOk, eventsFrom}
-use Rattle.fields.specs.Each.{Each}
 use Rattle.fields.specs.Put.{part-drop}
-use Rattle.fields.specs.Blocks.{length-blocks, chunks-blocks}
 use Rattle.encoding.specs.Sized.{SizedSignal}
-use Rattle.encoding.specs.Lengths.{length-event}
-use Rattle.encoding.specs.Tests.{both, both-hold, zeros-part}
-use Rattle.encoding.specs.Runs.{length-chunks, each-chunks, blocks-chunks, byte-forth, glue}
+use Rattle.laws.specs.Logic.{and-both, both-hold}
+use Rattle.fields.specs.Tests.{zeros-part}
+use Rattle.encoding.specs.Runs.{length-chunks, blocks-chunks, byte-forth, glue}
 use Rattle.encoding.specs.Numbers.{AreBytes, bytes-drop}
 use Rattle.encoding.specs.Trees.{no-signal, signal-back, signal-forth, signal-sized}
 
@@ -51,18 +50,19 @@ arrival-read image b e =
     let n = getD b 4 0 in
     let thread = eqb (getD b 1 0) 0 in
     let label = eqb (entry (recordAt image (num16 (drop 2 b)))) 3 in
-    let t = both (thread && label && leb n 25) (isZeros (part b (5 + 2 * n) (2 * (25 - n)))) e in
-    let u = both (thread && label) (leb n 25) (t .0) in
-    let v = both thread label (u .0) in
+    let rest = part b (eventSignalPlace + valuesPlace + 2 * n) (2 * (registerCount - n)) in
+    let t = and-both (thread && label && leb n registerCount) (isZeros rest) e in
+    let u = and-both (thread && label) (leb n registerCount) (t .0) in
+    let v = and-both thread label (u .0) in
     let f : 2 + (3 + 2 * n) ≡ 5 + 2 * n = omega arith in
-    (eqb-true (getD b 1 0) 0 (v .0), rw (getD-drop, part-drop, f) (both-hold (leb n 25) _ (u .1) (t .1)))
+    (eqb-true (getD b 1 0) 0 (v .0), rw (getD-drop, part-drop, f) (both-hold (leb n registerCount) _ (u .1) (t .1)))
 
 turn-read : (b : List ℕ) → eventSize ≤ length b → turnOk b ≡ true
     → (getD b 1 0 < threadCount) × (part b 2 signalSize ≡ replicate signalSize 0)
 unfolding turnOk
 turn-read b l e =
-    let t = both (ltb (getD b 1 0) 8) (isZeros (part b 2 53)) e in
-    (ltb-true (getD b 1 0) 8 (t .0), zeros-part b 2 53 (omega arith) (t .1))
+    let t = and-both (ltb (getD b eventThreadPlace 0) threadCount) (isZeros (part b eventSignalPlace signalSize)) e in
+    (ltb-true (getD b eventThreadPlace 0) threadCount (t .0), zeros-part b eventSignalPlace signalSize (omega arith) (t .1))
 
 pub event-read : (image b : List ℕ) → eventSize ≤ length b → eventOk image b ≡ true → EventRead b
 unfolding eventOk
@@ -77,7 +77,7 @@ event-read image b l e = go (eqb kind arrivalCode) refl e
         let r = arrival-read image b q in
         arrival (eqb-true kind arrivalCode p) (r .0) (r .1)
     go false p q =
-        let t = both (eqb kind (kindCode (kindOf kind))) (turnOk b) q in
+        let t = and-both (eqb kind (kindCode (kindOf kind))) (turnOk b) q in
         let r = turn-read b l (t .1) in
         turned p (eqb-true kind (kindCode (kindOf kind)) (t .0)) (r .0) (r .1)
 
@@ -121,16 +121,9 @@ module _ (image b : List ℕ) (l : eventSize ≤ length b) (e : eventOk image b 
 
 -- ---- lists of events
 
-pub events-back : (es : List Event) → Each SizedEvent es → eventsFrom (blocks eventBytes es) ≡ es
-unfolding eventsFrom
-events-back es z =
-    let n : length (blocks eventBytes es) ≡ 55 * length es = length-blocks eventBytes 55 length-event es in
-    let m : length (blocks eventBytes es) / 55 ≡ length es = omega arith in
-    rw m (rw append-nil at (chunks-blocks eventBytes eventFrom 55 length-event SizedEvent event-back es [] z))
-
 pub length-events : (b : List ℕ) → length (eventsFrom b) ≡ eventsIn b
 unfolding eventsFrom
-length-events b = length-chunks eventFrom 55 (eventsIn b) b
+length-events b = length-chunks eventFrom eventSize (eventsIn b) b
 
 -- a list of whole events that break no rule
 module _ (image events : List ℕ) (l : length events ≡ eventSize * eventsIn events)
@@ -145,18 +138,6 @@ module _ (image events : List ℕ) (l : length events ≡ eventSize * eventsIn e
   pub events-forth : AreBytes events → blocks eventBytes (eventsFrom events) ≡ events
   unfolding eventsFrom
   events-forth h =
-      blocks-chunks eventBytes eventFrom 55 (eventsIn events) events
-      (λ i li. event-forth image (drop (55 * i) events) (room i li) (event-at i li) (bytes-drop events (55 * i) h))
-      ∙ take-all (55 * eventsIn events) events (omega arith)
-
-  pub events-sized : Each SizedEvent (eventsFrom events)
-  unfolding eventsFrom
-  events-sized =
-      each-chunks SizedEvent eventFrom 55 (eventsIn events) events
-      (λ i li. event-sized image (drop (55 * i) events) (room i li) (event-at i li))
-
-  pub events-valid : Each Valid (eventsFrom events)
-  unfolding eventsFrom
-  events-valid =
-      each-chunks Valid eventFrom 55 (eventsIn events) events (λ i li. event-valid image (drop (55 * i) events) (room i li)
-      (event-at i li))
+      blocks-chunks eventBytes eventFrom eventSize (eventsIn events) events
+      (λ i li. event-forth image (drop (eventSize * i) events) (room i li) (event-at i li) (bytes-drop events (eventSize * i) h))
+      ∙ take-all (eventSize * eventsIn events) events (omega arith)

@@ -3,7 +3,7 @@
 use mathlib.Core.Path.{_≡_, refl, ap, _∙_}
 use mathlib.Core.Bool.{Bool, not, cond}
 use mathlib.Core.Logic.{ite}
-use mathlib.Core.Option.{Option, none, some}
+use mathlib.Core.Option.{none, some}
 use mathlib.Core.List.{List, [], _∷_, _++_}
 use Prim.Native.Nat.{ℕ, suc, _+_, _*_, _≤_, _<_}
 use native.Mathlib.Decide.{ℕ-discrete}
@@ -13,7 +13,7 @@ use lib.ListN.{length, getD, take, drop, set}
 use borrow.Author.Tests.{eq-eqb, ne-eqb}
 use Rattle.rules.specs.Sizes.{treeCount, treeSize, treesPlace}
 use Rattle.rules.specs.Bytes.{firstBad}
-use Rattle.rules.specs.Machine.{Signal, Tree, Machine, first, refit, put}
+use Rattle.rules.specs.Machine.{Signal, Tree, Machine, first, put}
 use Rattle.rules.specs.Encoding.{noTree, encode}
 use Rattle.fields.specs.Filled.{removeAt}
 use Rattle.encoding.specs.SignalStores.{thread-byte-is}
@@ -34,16 +34,6 @@ module _ (t : ℕ) where
           → ite d (some (x .pending)) (first t l) ≡ none
       go (yes p) h ih = absurd (omega arith)
       go (no p) h ih = ih (omega arith)
-
-  pub put-nowhere : (p : Option (List Signal)) (l : List Tree) → length l ≤ firstTree t l → put t p l ≡ l
-  unfolding firstTree put
-  put-nowhere p [] h = refl
-  put-nowhere p (x ∷ l) h = go (ℕ-discrete (x .thread) t) h (put-nowhere p l)
-    where
-      go : (d : Dec (x .thread ≡ t)) → suc (length l) ≤ ite d 0 (suc (firstTree t l)) → (length l ≤ firstTree t l → put t p l ≡ l)
-          → ite d (refit t p l) (x ∷ put t p l) ≡ x ∷ l
-      go (yes q) h ih = absurd (omega arith)
-      go (no q) h ih = ap (λ r. x ∷ r) (ih (omega arith))
 
   -- there is one
   pub first-thread : (l : List Tree) → firstTree t l < length l → getD l (firstTree t l) noTree .thread ≡ t

@@ -2,7 +2,6 @@
 -- stores into a state's bytes.
 pub mod Lengths
 pub mod Sized
-pub mod Tests
 pub mod Runs
 pub mod Numbers
 pub mod Registers

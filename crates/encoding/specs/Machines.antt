@@ -20,7 +20,8 @@ use Rattle.fields.specs.Put.{part-drop}
 use Rattle.fields.specs.Blocks.{blocks-append, chunks-blocks, pad-full, pad-split}
 use Rattle.encoding.specs.Sized.{SizedThread, SizedTree, Sized}
 use Rattle.encoding.specs.Lengths.{length-thread, length-tree, length-words}
-use Rattle.encoding.specs.Tests.{both, both-hold, zeros-part}
+use Rattle.laws.specs.Logic.{and-both, both-hold}
+use Rattle.fields.specs.Tests.{zeros-part}
 use Rattle.encoding.specs.Runs.{length-chunks, each-chunks, blocks-chunks, padded-forth, padded-tail, byte-forth, glue}
 use Rattle.encoding.specs.Numbers.{nums-back, AreBytes, bytes-drop, nums-forth}
 use Rattle.encoding.specs.Layout.{header, slots, encode-slots, length-before, count-back, thread-on, tree-on}
@@ -73,9 +74,9 @@ state-read state l e =
     let threads = allFrom (threadAtTidy state) 0 threadCount in
     let count = leb n treeCount in
     let trees = allFrom (treeAtTidy state) 0 n in
-    let t = both (threads && count && trees) (isZeros (part state (treesPlace + treeSize * n) (treeSize * (treeCount - n)))) e in
-    let u = both (threads && count) trees (t .0) in
-    let v = both threads count (u .0) in
+    let t = and-both (threads && count && trees) (isZeros (part state (treesPlace + treeSize * n) (treeSize * (treeCount - n)))) e in
+    let u = and-both (threads && count) trees (t .0) in
+    let v = and-both threads count (u .0) in
     let h : n ≤ treeCount = leb-true n treeCount (v .1) in
     record {
       threads = λ i li. rw drop-drop (all-at (threadAtTidy state) 0 threadCount i (v .0) (omega arith) (omega arith));

@@ -16,10 +16,10 @@ use Rattle.rules.specs.Encoding.{presence, valueOr0, registersFrom, threadRaw, 
 use Rattle.rules.specs.WellFormed.{absentZero, runningTidy, threadTidy}
 use Rattle.fields.specs.Runs.{all-at, all-holds}
 use Rattle.fields.specs.Put.{part-at, part-drop}
-use Rattle.fields.specs.Tests.{are-zeros}
+use Rattle.fields.specs.Tests.{are-zeros, zeros-part}
 use Rattle.fields.specs.Blocks.{blocks-append, length-blocks, length-pad, pad-full, pad-split}
 use Rattle.encoding.specs.Sized.{SizedJob, SizedThread}
-use Rattle.encoding.specs.Tests.{both, both-hold, zeros-part}
+use Rattle.laws.specs.Logic.{and-both, both-hold}
 use Rattle.encoding.specs.Runs.{length-chunks, chunks-at, padded-forth, padded-tail, byte-forth, glue}
 use Rattle.encoding.specs.Numbers.{num16-le16, num32-le32, nums-back, AreBytes, bytes-drop, num16-forth, num-forth, num32-forth}
 use Rattle.encoding.specs.Numbers.{nums-forth}
@@ -118,9 +118,9 @@ running-read b l e =
     let count = leb n returnCount in
     let zeros = isZeros (part b (5 + 2 * n) (2 * (returnCount - n))) in
     let present = ltb p (2 ^ registerCount) in
-    let t = both (count && zeros && present) (allFrom (absentZero b) 0 registerCount) e in
-    let u = both (count && zeros) present (t .0) in
-    let v = both count zeros (u .0) in
+    let t = and-both (count && zeros && present) (allFrom (absentZero b) 0 registerCount) e in
+    let u = and-both (count && zeros) present (t .0) in
+    let v = and-both count zeros (u .0) in
     let h : n ≤ returnCount = leb-true n returnCount (v .0) in
     record {
       few = h;

@@ -21,7 +21,8 @@ use Rattle.fields.specs.Blocks.{blocks-append, chunks-blocks, length-pad, pad-s
 use Rattle.fields.specs.Filled.{pad-at}
 use Rattle.encoding.specs.Sized.{SizedSignal, SizedTree}
 use Rattle.encoding.specs.Lengths.{length-signal}
-use Rattle.encoding.specs.Tests.{both, both-hold, zeros-part}
+use Rattle.laws.specs.Logic.{and-both, both-hold}
+use Rattle.fields.specs.Tests.{zeros-part}
 use Rattle.encoding.specs.Runs.{length-chunks, each-chunks, padded-forth, padded-tail, byte-forth, glue}
 use Rattle.encoding.specs.Numbers.{num16-le16, nums-back, AreBytes, bytes-drop, num16-forth, num-forth}
 
@@ -62,7 +63,7 @@ pub signal-read : (b : List ℕ) → signalSize ≤ length b → signalTidy b �
 unfolding signalTidy
 signal-read b l e =
     let n = getD b 2 0 in
-    let t = both (leb n registerCount) (isZeros (part b (valuesPlace + 2 * n) (2 * (registerCount - n)))) e in
+    let t = and-both (leb n registerCount) (isZeros (part b (valuesPlace + 2 * n) (2 * (registerCount - n)))) e in
     let h : n ≤ registerCount = leb-true n registerCount (t .0) in
     record { few = h; zeros = rw part-drop (zeros-part b (valuesPlace + 2 * n) (2 * (registerCount - n)) (omega arith) (t .1)) }
 
@@ -93,9 +94,9 @@ pub tree-read : (b : List ℕ) → treeSize ≤ length b → treeTidy b ≡ true
 unfolding treeTidy signalAtTidy
 tree-read b l e =
     let n = getD b 1 0 in
-    let t = both (leb n pendingCount && allFrom (signalAtTidy b) 0 n)
+    let t = and-both (leb n pendingCount && allFrom (signalAtTidy b) 0 n)
     (isZeros (part b (signalsPlace + signalSize * n) (signalSize * (pendingCount - n)))) e in
-    let u = both (leb n pendingCount) (allFrom (signalAtTidy b) 0 n) (t .0) in
+    let u = and-both (leb n pendingCount) (allFrom (signalAtTidy b) 0 n) (t .0) in
     let h : n ≤ pendingCount = leb-true n pendingCount (u .0) in
     record {
       few = h;

@@ -7,9 +7,9 @@ use native.Mathlib.Numerals.{add-one}
 use native.Mathlib.Omega.{arith}
 use lib.ListN.{length, getD, take, drop, set, length-append, replicate}
 use lib.Seq.{drop-at, split-at, set-split, take-suc, take-suc-set, length-take-le, drop-drop}
-use Rattle.rules.specs.Bytes.{blocks, pad, chunks, part}
+use Rattle.rules.specs.Bytes.{blocks, pad, chunks}
 use Rattle.fields.specs.Each.{Each}
-use Rattle.fields.specs.Put.{put, put-at, put-inside, part-at}
+use Rattle.fields.specs.Put.{put, put-at, put-inside}
 
 regroup : (p a m b q : List ℕ) → p ++ (a ++ m ++ b) ++ q ≡ (p ++ a) ++ m ++ (b ++ q)
 regroup p a m b q = simp append-assoc
@@ -62,13 +62,6 @@ module _ {A : Type 0} (f : A → List ℕ) where
         )
         (put-at (p ++ blocks f (take i xs)) (f (getD xs i d)) (blocks f (drop (suc i) xs) ++ q) (f x) at (e ∙ front p xs i h)
         (same _ ∙ sym (same _)))
-
-    -- and read
-    pub blocks-part : (p q : List ℕ) (xs : List A) (d : A) (at i : ℕ) → at ≡ length p + n * i → i < length xs
-        → part (p ++ blocks f xs ++ q) at n ≡ f (getD xs i d)
-    blocks-part p q xs d at i e h =
-        rw (blocks-cut xs i d h, regroup p (blocks f (take i xs)) (f (getD xs i d)) (blocks f (drop (suc i) xs)) q)
-        (part-at (p ++ blocks f (take i xs)) (f (getD xs i d)) (blocks f (drop (suc i) xs) ++ q) at n (e ∙ front p xs i h) (sym (same _)))
 
 module _ {A : Type 0} (g : List ℕ → A) (n : ℕ) where
   pub chunks-suc : (k : ℕ) (s : List ℕ) → chunks g n (suc k) s ≡ chunks g n k s ++ (g (drop (n * k) s) ∷ [])

@@ -12,6 +12,7 @@ use lib.Seq.{getD-drop, drop-drop, take-add}
 use borrow.Author.Tests.{eqb-true, eqb-false, eq-eqb, ne-eqb, not-true, not-false}
 use Rattle.rules.specs.Bytes.{num16, num32, part, isZeros, allFrom, firstBad}
 use Rattle.fields.specs.Numbers.{num64}
+use Rattle.fields.specs.Put.{length-part}
 
 -- ---- every byte is zero
 
@@ -171,6 +172,10 @@ zeros-are (x ∷ l) e = go (eqb x 0) refl e (zeros-are l)
         → x ∷ l ≡ 0 ∷ replicate (length l) 0
     go true p q r = rw (eqb-true x 0 p) (ap (λ t. 0 ∷ t) (r q))
     go false p q r = absurd (let z : _≡_ {A = ℕ} 0 1 = cc in omega arith)
+
+-- of a part, which lies within the list
+pub zeros-part : (s : List ℕ) (i n : ℕ) → i + n ≤ length s → isZeros (part s i n) ≡ true → part s i n ≡ replicate n 0
+zeros-part s i n l e = rw (length-part s i n l) at (zeros-are (part s i n) e)
 
 pub are-zeros : (n : ℕ) → isZeros (replicate n 0) ≡ true
 unfolding isZeros

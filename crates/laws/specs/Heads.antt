@@ -1,6 +1,6 @@
 -- What the head of a record that breaks no rule has: a block of the table, as many operands as there are places, and what its opcode
 -- asks for.
-use mathlib.Core.Path.{_≡_, refl}
+use mathlib.Core.Path.{_≡_}
 use mathlib.Core.Bool.{Bool, true, false, cond, not, _&&_, false≢true}
 use mathlib.Core.Option.{Option, none, some}
 use mathlib.Core.List.{List}

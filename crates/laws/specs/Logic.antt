@@ -25,3 +25,7 @@ or-cases false b h = inr h
 pub and-both : (a b : Bool) → a && b ≡ true → (a ≡ true) × (b ≡ true)
 and-both true b h = (refl, h)
 and-both false b h = absurd (false≢true h)
+
+pub both-hold : (a b : Bool) → a ≡ true → b ≡ true → a && b ≡ true
+both-hold true b e f = f
+both-hold false b e f = absurd (false≢true e)

@@ -1,12 +1,11 @@
 -- The events of call after call, joined in call order, are one event list: the one-by-one reading of a list of calls.
 use mathlib.Core.Path.{_≡_, refl, sym, ap, _∙_}
-use mathlib.Core.List.{List, [], _∷_, _++_, map, flatten}
+use mathlib.Core.List.{List, [], _∷_, _++_, flatten}
 use Prim.Native.Nat.{ℕ}
 use Rattle.rules.specs.Machine.{Machine, fresh}
 use Rattle.rules.specs.Events.{Event}
-use Rattle.rules.specs.Steps.{Rules, react, answers, final}
+use Rattle.rules.specs.Steps.{Rules, answers, final}
 use Rattle.rules.specs.Order.{Entry, order, events, log}
-use Rattle.rules.specs.declared.answer.Answer.{Answer}
 use Rattle.laws.specs.EventLists.{log-append, final-append}
 use Rattle.soundness.specs.Laws.{Laws}
 use Rattle.one_by_one.specs.Reading.{OneByOne, AllValid, one-by-one}

@@ -31,13 +31,14 @@ module _ (image r : List ℕ) where
   abbrev found : Option Operation
   found = operationAt (opcode r) (operator r)
 
-  pub too-many : 25 < operands r → outlineOk image r ≡ false
+  pub too-many : operandCount < operands r → outlineOk image r ≡ false
   unfolding outlineOk formOk
   too-many h = go (shapeOk found r) refl
     where
-      go : (q : Bool) → shapeOk found r ≡ q → (ltb (blockField r) 16 && ltb (entry r) 4 && (q && labelsOk image r (statementOf r))) ≡ false
+      go : (q : Bool) → shapeOk found r ≡ q
+          → (ltb (blockField r) blockCount && ltb (entry r) 4 && (q && labelsOk image r (statementOf r))) ≡ false
       go true e = absurd (omega (arith, few-by found r e))
-      go false e = and-false (ltb (blockField r) 16 && ltb (entry r) 4)
+      go false e = and-false (ltb (blockField r) blockCount && ltb (entry r) 4)
 
   -- where the block and the entry are in range, the rest is what the opcode asks for
   pub begun : (ltb (blockField r) blockCount && ltb (entry r) 4) ≡ true → outlineOk image r ≡ formOk image r
@@ -63,7 +64,7 @@ module _ (image r : List ℕ) where
   unfolding otherOk
   form-other s e = rw e refl
 
-  -- an opcode with data: no operator, and any count of operands up to 25
+  -- an opcode with data: no operator, and any count of operands
   pub form-carried : (s : Statement) → otherAt r ≡ some s → usage s .operators ≡ 0 → usage s .sources ≡ carried → operands r ≤ operandCount
       → (otherOk r && labelsOk image r (otherOf r)) ≡ (eqb (operator r) 0 && labelsOk image r s)
   form-carried s e f g h = form-other s e ∙ rw (f, g, le-leb (operands r) operandCount h, and-true) refl

@@ -1,7 +1,7 @@
 -- What holds of every event, by any rules: an end clears its own thread to idle; no other answer releases a lock; and a thread
 -- that runs starts nothing.
 use mathlib.Core.Path.{_≡_, refl}
-use mathlib.Core.Bool.{Bool, true, false, cond}
+use mathlib.Core.Bool.{Bool, true, false, cond, false≢true}
 use mathlib.Core.Option.{Option, none, some}
 use mathlib.Core.List.{List, [], _∷_}
 use Prim.Native.Nat.{ℕ, zero, suc, _^_, _/_, _%_}
@@ -16,7 +16,6 @@ use Rattle.rules.specs.Events.{Kind, stepping, cutting, Event, arrive, t
 use Rattle.rules.specs.Steps.{Effect, traps, exits, moves, Rules, Move, Plan, stay, grow, move, finish, planArrive, planIdle}
 use Rattle.rules.specs.Steps.{planRunning, planStep, planCut, planTurn, plan, blocked, grant, attempt, carry, react, home, founded}
 use Rattle.rules.specs.declared.answer.Answer.the-variants.{ListFull, Started, WasCut}
-use Rattle.rules.proofs.Running.{never}
 
 -- ---- one thread of the list is set
 
@@ -51,19 +50,19 @@ Ends o (finish t a) = (sort a ≡ close) × (o ≡ some t)
 module _ (R : Rules) where
   arrive-ends : (g : Signal) (room : Bool) → Ends none (cond room (grow (founded R g)) (stay ListFull))
   arrive-ends g true = tt
-  arrive-ends g false = λ e. never (cc)
+  arrive-ends g false = λ e. absurd (false≢true (cc))
 
   idle-ends : (t : ℕ) (f : Option (List Signal)) → Ends (some t) (planIdle R t f)
   unfolding planIdle
-  idle-ends t none = λ e. never (cc)
-  idle-ends t (some []) = λ e. never (cc)
-  idle-ends t (some (g ∷ p)) = λ e. never (cc)
+  idle-ends t none = λ e. absurd (false≢true (cc))
+  idle-ends t (some []) = λ e. absurd (false≢true (cc))
+  idle-ends t (some (g ∷ p)) = λ e. absurd (false≢true (cc))
 
   running-ends : (t b : ℕ) (p : List Signal) (x : Effect) → Ends (some t) (planRunning t b p x)
   unfolding planRunning
   running-ends t b p (traps r) = (refl, refl)
   running-ends t b p exits = (refl, refl)
-  running-ends t b p (moves j words g want) = λ e. never (cc)
+  running-ends t b p (moves j words g want) = λ e. absurd (false≢true (cc))
 
   step-ends : (t : ℕ) (w : ThreadState) (f : Option (List Signal)) (words : List ℕ) → Ends (some t) (planStep R t w f words)
   unfolding planStep
@@ -72,7 +71,7 @@ module _ (R : Rules) where
 
   cut-ends : (t : ℕ) (w : ThreadState) → Ends (some t) (planCut t w)
   unfolding planCut
-  cut-ends t idle = λ e. never (cc)
+  cut-ends t idle = λ e. absurd (false≢true (cc))
   cut-ends t (running locks j) = (refl, refl)
 
   turn-ends : (k : Kind) (t : ℕ) (w : ThreadState) (f : Option (List Signal)) (words : List ℕ) → Ends (some t) (planTurn R k t w f words)
@@ -90,13 +89,13 @@ module _ (R : Rules) where
       → sort (attempt R t m s o .answer) ≡ close → ⊥
   unfolding attempt
   waiting-ends s t m none n c = n c
-  waiting-ends s t m (some l) n c = never (cc)
+  waiting-ends s t m (some l) n c = absurd (false≢true (cc))
 
   carry-ends : (s : Machine) (e : Event) (t : ℕ) → threadOf e ≡ some t → (p : Plan) → Ends (threadOf e) p
       → sort (carry R s p .answer) ≡ close → threadAt (carry R s p .state) t ≡ idle
   unfolding carry
   carry-ends s e t h (stay a) n c = absurd (n c)
-  carry-ends s e t h (grow x) n c = never (cc)
+  carry-ends s e t h (grow x) n c = absurd (false≢true (cc))
   carry-ends s e t h (move u m) n c = absurd (waiting-ends s u m (blocked R u (s .threads) (m .want)) n c)
   carry-ends s e t h (finish u a) n c = let same : t ≡ u = cc (h, n .1) in rw same (set-idle (s .threads) u)
 
@@ -134,13 +133,13 @@ module _ (R : Rules) where
   attempt-starts : (s : Machine) (t : ℕ) (m : Move) (o : Option ℕ) → (m .answer ≡ Started → ⊥) → attempt R t m s o .answer ≡ Started → ⊥
   unfolding attempt
   attempt-starts s t m none n e = n e
-  attempt-starts s t m (some l) n e = never (cc)
+  attempt-starts s t m (some l) n e = absurd (false≢true (cc))
 
   running-starts : (s : Machine) (t b : ℕ) (p : List Signal) (x : Effect) → carry R s (planRunning t b p x) .answer ≡ Started → ⊥
   unfolding planRunning carry
-  running-starts s t b p (traps r) e = never (cc)
-  running-starts s t b p exits e = never (cc)
-  running-starts s t b p (moves j words g want) e = attempt-starts s t _ (blocked R t (s .threads) want) (λ q. never (cc)) e
+  running-starts s t b p (traps r) e = absurd (false≢true (cc))
+  running-starts s t b p exits e = absurd (false≢true (cc))
+  running-starts s t b p (moves j words g want) e = attempt-starts s t _ (blocked R t (s .threads) want) (λ q. absurd (false≢true (cc))) e
 
   pub starts-nothing : (s : Machine) (t locks : ℕ) (j : Job) → threadAt s t ≡ running locks j → react R s (step t) .answer ≡ Started → ⊥
   unfolding react plan planStep

@@ -1,7 +1,7 @@
--- The marked trials of docs/MACHINE.md, as one table, and what they are proved with.
+-- The marked trials of docs/PROMISES.md, as one table, and what they are proved with.
 pub mod Running
 pub mod Ends
 pub mod Opcodes
 pub mod Assigning
-pub mod OnBytes
+pub mod Waits
 pub mod Trials

@@ -9,6 +9,7 @@ use lib.Bits.{bitOr}
 use lib.ListN.{length, getD, drop, replicate, length-map}
 use lib.Seq.{getD-append-add, getD-drop}
 use borrow.Author.Tests.{le-leb, lt-leb}
+use Rattle.rules.specs.Sizes.{registerCount, returnCount, pendingCount}
 use Rattle.rules.specs.Image.{recordAt, labelA, labelB, rowAt}
 use Rattle.rules.specs.Machine.{Signal, Job, job, ThreadState, idle, running, Machine, threadAt, fill, first, put}
 use Rattle.rules.specs.Events.{step}
@@ -45,37 +46,38 @@ module _ (image table : List ℕ) {s : Machine} {t locks : ℕ} {j : Job} {value
   unfolding perform blocked
   return r a l e = moves-on image table r _ (wordsOf image s j) none none (rw e) refl
 
-  pub call-trap : Runs image s t locks j Call values → 8 ≤ length (j .returns) → stepOf image table s t .answer ≡ Trapped 3
+  pub call-trap : Runs image s t locks j Call values → returnCount ≤ length (j .returns) → stepOf image table s t .answer ≡ Trapped 3
   unfolding perform
-  call-trap r h = trapped image table r 3 (rw (le-leb 8 (length (j .returns)) h))
+  call-trap r h = trapped image table r 3 (rw (le-leb returnCount (length (j .returns)) h))
 
-  pub call : Runs image s t locks j Call values → length (j .returns) < 8 → Open image table s t (A image j)
+  pub call : Runs image s t locks j Call values → length (j .returns) < returnCount → Open image table s t (A image j)
       → MovesOn (stepOf image table s t) t (bitOr locks (2 ^ rowAt table (blockAt image (A image j)) .lock))
       (job (A image j) (j .returns ++ B image j ∷ []) (fill values))
   unfolding perform
   call r h o =
-      moves-on image table r _ (wordsOf image s j) none (some (blockAt image (A image j))) (rw (lt-leb 8 (length (j .returns)) h, o .own))
+      moves-on image table r _ (wordsOf image s j) none (some (blockAt image (A image j)))
+      (rw (lt-leb returnCount (length (j .returns)) h, o .own))
       (o .free)
 
-  pub send-trap : Runs image s t locks j SendBuffered values → (p : List Signal) → first t (s .trees) ≡ some p → 8 ≤ length p
+  pub send-trap : Runs image s t locks j SendBuffered values → (p : List Signal) → first t (s .trees) ≡ some p → pendingCount ≤ length p
       → stepOf image table s t .answer ≡ Trapped 4
   unfolding perform
-  send-trap r p e h = trapped image table r 4 (rw (e, le-leb 8 (length p) h))
+  send-trap r p e h = trapped image table r 4 (rw (e, le-leb pendingCount (length p) h))
 
-  pub send : Runs image s t locks j SendBuffered values → (p : List Signal) → first t (s .trees) ≡ some p → length p < 8
+  pub send : Runs image s t locks j SendBuffered values → (p : List Signal) → first t (s .trees) ≡ some p → length p < pendingCount
       → MovesOn (stepOf image table s t) t locks (job (B image j) (j .returns) (j .registers))
   unfolding perform blocked
   send r p e h =
       moves-on image table r _ (wordsOf image s j) (some (record { label = A image j; values = values })) none
-      (rw (e, lt-leb 8 (length p) h)) refl
+      (rw (e, lt-leb pendingCount (length p) h)) refl
 
-  pub send-kept : Runs image s t locks j SendBuffered values → (p : List Signal) → first t (s .trees) ≡ some p → length p < 8
+  pub send-kept : Runs image s t locks j SendBuffered values → (p : List Signal) → first t (s .trees) ≡ some p → length p < pendingCount
       → stepOf image table s t .state .trees ≡ put t (some (p ++ record { label = A image j; values = values } ∷ [])) (s .trees)
   unfolding perform blocked
   send-kept r p e h =
       own-tree image table r (job (B image j) (j .returns) (j .registers)) (wordsOf image s j)
       (some (record { label = A image j; values = values })) none
-      (rw (e, lt-leb 8 (length p) h)) refl
+      (rw (e, lt-leb pendingCount (length p) h)) refl
       ∙ rw e
 
   pub direct : Runs image s t locks j SendDirect values → Open image table s t (A image j)
@@ -138,4 +140,4 @@ module _ (image table : List ℕ) {s : Machine} {t locks : ℕ} {j : Job} {value
       → register (threadAt (stepOf image table s t .state) t) r ≡ none
   direct-clears w o r h =
       rw (direct image table w o .thread)
-      (past values (replicate (25 - length values) none) r h ∙ absent (25 - length values) (r - length values))
+      (past values (replicate (registerCount - length values) none) r h ∙ absent (registerCount - length values) (r - length values))

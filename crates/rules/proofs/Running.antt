@@ -1,5 +1,6 @@
 -- What a step of a running thread comes to, once the statement at its label and the values that it reads are known.
 use mathlib.Core.Path.{_≡_, refl}
+use mathlib.Core.Bool.{false≢true}
 use mathlib.Core.Option.{Option, none, some}
 use mathlib.Core.List.{List, [], _∷_, _++_}
 use Prim.Native.Nat.{ℕ, zero, suc, _<_}
@@ -45,13 +46,9 @@ pub record MovesOn (reply : Reply) (t locks : ℕ) (j : Job) : Type 0 where
   pub answer : Answered reply 6 0
   pub thread : threadAt (reply .state) t ≡ running locks j
 
--- what follows from 0 ≡ 1
-pub never : {A : Type 0} → _≡_ {A = ℕ} 0 1 → A
-never e = absurd (omega arith)
-
 -- a thread that runs is one of the list
 in-range : (ws : List ThreadState) (t : ℕ) {locks : ℕ} {j : Job} → getD ws t idle ≡ running locks j → t < length ws
-in-range [] t e = never (cc)
+in-range [] t e = absurd (false≢true (cc))
 in-range (w ∷ ws) zero e = zero-lt-suc (length ws)
 in-range (w ∷ ws) (suc t) e = let h : t < length ws = in-range ws t e in omega arith
 

@@ -1,9 +1,11 @@
--- The marked trials of docs/MACHINE.md as one table. What is common to all threads, locks and widths is said over the number: of any image
--- and block table, and of any machine s, thread t of it, lock set, job j and values. The trials are computed on bytes besides (OnBytes).
+-- The marked trials of docs/PROMISES.md as one table. What is common to all threads, locks and widths is said over the number: of any image
+-- and block table, and of any machine s, thread t of it, lock set, job j and values.
+-- Numbers are docs/MACHINE.md's own, not the law's names of them, so that a wrong size in the law fails here. The trials are computed on
+-- bytes besides, in crate byte_trials.
 use mathlib.Core.Path.{_≡_, refl, ap, _∙_}
 use mathlib.Core.Logic.{_≢_}
 use mathlib.Core.Bool.{true, false, cond, and-false}
-use mathlib.Core.Option.{none, some}
+use mathlib.Core.Option.{Option, none, some}
 use mathlib.Core.List.{List, [], _∷_, _++_}
 use Prim.Native.Nat.{ℕ, _+_, _*_, _^_, _<_, _≤_}
 use native.Mathlib.Omega.{arith}
@@ -19,8 +21,9 @@ use Rattle.rules.specs.Machine.{Signal, Job, job, ThreadState, idle, run
 use Rattle.rules.specs.Encoding.{threadRaw, threadBytes, encode, machineFrom}
 use Rattle.rules.specs.Answers.{code, detail, close, sort}
 use Rattle.rules.specs.Events.{Event, arrive, step, cut, threadOf, eventsFrom}
-use Rattle.rules.specs.Steps.{Rules, rulesBy, newest, older, alien, blockAt, blocked}
+use Rattle.rules.specs.Steps.{Rules, rulesBy, newest, older, alien, blockAt, held, blocked}
 use Rattle.rules.specs.Steps.{planArrive, plan, carry, react, final, grown, founded}
+use Rattle.rules.specs.Walk.{walk, metCount}
 use Rattle.rules.specs.Calls.{stateLengthFault, stateFault, eventsLengthFault, eventFault, answersLengthFault, runReturn, runState}
 use Rattle.rules.specs.declared.statement.Relation.the-variants.{Equal, Less}
 use Rattle.rules.specs.declared.statement.Condition.{Condition}
@@ -31,7 +34,7 @@ use Rattle.rules.proofs.Opcodes as opcodes
 use Rattle.rules.proofs.Opcodes.{stepOf, Open, A, B, register}
 use Rattle.rules.proofs.Ends.{ends, locks-kept, starts-nothing, cut-answer, cut-idle}
 use Rattle.rules.proofs.Assigning.{Stores, sum, difference, product}
-use Rattle.rules.proofs.OnBytes.{OnBytes, onBytes}
+use Rattle.rules.proofs.Waits as waits
 
 -- in the bytes of a thread the lock set, the return count and the presence set are 0
 pub record Cleared (w : ThreadState) : Type 0 where
@@ -84,8 +87,6 @@ module _ (image table state : List ℕ)
   no-events-state = rw no-events-return
 
 pub record Trials (image table : List ℕ) (s : Machine) (t locks : ℕ) (j : Job) (values : List ℕ) : Type 0 where
-  -- the trials as the document tells them, on bytes
-  pub bytes : OnBytes
   -- "65,535 + 1 is 0": a step at a record of ASSIGN, operator 2, of this p and q stores this; and of any p and q their sum modulo 65,536
   pub sum-wraps : Stores image table s t locks j addCode 65535 1 0
   pub sums : (p q v m : ℕ) → v < 65536 → p + q ≡ v + 65536 * m → Stores image table s t locks j addCode p q v
@@ -162,11 +163,17 @@ pub record Trials (image table : List ℕ) (s : Machine) (t locks : ℕ) (j : Jo
       → MovesOn (stepOf image table s t) t locks (job (B image j) (j .returns) (j .registers))
   -- also: while a job runs, its tree's next signal is not started
   pub starts-nothing : (R : Rules) → threadAt s t ≡ running locks j → react R s (step t) .answer ≡ Started → ⊥
+  -- also: a lock hinders a thread only where another holds it
+  pub own-lock : (R : Rules) (b : ℕ) (before after : List ThreadState) → held (R .lock b) before ≡ false → held (R .lock b) after ≡ false
+      → blocked R (length before) (before ++ running locks j ∷ after) (some b) ≡ none
+  -- also: two threads that wait for each other: the walk writes both once and reports the ring; one that does not wait is written alone
+  pub walk-ring : (next : ℕ → Option ℕ) → next 1 ≡ some 0 → next 0 ≡ some 1
+      → (walk next 8 1 .threads ≡ 1 ∷ 0 ∷ []) × (metCount (walk next 8 1) ≡ 258)
+  pub walk-alone : (next : ℕ → Option ℕ) → next 2 ≡ none → (walk next 8 2 .threads ≡ 2 ∷ []) × (metCount (walk next 8 2) ≡ 1)
 
 pub trials : (image table : List ℕ) (s : Machine) (t locks : ℕ) (j : Job) (values : List ℕ) → Trials image table s t locks j values
-unfolding code detail final
+unfolding code detail final metCount
 trials image table s t locks j values = record {
-  bytes = onBytes;
   sum-wraps = sum image table s t locks j 65535 1 0 1 (omega arith) refl;
   sums = sum image table s t locks j;
   difference-wraps = difference image table s t locks j 0 1 65535 1 (omega arith) (omega arith) (omega arith) refl;
@@ -207,4 +214,7 @@ trials image table s t locks j values = record {
   cut-job = λ R h. rw (cut-idle R s t locks j h);
   buffered-keeps = opcodes.send image table;
   starts-nothing = λ R. starts-nothing R s t locks j;
+  own-lock = λ R b. waits.own-lock R b locks j;
+  walk-ring = λ next e f. rw (waits.ring next e f) (refl, refl);
+  walk-alone = λ next e. rw (waits.alone next e) (refl, refl);
 }

@@ -7,11 +7,11 @@ use mathlib.Core.Option.{Option, none, some}
 use mathlib.Core.List.{List, [], _∷_}
 use Prim.Native.Nat.{ℕ, _<_}
 use native.Mathlib.Omega.{arith}
-use lib.Dec.{eqb, ltb, leb}
+use lib.Dec.{eqb, ltb}
 use borrow.Author.Tests.{ltb-true, eqb-true, eqb-false, eq-eqb}
 use Rattle.rules.specs.Sizes.{lockCount, blockKindCount, blockCount}
 use Rattle.rules.specs.Codes.{fdCode, cmxCode}
-use Rattle.rules.specs.Image.{labels, recordAt, opcode, blockField, entry, operator, labelA, labelB, operands, kind, Row, rowAt}
+use Rattle.rules.specs.Image.{labels, recordAt, blockField, entry, labelA, labelB, kind, Row, rowAt}
 use Rattle.rules.specs.Statements.{statementOf, roleA, roleB, dataOf}
 use Rattle.rules.specs.Check.{labelOk, recordOk}
 use Rattle.rules.specs.Machine.{Signal, Job}
@@ -24,7 +24,7 @@ use Rattle.fields.specs.Each.{Each, each-append}
 use Rattle.laws.specs.Roles.{Leads, Sends, Refers, refers}
 use Rattle.laws.specs.Heads.{Head, head-fields}
 use Rattle.laws.specs.Passed.{Passed, row-in, Parts, rule-parts}
-use Rattle.encoding.specs.Tests.{both}
+use Rattle.laws.specs.Logic.{and-both}
 use Rattle.soundness.specs.Sound.{PlaceIn, PendingIn}
 
 module _ (image table : List ℕ) where
@@ -39,15 +39,15 @@ module _ (image table : List ℕ) where
   pub label-in : (role : Role) (b v : ℕ) → labelOk image role b v ≡ true → LabelIn b role v
   unfolding labelOk
   label-in Unused b v h = tt
-  label-in Inner b v h = let k = both (ltb v (labels image)) _ h in (ltb-true v _ (k .0), eqb-true _ b (k .1))
-  label-in Direct b v h = ltb-true v _ (both (ltb v (labels image)) (eqb (entry (recordAt image v)) 1) h .0)
+  label-in Inner b v h = let k = and-both (ltb v (labels image)) _ h in (ltb-true v _ (k .0), eqb-true _ b (k .1))
+  label-in Direct b v h = ltb-true v _ (and-both (ltb v (labels image)) (eqb (entry (recordAt image v)) 1) h .0)
   label-in Local b v h =
       let k =
-      both (ltb v (labels image)) _
-      (both (ltb v (labels image) && eqb (blockField (recordAt image v)) b) (eqb (entry (recordAt image v)) 1) h .0)
+      and-both (ltb v (labels image)) _
+      (and-both (ltb v (labels image) && eqb (blockField (recordAt image v)) b) (eqb (entry (recordAt image v)) 1) h .0)
       in
       (ltb-true v _ (k .0), eqb-true _ b (k .1))
-  label-in Buffered b v h = eqb-true _ 2 (both (ltb v (labels image)) (eqb (entry (recordAt image v)) 2) h .1)
+  label-in Buffered b v h = eqb-true _ 2 (and-both (ltb v (labels image)) (eqb (entry (recordAt image v)) 2) h .1)
 
   module _ (passed : Passed image table) where
     pub parts : (l : ℕ) → l < labels image → Parts image (recordAt image l)

@@ -16,7 +16,7 @@ use Rattle.rules.specs.Bytes.{has, every}
 use Rattle.rules.specs.Machine.{ThreadState, idle, locksOf}
 use Rattle.rules.specs.WellFormed.{apart}
 use Rattle.laws.specs.Sets.{has-none}
-use Rattle.encoding.specs.Tests.{both, both-hold}
+use Rattle.laws.specs.Logic.{and-both, both-hold}
 
 -- no lock is in both
 abbrev pub Disjoint : ℕ → ℕ → Type 0
@@ -62,8 +62,8 @@ clear w v = eqb (bitAnd (locksOf w) (locksOf v)) 0
 clear-at : (w : ThreadState) (ws : List ThreadState) (k : ℕ) → every (clear w) ws ≡ true → Disjoint (locksOf w) (locksOf (getD ws k idle))
 unfolding every
 clear-at w [] k h = λ l e. has-none l
-clear-at w (v ∷ ws) zero h = zero-disjoint _ _ (eqb-true _ 0 (both (clear w v) (every (clear w) ws) h .0))
-clear-at w (v ∷ ws) (suc k) h = clear-at w ws k (both (clear w v) (every (clear w) ws) h .1)
+clear-at w (v ∷ ws) zero h = zero-disjoint _ _ (eqb-true _ 0 (and-both (clear w v) (every (clear w) ws) h .0))
+clear-at w (v ∷ ws) (suc k) h = clear-at w ws k (and-both (clear w v) (every (clear w) ws) h .1)
 
 turned : (a b : ℕ) → Disjoint a b → Disjoint b a
 turned a b d l h = case (has l a) refl
@@ -80,9 +80,10 @@ pub apart-disjoint : (ws : List ThreadState) → apart ws ≡ true → AllDisjoi
 unfolding apart
 apart-disjoint [] h t u l n e = has-none l
 apart-disjoint (w ∷ ws) h zero zero l n e = absurd (n refl)
-apart-disjoint (w ∷ ws) h zero (suc u) l n e = clear-at w ws u (both (every (clear w) ws) (apart ws) h .0) l e
-apart-disjoint (w ∷ ws) h (suc t) zero l n e = turned _ _ (clear-at w ws t (both (every (clear w) ws) (apart ws) h .0)) l e
-apart-disjoint (w ∷ ws) h (suc t) (suc u) l n e = apart-disjoint ws (both (every (clear w) ws) (apart ws) h .1) t u l (λ p. n (ap suc p)) e
+apart-disjoint (w ∷ ws) h zero (suc u) l n e = clear-at w ws u (and-both (every (clear w) ws) (apart ws) h .0) l e
+apart-disjoint (w ∷ ws) h (suc t) zero l n e = turned _ _ (clear-at w ws t (and-both (every (clear w) ws) (apart ws) h .0)) l e
+apart-disjoint (w ∷ ws) h (suc t) (suc u) l n e =
+    apart-disjoint ws (and-both (every (clear w) ws) (apart ws) h .1) t u l (λ p. n (ap suc p)) e
 
 all-clear : (w : ThreadState) (ws : List ThreadState) → ((k : ℕ) → Disjoint (locksOf w) (locksOf (getD ws k idle)))
     → every (clear w) ws ≡ true

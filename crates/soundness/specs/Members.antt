@@ -6,7 +6,7 @@ use Prim.Native.Nat.{ℕ, zero, suc}
 use lib.ListN.{getD, set}
 use Rattle.rules.specs.Bytes.{every}
 use Rattle.fields.specs.Each.{Each}
-use Rattle.encoding.specs.Tests.{both, both-hold}
+use Rattle.laws.specs.Logic.{and-both, both-hold}
 
 module _ {A : Type 0} where
   pub each-member : (P : A → Type 0) (l : List A) → Each P l → (x : A) → List·Memᴰ x l → P x
@@ -26,7 +26,7 @@ module _ {A : Type 0} where
   pub every-each : (ok : A → Bool) (l : List A) → every ok l ≡ true → Each (λ x. ok x ≡ true) l
   unfolding every
   every-each ok [] h = tt
-  every-each ok (x ∷ l) h = let k = both (ok x) (every ok l) h in (k .0, every-each ok l (k .1))
+  every-each ok (x ∷ l) h = let k = and-both (ok x) (every ok l) h in (k .0, every-each ok l (k .1))
 
   pub each-every : (ok : A → Bool) (l : List A) → Each (λ x. ok x ≡ true) l → every ok l ≡ true
   unfolding every

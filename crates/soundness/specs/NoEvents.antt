@@ -18,7 +18,7 @@ use Rattle.rules.specs.WellFormed.{stateTidy, machineOk, wellFormed}
 use Rattle.rules.specs.Calls.{accepts, stateLengthFault, stateFault, eventsLengthFault, eventFault, answersLengthFault}
 use Rattle.rules.specs.Calls.{runReturn, runState, runAnswers}
 use Rattle.laws.specs.Faults.{first-of-zero, refusal-zero, checked-of, checked-rest}
-use Rattle.encoding.specs.Tests.{both}
+use Rattle.laws.specs.Logic.{and-both}
 use Rattle.encoding.specs.Numbers.{AreBytes}
 use Rattle.encoding.specs.Machines.{machine-forth}
 use Rattle.soundness.specs.States.{Ready}
@@ -35,7 +35,7 @@ module _ (image table state : List ℕ) where
   ready-bytes b k =
       let size : length state ≡ stateSize = eqb-true (length state) stateSize (refusal-zero _ 5 0 (omega arith) (k .size)) in
       let formed : wellFormed image table state ≡ true = refusal-zero _ 6 0 (omega arith) (k .formed) in
-      machine-forth state b size (both (stateTidy state) (machineOk image table (machineFrom state)) formed .0)
+      machine-forth state b size (and-both (stateTidy state) (machineOk image table (machineFrom state)) formed .0)
 
   -- RETURN 0, of an image and a table that pass the check, and an accepted state
   pub no-events-return : Checked image table → Ready image table state → runReturn image table state [] [] ≡ 0

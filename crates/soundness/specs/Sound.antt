@@ -17,10 +17,9 @@ use Rattle.rules.specs.Machine.{Signal, Tree, Job, ThreadState, idle, running, 
 use Rattle.rules.specs.Steps.{rulesBy, blockAt}
 use Rattle.rules.specs.WellFormed.{openTo, placeOk, threadOk, threadsOk, pendingOk, treeOk, homed, queueOk, queuesOk, apart, machineOk}
 use Rattle.fields.specs.Each.{Each}
-use Rattle.laws.specs.Logic.{never}
+use Rattle.laws.specs.Logic.{never, and-both, both-hold}
 use Rattle.soundness.specs.Laws.{Needs}
 use Rattle.soundness.specs.Invariant.{Invariant}
-use Rattle.encoding.specs.Tests.{both, both-hold}
 use Rattle.soundness.specs.Queues.{queue-there, headPending, first-queue}
 use Rattle.soundness.specs.Disjoint.{apart-disjoint, disjoint-apart}
 use Rattle.soundness.specs.Members.{each-member, member-each, every-each, each-every, member-map, map-member}
@@ -66,9 +65,9 @@ module _ (image table : List ℕ) where
   unfolding placeOk
   place-parts t locks l h =
       let all =
-      both (ltb l (labels image) && has (rowAt table (blockAt image l) .lock) locks) (openTo (rowAt table (blockAt image l)) t) h
+      and-both (ltb l (labels image) && has (rowAt table (blockAt image l) .lock) locks) (openTo (rowAt table (blockAt image l)) t) h
       in
-      let front = both (ltb l (labels image)) (has (rowAt table (blockAt image l) .lock) locks) (all .0) in
+      let front = and-both (ltb l (labels image)) (has (rowAt table (blockAt image l) .lock) locks) (all .0) in
       (record { below = ltb-true l (labels image) (front .0); allowed = all .1 }, front .1)
 
   place-whole : (t locks l : ℕ) → PlaceIn t l → has (rowAt table (blockAt image l) .lock) locks ≡ true
@@ -82,7 +81,7 @@ module _ (image table : List ℕ) where
   tree-parts : (x : Tree) → treeOk image table x ≡ true → TreeIn x
   unfolding treeOk
   tree-parts x h =
-      let k = both (ltb (x .thread) threadCount) (every (pendingOk image table) (x .pending)) h in
+      let k = and-both (ltb (x .thread) threadCount) (every (pendingOk image table) (x .pending)) h in
       record { thread = ltb-true (x .thread) threadCount (k .0); pending = every-each (pendingOk image table) (x .pending) (k .1) }
 
   tree-whole : (x : Tree) → TreeIn x → treeOk image table x ≡ true
@@ -110,10 +109,10 @@ module _ (image table : List ℕ) where
       → threadOk image table (t + k) (getD ws k idle) ≡ true
   unfolding threadsOk threadOk
   threads-at t [] h k = refl
-  threads-at t (w ∷ ws) h zero = rw (add-zero t) (both (threadOk image table t w) (threadsOk image table (t + 1) ws) h .0)
+  threads-at t (w ∷ ws) h zero = rw (add-zero t) (and-both (threadOk image table t w) (threadsOk image table (t + 1) ws) h .0)
   threads-at t (w ∷ ws) h (suc k) =
       ap (λ n. threadOk image table n (getD ws k idle)) (sym (next t k))
-      ∙ threads-at (t + 1) ws (both (threadOk image table t w) (threadsOk image table (t + 1) ws) h .1) k
+      ∙ threads-at (t + 1) ws (and-both (threadOk image table t w) (threadsOk image table (t + 1) ws) h .1) k
 
   threads-whole : (t : ℕ) (ws : List ThreadState) → ((k : ℕ) → threadOk image table (t + k) (getD ws k idle) ≡ true)
       → threadsOk image table t ws ≡ true
@@ -127,10 +126,10 @@ module _ (image table : List ℕ) where
       → queueOk image table (getD ws k idle) (queue (t + k) l) ≡ true
   unfolding queuesOk
   queues-at t [] l h k n = absurd (omega arith)
-  queues-at t (w ∷ ws) l h zero n = rw (add-zero t) (both (queueOk image table w (queue t l)) (queuesOk image table (t + 1) ws l) h .0)
+  queues-at t (w ∷ ws) l h zero n = rw (add-zero t) (and-both (queueOk image table w (queue t l)) (queuesOk image table (t + 1) ws l) h .0)
   queues-at t (w ∷ ws) l h (suc k) n =
       ap (λ m. queueOk image table (getD ws k idle) (queue m l)) (sym (next t k))
-      ∙ queues-at (t + 1) ws l (both (queueOk image table w (queue t l)) (queuesOk image table (t + 1) ws l) h .1) k (omega arith)
+      ∙ queues-at (t + 1) ws l (and-both (queueOk image table w (queue t l)) (queuesOk image table (t + 1) ws l) h .1) k (omega arith)
 
   queues-whole : (t : ℕ) (ws : List ThreadState) (l : List Tree)
       → ((k : ℕ) → queueOk image table (getD ws k idle) (queue (t + k) l) ≡ true) → queuesOk image table t ws l ≡ true
@@ -198,9 +197,9 @@ module _ (image table : List ℕ) where
       let b : Bool = apart (s .threads) in
       let c : Bool = every (treeOk image table) (s .trees) in
       let d : Bool = queuesOk image table 0 (s .threads) (s .trees) in
-      let abc = both (a && b && c) d h in
-      let ab = both (a && b) c (abc .0) in
-      let x = both a b (ab .0) in
+      let abc = and-both (a && b && c) d h in
+      let ab = and-both (a && b) c (abc .0) in
+      let x = and-both a b (ab .0) in
       record { threads = x .0; apart = x .1; trees = ab .1; queues = abc .1 }
 
   pub sound-of : (s : Machine) → length (s .threads) ≡ threadCount → machineOk image table s ≡ true → Sound s

@@ -1,16 +1,16 @@
 -- The limits that a statement of a checked image keeps: 25 registers, 8 return labels, 25 values a signal, 8 signals pending.
 use mathlib.Core.Path.{_≡_, refl, ap, _∙_}
-use mathlib.Core.Bool.{Bool, true, false, cond, _&&_, _||_, false≢true}
+use mathlib.Core.Bool.{Bool, true, false, cond, _&&_}
 use mathlib.Core.Option.{Option, none, some}
 use mathlib.Core.List.{List, [], _∷_, _++_, map}
 use Prim.Native.Nat.{ℕ, zero, suc, _+_, _-_, _*_, _/_, _≤_, _<_}
 use native.Mathlib.Omega.{arith}
-use lib.Dec.{eqb, leb, ltb}
+use lib.Dec.{eqb, leb}
 use lib.ListN.{length, getD, drop, length-append, length-map, length-replicate, length-set, length-drop}
-use borrow.Author.Tests.{leb-true, leb-false, eqb-true}
+use borrow.Author.Tests.{leb-true, leb-false}
 use Rattle.rules.specs.Sizes.{registerCount, returnCount, pendingCount, operandCount, recordSize, recordCount}
 use Rattle.rules.specs.Codes.{returnsFullCode, pendingFullCode}
-use Rattle.rules.specs.Image.{labels, recordAt, opcode, operator, labelA, labelB, operands, Row, rowAt}
+use Rattle.rules.specs.Image.{labels, recordAt, labelA, labelB, operands, Row, rowAt}
 use Rattle.rules.specs.Statements.{operandsFrom, Way, following, branching, transferring, entering, posting, calling, returning, ending}
 use Rattle.rules.specs.Statements.{Sources, nothing, carried, pair, usage, way, readFrom, reads, statementOf, dataOf}
 use Rattle.rules.specs.Machine.{Signal, Job, fill}

@@ -1,7 +1,7 @@
 -- State bytes: the fresh machine's bytes are well formed, and a state that an accepted call left is accepted by the next call with the
 -- same image and table.
 use mathlib.Core.Path.{_≡_, refl}
-use mathlib.Core.Bool.{Bool, true, false, cond, _&&_, _||_}
+use mathlib.Core.Bool.{Bool, true, false, cond, _&&_}
 use mathlib.Core.List.{List}
 use Prim.Native.Nat.{ℕ, _+_, _*_, _-_, _≤_, _<_}
 use native.Mathlib.Omega.{arith}
@@ -23,7 +23,7 @@ use Rattle.rules.specs.Calls.{stateLengthFault, stateFault, eventsLengthFault, 
 use Rattle.fields.specs.Each.{Each}
 use Rattle.laws.specs.Faults.{first-of-zero, refusal-zero, fault-free, checked-of}
 use Rattle.encoding.specs.Sized.{Sized}
-use Rattle.encoding.specs.Tests.{both, both-hold}
+use Rattle.laws.specs.Logic.{and-both, both-hold}
 use Rattle.encoding.specs.Runs.{length-chunks, each-chunks}
 use Rattle.encoding.specs.Lengths.{length-encode}
 use Rattle.encoding.specs.Machines.{machine-back, machine-sized, machine-tidy}
@@ -56,7 +56,7 @@ external image b h = case (eqb (getD b eventKindPlace 0) arrivalCode) h
         let label : Bool = eqb (entry (recordAt image (num16 (drop 2 b)))) 3 in
         let count : Bool = leb (getD b 4 0) registerCount in
         let zeros : Bool = isZeros (part b (5 + 2 * getD b 4 0) (2 * (registerCount - getD b 4 0))) in
-        eqb-true _ 3 (both thread label (both (thread && label) count (both (thread && label && count) zeros k .0) .0) .1)
+        eqb-true _ 3 (and-both thread label (and-both (thread && label) count (and-both (thread && label && count) zeros k .0) .0) .1)
     case false k = tt
 
 pub events-accepted : (image events : List ℕ) → length events ≡ eventSize * eventsIn events
@@ -92,7 +92,7 @@ module _ (image table : List ℕ) where
         → wellFormed image table (encode (final (rulesBy image table) (machineFrom state) l)) ≡ true
     unfolding wellFormed
     bytes-stay-well-formed state l n w h =
-        let t = both (stateTidy state) (machineOk image table (machineFrom state)) w in
+        let t = and-both (stateTidy state) (machineOk image table (machineFrom state)) w in
         let z : Sized (machineFrom state) = machine-sized state n (t .0) in
         let k : Sound image table (machineFrom state) = sound-of image table (machineFrom state) (z .threads) (t .1) in
         encoded-well-formed (final (rulesBy image table) (machineFrom state) l)
@@ -132,7 +132,7 @@ given-of image table state events space h =
     let seven = first-of-zero _ _ (six .1) in
     let eight = first-of-zero _ _ (seven .1) in
     let whole : eventsLengthOk events ≡ true = refusal-zero _ 7 0 (omega arith) (seven .0) in
-    let length-ok = both (eqb (length events) (eventSize * eventsIn events)) (leb (eventsIn events) eventCount) whole .0 in
+    let length-ok = and-both (eqb (length events) (eventSize * eventsIn events)) (leb (eventsIn events) eventCount) whole .0 in
     record {
       checked = four .0;
       size = eqb-true (length state) stateSize (refusal-zero _ 5 0 (omega arith) (five .0));

@@ -17,7 +17,6 @@ use Rattle.fields.specs.Each.{Each, each-append}
 use Rattle.laws.specs.Trees.{first-here, first-there}
 use Rattle.laws.specs.Logic.{never}
 use Rattle.laws.specs.Passed.{Passed, row-in, no-record}
-use Rattle.encoding.specs.Tests.{both}
 use Rattle.soundness.specs.Queues.{queue-here, queue-there, headPending, refitted, FirstHas, first-has, put-each}
 use Rattle.soundness.specs.Sound.{PlaceIn, PendingIn, TreeIn, Homed, QueueIn}
 use Rattle.soundness.specs.Destinations.{block-below}

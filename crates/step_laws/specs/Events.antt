@@ -7,7 +7,7 @@ use Prim.Native.Nat.{ℕ, _^_}
 use lib.Bits.{bitOr}
 use lib.ListN.{set}
 use Rattle.rules.specs.Sorts
-use Rattle.rules.specs.Machine.{Signal, Job, idle, running, Machine, threadAt, first, put, treeThreads, withThread}
+use Rattle.rules.specs.Machine.{Signal, Job, idle, running, Machine, threadAt, first, put, treeThreads}
 use Rattle.rules.specs.Events.{arrive, step, cut}
 use Rattle.rules.specs.Steps.{Rules, Reply, Move, begin, home, founded, planArrive, planIdle, planStep, planCut, plan, held, blocked}
 use Rattle.rules.specs.Steps.{finished, grown, attempt, carry, react}

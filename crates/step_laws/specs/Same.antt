@@ -40,11 +40,6 @@ stores-set (suc n) i (suc k) v ws h =
     rw (stores-set n (suc i) k v ws (omega arith), e)
     (set-comm ws (i + suc k) i v (getD ws i 0) (omega arith) ∙ ap (λ (z : List ℕ). set z (i + suc k) v) (set-getD ws i 0))
 
--- one word of a block stored to
-pub keep-set : (b w v : ℕ) (ws : List ℕ) → w < wordCount → keep b (set (window b ws) w v) ws ≡ set ws (wordCount * b + w) v
-unfolding keep window
-keep-set b w v ws h = stores-set wordCount (wordCount * b) w v ws h
-
 stores-more : (n i k v : ℕ) (vs ws : List ℕ) → k < n → k < length vs → set (stores n i vs ws) (i + k) v ≡ stores n i (set vs k v) ws
 unfolding stores
 stores-more zero i k v vs ws h l = absurd (omega arith)

@@ -1,9 +1,9 @@
 -- What a step of a running thread comes to, statement by statement, from the values that the statement read.
 use mathlib.Core.Path.{_≡_, refl, _∙_}
 use mathlib.Core.Bool.{Bool, true, false, cond}
-use mathlib.Core.Option.{Option, none, some}
+use mathlib.Core.Option.{none, some}
 use mathlib.Core.List.{List, [], _∷_, _++_, append-nil}
-use Prim.Native.Nat.{ℕ, _+_, _*_, _^_, _<_}
+use Prim.Native.Nat.{ℕ, _+_, _^_}
 use lib.Bits.{bitOr}
 use lib.Dec.{leb}
 use lib.ListN.{length, getD, set}

@@ -1,4 +1,4 @@
--- The 75 bytes of a thread's state: written they are those of the thread that it says, and read they say the thread that they are of.
+-- The bytes of a thread's state: written they are those of the thread that it says, and read they say the thread that they are of.
 use mathlib.Core.Path.{_≡_, refl, sym, ap, _∙_}
 use mathlib.Core.Bool.{Bool, true, false, cond}
 use mathlib.Core.Option.{Option, some}
@@ -21,7 +21,7 @@ use Rattle.rules.specs.WellFormed.{absentZero, runningTidy, threadTidy}
 use Rattle.fields.specs.Blocks.{pad-full, pad-split}
 use Rattle.encoding.specs.Sized.{SizedThread}
 use Rattle.encoding.specs.Lengths.{length-thread}
-use Rattle.encoding.specs.Tests.{zeros-part}
+use Rattle.fields.specs.Tests.{zeros-part}
 use Rattle.encoding.specs.Runs.{length-chunks, chunks-at}
 use Rattle.encoding.specs.Registers.{length-registers, presence-forth, values-forth}
 use Rattle.encoding.specs.Threads.{RunningRead, running-read, thread-back, thread-tidy}
@@ -135,18 +135,19 @@ module _ (l : List ℕ) (k m : ℕ) (z : part l k m ≡ replicate m 0) where
 
 module _ (b : List ℕ) where
   -- the numbers at the places of return labels that are not in use are zero
-  returns-read : (n : ℕ) → n ≤ returnCount → ((j : ℕ) → n ≤ j → j < returnCount → num16 (drop (2 * j) (drop 5 b)) ≡ 0)
-      → TidyReturns n (chunks num16 2 returnCount (drop 5 b))
+  returns-read : (n : ℕ) → n ≤ returnCount → ((j : ℕ) → n ≤ j → j < returnCount → num16 (drop (2 * j) (drop returnsPlace b)) ≡ 0)
+      → TidyReturns n (chunks num16 2 returnCount (drop returnsPlace b))
   returns-read n h z =
-      let l = chunks num16 2 returnCount (drop 5 b) in
-      let s : length l ≡ returnCount = length-chunks num16 2 returnCount (drop 5 b) in
+      let l = chunks num16 2 returnCount (drop returnsPlace b) in
+      let s : length l ≡ returnCount = length-chunks num16 2 returnCount (drop returnsPlace b) in
       let d : length (drop n l) ≡ returnCount - n = length-drop n l ∙ rw s in
       record {
         sized = s;
         within = h;
         unused = ext-getD 0 (drop n l) (replicate (returnCount - n) 0) (d ∙ sym (length-replicate (returnCount - n) 0)) (λ i hi.
             let hi′ : i < returnCount - n = rw d at hi in
-            getD-drop n l i 0 ∙ chunks-at num16 2 returnCount (drop 5 b) 0 (n + i) (omega arith) ∙ z (n + i) (omega arith) (omega arith)
+            getD-drop n l i 0 ∙ chunks-at num16 2 returnCount (drop returnsPlace b) 0 (n + i) (omega arith)
+            ∙ z (n + i) (omega arith) (omega arith)
             ∙ sym (getD-replicate (returnCount - n) i 0 0 hi′));
       }
 
@@ -154,34 +155,38 @@ module _ (b : List ℕ) where
   unfolding rawThread absentZero
   running-tidy e o =
       record {
-        returns = rw (getD-drop 4 b 0 0) (returns-read (getD b 4 0) (o .few)
-            (λ j h h′. zero-num (drop 5 b) (2 * getD b 4 0) (2 * (returnCount - getD b 4 0)) (o .zeros) (2 * j) (omega arith)
+        returns = rw (getD-drop returnCountPlace b 0 0) (returns-read (getD b returnCountPlace 0) (o .few)
+            (λ j h h′. zero-num (drop returnsPlace b) (2 * getD b returnCountPlace 0) (2 * (returnCount - getD b returnCountPlace 0))
+            (o .zeros) (2 * j) (omega arith)
             (omega arith)));
         registers = record {
-          sized = length-chunks num16 2 registerCount (drop 25 b);
+          sized = length-chunks num16 2 registerCount (drop registersPlace b);
           within = o .present;
-          absent = λ r h. rw (chunks-at num16 2 registerCount (drop 25 b) 0 r h, drop-drop) (o .absent r h);
+          absent = λ r h. rw (chunks-at num16 2 registerCount (drop registersPlace b) 0 r h, drop-drop) (o .absent r h);
         };
         nothing = λ q. absurd (e q);
       }
 
-  idle-tidy : part b 2 (threadSize - 2) ≡ replicate (threadSize - 2) 0 → Tidy (rawThread b)
+  idle-tidy : part b locksPlace (threadSize - locksPlace) ≡ replicate (threadSize - locksPlace) 0 → Tidy (rawThread b)
   unfolding rawThread num32
   idle-tidy z =
-      let d : getD (drop 4 b) 0 0 ≡ 0 = getD-drop 4 b 0 0 ∙ zero-byte b 2 73 z 4 (omega arith) (omega arith) in
-      let p : num32 (drop 21 b) ≡ 0 = omega (
+      let d : getD (drop returnCountPlace b) 0 0 ≡ 0 = getD-drop returnCountPlace b 0 0
+      ∙ zero-byte b locksPlace (threadSize - locksPlace) z returnCountPlace (omega arith) (omega arith) in
+      let p : num32 (drop presencePlace b) ≡ 0 = omega (
         arith,
-        zero-num b 2 73 z 21 (omega arith) (omega arith),
-        zero-num b 2 73 z 23 (omega arith)
+        zero-num b locksPlace (threadSize - locksPlace) z presencePlace (omega arith) (omega arith),
+        zero-num b locksPlace (threadSize - locksPlace) z (presencePlace + 2) (omega arith)
             (omega arith),
-        ap num16 (drop-drop 2 21 b),
+        ap num16 (drop-drop 2 presencePlace b),
       ) in
       record {
-        returns = rw d (returns-read 0 (omega arith) (λ j h h′. rw drop-drop (zero-num b 2 73 z (5 + 2 * j) (omega arith) (omega arith))));
-        registers = rw p (none-tidy _ (length-chunks num16 2 registerCount (drop 25 b))
-            (λ r h. rw (chunks-at num16 2 registerCount (drop 25 b) 0 r h, drop-drop)
-            (zero-num b 2 73 z (25 + 2 * r) (omega arith) (omega arith))));
-        nothing = λ q. (zero-num b 2 73 z 2 (omega arith) (omega arith), d, p);
+        returns = rw d (returns-read 0 (omega arith)
+            (λ j h h′. rw drop-drop (zero-num b locksPlace (threadSize - locksPlace) z (returnsPlace + 2 * j)
+            (omega arith) (omega arith))));
+        registers = rw p (none-tidy _ (length-chunks num16 2 registerCount (drop registersPlace b))
+            (λ r h. rw (chunks-at num16 2 registerCount (drop registersPlace b) 0 r h, drop-drop)
+            (zero-num b locksPlace (threadSize - locksPlace) z (registersPlace + 2 * r) (omega arith) (omega arith))));
+        nothing = λ q. (zero-num b locksPlace (threadSize - locksPlace) z locksPlace (omega arith) (omega arith), d, p);
       }
 
 take-chunks : {A : Type 0} (g : List ℕ → A) (n k m : ℕ) (s : List ℕ) → k ≤ m → take k (chunks g n m s) ≡ chunks g n k s
@@ -196,23 +201,26 @@ bytes-say b l e = go (eqb (num16 b) idleLabel) refl e
   where
     job-is : RunningRead b → jobOf (rawThread b) ≡ jobFrom b
     job-is o = unfold rawThread jobFrom in
-        let h : getD (drop 4 b) 0 0 ≤ returnCount = omega (arith, getD-drop 4 b 0 0, o .few) in
-        rw (take-chunks num16 2 (getD (drop 4 b) 0 0) returnCount (drop 5 b) h)
+        let h : getD (drop returnCountPlace b) 0 0 ≤ returnCount = omega (arith, getD-drop returnCountPlace b 0 0, o .few) in
+        rw (take-chunks num16 2 (getD (drop returnCountPlace b) 0 0) returnCount (drop returnsPlace b) h)
 
     state-is : (c : Bool) → eqb (num16 b) idleLabel ≡ c
-        → stateOf (rawThread b) ≡ cond c idle (running (num16 (drop 2 b)) (jobOf (rawThread b)))
+        → stateOf (rawThread b) ≡ cond c idle (running (num16 (drop locksPlace b)) (jobOf (rawThread b)))
     state-is c p = unfold stateOf rawThread in rw p
 
-    from-is : (c : Bool) → eqb (num16 b) idleLabel ≡ c → threadFrom b ≡ cond c idle (running (num16 (drop 2 b)) (jobFrom b))
+    from-is : (c : Bool) → eqb (num16 b) idleLabel ≡ c → threadFrom b ≡ cond c idle (running (num16 (drop locksPlace b)) (jobFrom b))
     from-is c p = unfold threadFrom in rw p
 
-    go : (c : Bool) → eqb (num16 b) idleLabel ≡ c → cond c (isZeros (part b 2 73)) (runningTidy b) ≡ true
+    go : (c : Bool) → eqb (num16 b) idleLabel ≡ c → cond c (isZeros (part b locksPlace (threadSize - locksPlace))) (runningTidy b) ≡ true
         → Says (rawThread b) (threadFrom b)
-    go true p t = record { state = state-is true p ∙ sym (from-is true p); tidy = idle-tidy b (zeros-part b 2 73 (omega arith) t) }
+    go true p t = record {
+      state = state-is true p ∙ sym (from-is true p);
+      tidy = idle-tidy b (zeros-part b locksPlace (threadSize - locksPlace) (omega arith) t);
+    }
     go false p t =
         let o = running-read b l t in
         record {
-          state = state-is false p ∙ ap (running (num16 (drop 2 b))) (job-is o)
+          state = state-is false p ∙ ap (running (num16 (drop locksPlace b))) (job-is o)
               ∙ sym (from-is false p);
           tidy = running-tidy b (eqb-false (num16 b) idleLabel p) o;
         }

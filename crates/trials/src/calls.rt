@@ -1,14 +1,14 @@
 // The calls on the buffers in memory. A buffer that a call may change is a copy, and is lent at the buffer's length.
-use crate::memory::ANSWERS;
-use crate::memory::EVENTS;
-use crate::memory::IMAGE;
-use crate::memory::Lengths;
-use crate::memory::MET;
-use crate::memory::Memory;
-use crate::memory::STATE;
-use crate::memory::TABLE;
-use crate::memory::WORDS;
-use crate::memory::bytes;
+use trial_buffers::memory::ANSWERS;
+use trial_buffers::memory::EVENTS;
+use trial_buffers::memory::IMAGE;
+use trial_buffers::memory::Lengths;
+use trial_buffers::memory::MET;
+use trial_buffers::memory::Memory;
+use trial_buffers::memory::STATE;
+use trial_buffers::memory::TABLE;
+use trial_buffers::memory::WORDS;
+use trial_buffers::memory::bytes;
 
 pub fn check(memory: &Memory, lengths: &Lengths) -> u32 {
     plex::plex_check(bytes(memory, lengths, IMAGE), bytes(memory, lengths, TABLE))

@@ -2,18 +2,18 @@
 use crate::calls::fresh;
 use crate::calls::run;
 use crate::calls::walk;
-use crate::marks::eight;
-use crate::marks::shows;
-use crate::memory::ANSWERS;
-use crate::memory::Lengths;
-use crate::memory::Memory;
-use crate::memory::PART;
-use crate::memory::STATE;
-use crate::memory::bytes;
-use crate::memory::same;
-use crate::text::after;
-use crate::text::named;
-use crate::text::number;
+use trial_buffers::marks::eight;
+use trial_buffers::marks::shows;
+use trial_buffers::memory::ANSWERS;
+use trial_buffers::memory::Lengths;
+use trial_buffers::memory::Memory;
+use trial_buffers::memory::PART;
+use trial_buffers::memory::STATE;
+use trial_buffers::memory::bytes;
+use trial_buffers::memory::same;
+use trial_buffers::text::after;
+use trial_buffers::text::named;
+use trial_buffers::text::number;
 
 // Whether Fresh and Run leave the answers and the state in the case's files.
 fn run_leaves(memory: &Memory, lengths: &Lengths) -> bool {

@@ -4,22 +4,22 @@ use crate::calls::fresh;
 use crate::calls::run;
 use crate::calls::walk;
 use crate::cases::case_agrees;
-use crate::marks::eight;
-use crate::marks::hash;
-use crate::marks::shows;
-use crate::memory::ANSWERS;
-use crate::memory::Lengths;
-use crate::memory::MET;
-use crate::memory::Memory;
-use crate::memory::Part;
-use crate::memory::STATE;
-use crate::memory::bytes;
-use crate::memory::copy;
-use crate::memory::same;
-use crate::text::after;
-use crate::text::begins;
-use crate::text::named;
-use crate::text::number;
+use trial_buffers::marks::eight;
+use trial_buffers::marks::hash;
+use trial_buffers::marks::shows;
+use trial_buffers::memory::ANSWERS;
+use trial_buffers::memory::Lengths;
+use trial_buffers::memory::MET;
+use trial_buffers::memory::Memory;
+use trial_buffers::memory::Part;
+use trial_buffers::memory::STATE;
+use trial_buffers::memory::bytes;
+use trial_buffers::memory::copy;
+use trial_buffers::memory::same;
+use trial_buffers::text::after;
+use trial_buffers::text::begins;
+use trial_buffers::text::named;
+use trial_buffers::text::number;
 
 // Whether `line` says `returned` after its `=>`.
 fn says(line: &[u8], returned: u32) -> bool {

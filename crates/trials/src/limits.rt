@@ -1,11 +1,11 @@
 // A trial that is not marked: 43,008 image bytes pass the length test, 43,092 do not.
 use crate::calls::check;
-use crate::files::load;
-use crate::memory::IMAGE;
-use crate::memory::Lengths;
-use crate::memory::Memory;
-use crate::memory::set;
-use crate::tally::Tally;
+use trial_buffers::files::load;
+use trial_buffers::memory::IMAGE;
+use trial_buffers::memory::Lengths;
+use trial_buffers::memory::Memory;
+use trial_buffers::memory::set;
+use trial_buffers::tally::Tally;
 
 // 514 EXIT records of block 0, and a block table of zeros.
 fn exits(memory: &mut Memory, lengths: &mut Lengths) {

@@ -1,15 +1,15 @@
 // Trials that are the lines of a file: CASE CALL EDIT.. => RETURN. A call is handed the files of its case, CASE.image and the others,
 // with the edits carried out in order. The vectors are what independent implementations of the rules agree on.
 use crate::claims::agrees;
-use crate::edits::apply;
-use crate::files::load;
-use crate::files::read;
-use crate::memory::Lengths;
-use crate::memory::Memory;
-use crate::tally::Tally;
-use crate::text::after;
-use crate::text::begins;
-use crate::text::next;
+use trial_buffers::edits::apply;
+use trial_buffers::files::load;
+use trial_buffers::files::read;
+use trial_buffers::memory::Lengths;
+use trial_buffers::memory::Memory;
+use trial_buffers::tally::Tally;
+use trial_buffers::text::after;
+use trial_buffers::text::begins;
+use trial_buffers::text::next;
 
 // Whether the line is a trial of `call`, and no comment.
 fn is_of(line: &[u8], call: &[u8]) -> bool {

@@ -1,7 +1,7 @@
 -- Whom a thread waits for, read off its plan: nothing need be carried out. Whom it waits for holds the lock that it asks for.
 use mathlib.Core.Path.{_≡_, refl, sym, _∙_, subst}
 use mathlib.Core.Logic.{_≢_, _⊎_, inl, inr}
-use mathlib.Core.Bool.{Bool, true, false, cond, _||_, true≢false}
+use mathlib.Core.Bool.{Bool, true, false, cond, true≢false}
 use mathlib.Core.Option.{Option, none, some, Option·map}
 use mathlib.Core.List.{List, [], _∷_}
 use Prim.Native.Nat.{ℕ, zero, suc, _<_}
@@ -132,10 +132,6 @@ module _ (R : Rules) where
       case none = rw (h .1) refl
       case (some b) = free b (held (R .lock b) (set (s .threads) t idle))
   carried s t (finish u a) h = rw h refl
-
-  pub awaits-plan : (s : Machine) (t : ℕ) → awaits R s t ≡ heldBy (s .threads) t (wants R (plan R s (nextTurn s t)))
-  unfolding awaits react
-  awaits-plan s t = carried s t (plan R s (nextTurn s t)) (plain s t)
 
 -- ---- the holder
 

@@ -1,5 +1,6 @@
 use mathlib.Core.Path.{sym, _∙_}
 use native.Mathlib.Omega.{arith}
+use Rattle.rules.specs.Sizes.{blockCount, blockPlace}
 use Rattle.image.specs.Records.{getD-any}
 use Rattle.record_check.proofs.Forms.{too-many, begun, not-begun}
 use borrow.Author.Needs.{needs}
@@ -13,13 +14,14 @@ returns-2 : tie.Need-returns-2
 returns-2 c =
     let s = c .before .before .before .before .before .before .before .before .before .before in
     let there = c .before in
-    c .form-ok .ensures ∙ sym (begun _ _ (rw (getD-any (s .args .r .now) 1 16 0 (omega arith), sym (there .before .before .wide2 .ensures .0))
-    (there .if2 .taken)))
+    let own = getD-any (s .args .r .now) blockPlace blockCount 0 (omega arith) in
+    c .form-ok .ensures ∙ sym (begun _ _ (rw (own, sym (there .before .before .wide2 .ensures .0)) (there .if2 .taken)))
 
 returns-3 : tie.Need-returns-3
 returns-3 c =
     let s = c .before .before .before .before .before .before .before .before .before in
-    sym (not-begun _ _ (rw (getD-any (s .args .r .now) 1 16 0 (omega arith), sym (c .before .before .wide2 .ensures .0)) (c .if2 .left)))
+    let own = getD-any (s .args .r .now) blockPlace blockCount 0 (omega arith) in
+    sym (not-begun _ _ (rw (own, sym (c .before .before .wide2 .ensures .0)) (c .if2 .left)))
 
 pub outline-ok-spec : {M : Type 1} → statement M
 outline-ok-spec =

@@ -19,7 +19,7 @@ abbrev μ-loop : tie.MeasureT-loop
 μ-loop s at set ok₀ r₀ ok r = registerCount - r
 
 loop-holds : tie.Need-loop-holds Inv-loop μ-loop
-loop-holds c = let a = c .before .before .args in tested-none true (absentZero (drop (a .at) (now (a .s)))) 25
+loop-holds c = let a = c .before .before .args in tested-none true (absentZero (drop (a .at) (now (a .s)))) registerCount
 
 loop-again : tie.Need-loop-again Inv-loop μ-loop
 loop-again c =

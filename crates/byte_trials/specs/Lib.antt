@@ -1,0 +1,2 @@
+-- The marked trials on bytes: `onBytes` of OnBytes.
+pub mod OnBytes
