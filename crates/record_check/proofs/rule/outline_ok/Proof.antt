@@ -13,7 +13,8 @@ returns-2 : tie.Need-returns-2
 returns-2 c =
     let s = c .before .before .before .before .before .before .before .before .before .before in
     let there = c .before in
-    c .form-ok .ensures ∙ sym (begun _ _ (rw (getD-any (s .args .r .now) 1 16 0 (omega arith), sym (there .before .before .wide2 .ensures .0))
+    c .form-ok .ensures
+    ∙ sym (begun _ _ (rw (getD-any (s .args .r .now) 1 16 0 (omega arith), sym (there .before .before .wide2 .ensures .0))
     (there .if2 .taken)))
 
 returns-3 : tie.Need-returns-3
