@@ -85,7 +85,7 @@ format:
 # the picture of the crates
 map:
 	awk -f tools/map.awk crates.txt >docs/map.dot
-	dot -Tsvg docs/map.dot >docs/map.svg
+	dot -Tsvg -o docs/map.svg docs/map.dot
 
 # what the library asks of a host and of the system; the demo's output is held to a file
 CASES = $(sort $(basename $(wildcard crates/trials/data/[0-9]*.image)))

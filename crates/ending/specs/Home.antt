@@ -25,7 +25,7 @@ use Rattle.step_ready.specs.At.{Busy}
 use Rattle.rules.specs.Machine.{Signal, Tree, Machine, idle, first, withThread}
 use Rattle.rules.specs.Steps.{rulesBy, blockAt, requeued, finished}
 use Rattle.encoding.specs.FirstTree.{firstTree, first-some, first-none}
-use Rattle.trees.specs.Canon.{pendingAt}
+use Rattle.pending_signals.specs.Canon.{pendingAt}
 use Rattle.trees.specs.Changes.{requeuedOn, ended}
 
 -- the thread of the oldest signal's block, if a signal is pending

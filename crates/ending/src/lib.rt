@@ -1,15 +1,15 @@
 // The ends of a job: EXIT, a trap and a cut. Each clears the thread to idle and keeps the job's shared writes and pending signals.
 use image::records::block_at;
 use image::table::thread_at;
+use pending_signals::oldest_label;
+use pending_signals::pending;
 use rules::answer::Answer;
 use rules::sorts::Thread;
 use rules::sorts::thread_of;
-use state::thread_records::write_thread;
+use thread_records::write_thread;
 use threads::thread::ThreadState;
 use trees::list::end_tree;
 use trees::list::first_tree;
-use trees::pending::oldest_label;
-use trees::pending::pending;
 ghost use mathlib.Core.Path.{_≡_};
 ghost use Prim.Native.Nat.{_<_};
 ghost use lib.ListN.{length};
@@ -18,7 +18,7 @@ ghost use Rattle.rules.specs.Encoding.{machineFrom};
 ghost use Rattle.rules.specs.Events.{cut};
 ghost use Rattle.rules.specs.Statements.{statementOf};
 ghost use Rattle.rules.specs.declared.statement.Statement.the-variants.{Exit};
-ghost use Rattle.trees.specs.Canon.{pendingAt};
+ghost use Rattle.pending_signals.specs.Canon.{pendingAt};
 ghost use Rattle.step_ready.specs.Ready.{Ready, Recorded, Done, Stepped, Ended, replyTo};
 ghost use Rattle.step_ready.specs.At.{At, Busy};
 ghost use Rattle.ending.specs.Home.{HomeOf};

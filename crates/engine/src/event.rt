@@ -9,7 +9,7 @@ use rules::layout::EVENT_SIZE;
 use rules::layout::EVENT_THREAD_PLACE;
 use rules::sorts::thread_of;
 use sending::arriving::arrive;
-use state::thread_records::read_thread;
+use thread_records::read_thread;
 ghost use Prim.Native.Nat.{_*_};
 ghost use lib.ListN.{drop};
 ghost use Rattle.rules.specs.Sizes.{eventSize};

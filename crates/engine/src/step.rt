@@ -14,7 +14,7 @@ use rules::answer::Answer;
 use rules::sorts::Thread;
 use rules::statement::Statement;
 use sending::buffered::send_buffered;
-use state::thread_records::read_thread;
+use thread_records::read_thread;
 use threads::thread::ThreadState;
 ghost use Prim.Native.Nat.{_<_};
 ghost use Rattle.rules.specs.Sizes.{threadCount};

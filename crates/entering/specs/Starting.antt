@@ -33,10 +33,10 @@ use Rattle.image.specs.Records.{labels-small}
 use Rattle.threads.specs.Threads.{jobOf, Runs, runs-as}
 use Rattle.threads.specs.Records.{threadPlace, rawBytes}
 use Rattle.threads.specs.declared.thread.ThreadState.{ThreadState}
-use Rattle.trees.specs.Canon.{pendingAt}
-use Rattle.trees.specs.Changes.{taken}
-use Rattle.trees.specs.Signals.{signalOf}
-use Rattle.trees.specs.declared.signals.Signal as Value
+use Rattle.signal_records.specs.Signals.{signalOf}
+use Rattle.signal_records.specs.declared.Signal as Value
+use Rattle.pending_signals.specs.Canon.{pendingAt}
+use Rattle.pending_signals.specs.Changes.{taken}
 use Rattle.step_ready.specs.Ready.{Ready, replyTo, Stepped, done, runs-written}
 use Rattle.ending.specs.Home.{oldest-below}
 use Rattle.entering.specs.Entering.{holds-more}

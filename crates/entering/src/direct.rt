@@ -8,7 +8,7 @@ use image::record_fields::label_b;
 use image::record_fields::operand_count;
 use rules::answer::Answer;
 use rules::sorts::Thread;
-use state::thread_records::write_thread;
+use thread_records::write_thread;
 use threads::thread::ThreadState;
 ghost use mathlib.Core.Path.{_≡_};
 ghost use Rattle.rules.specs.Statements.{statementOf};

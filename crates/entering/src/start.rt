@@ -1,17 +1,17 @@
 // A step of an idle thread: the oldest signal of its first tree starts a job, if its block's lock can be taken.
 use image::records::block_at;
 use image::table::lock_at;
+use pending_signals::oldest;
+use pending_signals::oldest_label;
+use pending_signals::take_oldest;
 use rules::answer::Answer;
 use rules::sorts::Lock;
 use rules::sorts::Thread;
 use state::locks::held_by_other;
-use state::thread_records::write_thread;
+use thread_records::write_thread;
 use threads::thread::ThreadState;
 use trees::list::first_tree;
 use trees::list::tree_count;
-use trees::pending::oldest;
-use trees::pending::oldest_label;
-use trees::pending::take_oldest;
 ghost use mathlib.Core.Path.{_≡_};
 ghost use Prim.Native.Nat.{_<_};
 ghost use Rattle.rules.specs.Sizes.{threadCount};

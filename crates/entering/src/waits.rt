@@ -12,7 +12,7 @@ use rules::sorts::Lock;
 use rules::sorts::Thread;
 use state::locks::Holder;
 use state::locks::holder_of;
-use state::thread_records::read_thread;
+use thread_records::read_thread;
 use threads::thread::ThreadState;
 ghost use mathlib.Core.Path.{_≡_};
 ghost use Prim.Native.Nat.{_<_};

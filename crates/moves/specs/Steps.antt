@@ -31,7 +31,7 @@ use Rattle.threads.specs.Returns.{newestOf, olderOf}
 use Rattle.threads.specs.Threads.{Running, Runs, job, jobOf, returnsOf, registersOf, runs-says}
 use Rattle.threads.specs.Records.{threadPlace, rawBytes}
 use Rattle.threads.specs.declared.thread.ThreadState.{ThreadState}
-use Rattle.state.specs.Records.{thread-written}
+use Rattle.thread_records.specs.Records.{thread-written}
 use Rattle.operands.specs.Legal.{Fits}
 use Rattle.operands.specs.Cells.{cellsOf}
 use Rattle.operands.specs.Statements.{tests, tests-left, tests-right}

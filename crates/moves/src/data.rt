@@ -6,7 +6,7 @@ use operands::read_data;
 use rules::answer::Answer;
 use rules::codes::NO_RETURN_LABEL;
 use rules::sorts::Thread;
-use state::thread_records::write_thread;
+use thread_records::write_thread;
 use threads::thread::ThreadState;
 ghost use mathlib.Core.Path.{_≡_};
 ghost use Rattle.rules.specs.Statements.{statementOf};

@@ -3,7 +3,7 @@ use image::record_fields::label_a;
 use rules::answer::Answer;
 use rules::sorts::Label;
 use rules::sorts::Thread;
-use state::thread_records::write_thread;
+use thread_records::write_thread;
 use threads::thread::ThreadState;
 ghost use mathlib.Core.Path.{_≡_};
 ghost use Prim.Native.Nat.{_<_};

@@ -18,7 +18,7 @@ use Rattle.rules.specs.declared.statement.Operand.the-variants.{Register}
 use Rattle.encoding.specs.Registers.{register-at}
 use Rattle.encoding.specs.Runs.{chunks-at}
 use Rattle.threads.specs.declared.thread.ThreadState.{ThreadState}
-use Rattle.state.specs.Records.{wordPlace}
+use Rattle.state.specs.Words.{wordPlace}
 use Rattle.step_laws.specs.Same.{window-at}
 
 abbrev pub cellsFrom : List ℕ → ℕ → ℕ → List ℕ → Cells

@@ -20,8 +20,8 @@ use Rattle.encoding.specs.Encoded.{Encodes, Canonical, encoded-machine}
 use Rattle.encoding.specs.FirstTree.{firstTree, first-some}
 use Rattle.threads.specs.Threads.{jobOf, job, returnsOf, registersOf}
 use Rattle.threads.specs.declared.thread.ThreadState.{ThreadState}
-use Rattle.trees.specs.Canon.{pendingAt}
-use Rattle.trees.specs.Changes.{sent}
+use Rattle.pending_signals.specs.Canon.{pendingAt}
+use Rattle.pending_signals.specs.Changes.{sent}
 use Rattle.operands.specs.Cells.{cellsOf}
 use Rattle.operands.specs.Readings.{Reads}
 use Rattle.step_laws.specs.Statements.{buffer-full, buffers}

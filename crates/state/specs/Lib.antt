@@ -1,3 +1,2 @@
-pub mod Stores
-pub mod Records
+pub mod Words
 pub mod Locks

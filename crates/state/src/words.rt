@@ -10,7 +10,7 @@ ghost use lib.ListN.{length, drop};
 ghost use Rattle.rules.specs.Sizes.{blockCount, wordCount, stateSize};
 ghost use Rattle.rules.specs.Bytes.{num16, le16};
 ghost use Rattle.fields.specs.Put.{put};
-ghost use Rattle.state.specs.Records.{wordPlace};
+ghost use Rattle.state.specs.Words.{wordPlace};
 
 // The place of a word.
 fn word_at(block: Block, word: u16) -> usize

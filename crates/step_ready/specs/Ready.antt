@@ -18,7 +18,7 @@ use Rattle.soundness.specs.StaysWellFormed.{Accepted, sound-react}
 use Rattle.threads.specs.Threads.{stateOf, Tidy, Says, Runs}
 use Rattle.threads.specs.Records.{threadPlace, rawThread, rawBytes}
 use Rattle.threads.specs.declared.thread.ThreadState.{ThreadState}
-use Rattle.state.specs.Records.{thread-read, thread-written}
+use Rattle.thread_records.specs.Records.{thread-read, thread-written}
 
 pub record Ready (image table b : List ℕ) : Type 0 where
   pub checked : Checked image table

@@ -1,33 +1,25 @@
 -- What becomes of the tree list, in the words of the law, from what the stores leave.
-use mathlib.Core.Path.{_≡_, refl, sym, ap, _∙_}
-use mathlib.Core.Option.{none, some}
+use mathlib.Core.Path.{_≡_, refl, sym, _∙_}
+use mathlib.Core.Option.{none}
 use mathlib.Core.List.{List, [], _∷_, _++_, append-nil}
 use Prim.Native.Nat.{ℕ, zero, suc, _+_, _<_}
 use native.Mathlib.Omega.{arith}
-use lib.ListN.{length, getD, take, drop, set, length-append, length-set, length-drop, drop-of-length-le}
-use lib.Seq.{split-at, set-split}
-use Rattle.rules.specs.Sizes.{treeCount, pendingCount}
-use Rattle.rules.specs.Machine.{Signal, Tree, Machine, first, put}
+use lib.ListN.{length, getD, take, drop, length-append, drop-of-length-le}
+use lib.Seq.{split-at}
+use Rattle.rules.specs.Sizes.{treeCount}
+use Rattle.rules.specs.Machine.{Signal, Tree, Machine, put}
 use Rattle.rules.specs.Encoding.{noTree}
-use Rattle.fields.specs.Each.{Each, each-at, each-set, each-append, each-tail}
+use Rattle.fields.specs.Each.{Each, each-append}
 use Rattle.fields.specs.Filled.{removeAt, length-removeAt}
 use Rattle.encoding.specs.Sized.{SizedSignal, SizedTree, Sized}
 use Rattle.encoding.specs.TreeStores.{withTrees, sized-trees}
-use Rattle.encoding.specs.SignalStores.{pushed, rest, moved}
-use Rattle.encoding.specs.FirstTree.{firstTree, first-thread, first-some, put-none, put-some}
-use Rattle.trees.specs.Canon.{treeAt, pendingAt}
+use Rattle.encoding.specs.SignalStores.{moved}
+use Rattle.encoding.specs.FirstTree.{firstTree, put-none}
+use Rattle.pending_signals.specs.Canon.{treeAt, pendingAt}
 
 -- ---- the machines
 
--- thread u's first tree is tree i. Its oldest signal is taken
-abbrev pub taken : ℕ → ℕ → Machine → Machine
-taken u i s = withTrees s (put u (some (drop 1 (pendingAt s i))) (s .trees))
-
--- a signal comes to its end
-abbrev pub sent : ℕ → ℕ → Signal → Machine → Machine
-sent u i g s = withTrees s (put u (some (pendingAt s i ++ g ∷ [])) (s .trees))
-
--- its job has ended: it leaves the list and, if not empty, goes to the list's end, on thread t
+-- thread u's first tree is tree i. Its job has ended: it leaves the list and, if not empty, goes to the list's end, on thread t
 abbrev pub requeuedOn : ℕ → List Signal → List Tree
 requeuedOn t [] = []
 requeuedOn t (g ∷ p) = record { thread = t; pending = g ∷ p } ∷ []
@@ -46,33 +38,16 @@ module _ (s : Machine) (z : Sized s) where
   sized-append x h l = sized-trees s (s .trees ++ x ∷ []) (simp length-append (omega arith))
       (each-append SizedTree (s .trees) (x ∷ []) (z .eachTree) (h, tt)) z
 
-  module _ (i : ℕ) (h : i < length (s .trees)) where
-    pub sized-at : SizedTree (treeAt s i)
-    sized-at = each-at SizedTree (s .trees) i noTree (z .eachTree) h
-
-    pub sized-set : (x : Tree) → SizedTree x → Sized (withTrees s (set (s .trees) i x))
-    sized-set x k = sized-trees s (set (s .trees) i x) (rw length-set (z .trees)) (each-set SizedTree (s .trees) i x (z .eachTree) k) z
-
-    pub sized-remove : Sized (withTrees s (removeAt i (s .trees)))
-    unfolding removeAt
-    sized-remove = sized-trees s (removeAt i (s .trees)) (rw (length-removeAt i (s .trees) h) (omega (arith, z .trees)))
-        (go (s .trees) i (z .eachTree)) z
-      where
-        go : (l : List Tree) (i : ℕ) → Each SizedTree l → Each SizedTree (take i l ++ drop (suc i) l)
-        go [] zero e = tt
-        go [] (suc i) e = tt
-        go (x ∷ l) zero e = e .1
-        go (x ∷ l) (suc i) e = (e .0, go l i (e .1))
-
-pub sized-pushed : (x : Tree) (g : Signal) → SizedTree x → SizedSignal g → length (x .pending) < pendingCount → SizedTree (pushed x g)
-sized-pushed x g h k l = record {
-  count = simp length-append (omega arith);
-  each =
-      each-append SizedSignal (x .pending) (g ∷ []) (h .each) (k, tt);
-}
-
-pub sized-rest : (x : Tree) → SizedTree x → SizedTree (rest x)
-sized-rest x h = record { count = rw length-drop (omega (arith, h .count)); each = each-tail SizedSignal (x .pending) (h .each) }
+  pub sized-remove : (i : ℕ) → i < length (s .trees) → Sized (withTrees s (removeAt i (s .trees)))
+  unfolding removeAt
+  sized-remove i h = sized-trees s (removeAt i (s .trees)) (rw (length-removeAt i (s .trees) h) (omega (arith, z .trees)))
+      (go (s .trees) i (z .eachTree)) z
+    where
+      go : (l : List Tree) (i : ℕ) → Each SizedTree l → Each SizedTree (take i l ++ drop (suc i) l)
+      go [] zero e = tt
+      go [] (suc i) e = tt
+      go (x ∷ l) zero e = e .1
+      go (x ∷ l) (suc i) e = (e .0, go l i (e .1))
 
 pub sized-moved : (x : Tree) (t : ℕ) → SizedTree x → SizedTree (moved x t)
 sized-moved x t h = record { count = h .count; each = h .each }
@@ -91,22 +66,6 @@ some-requeued t [] l = absurd (omega arith)
 some-requeued t (g ∷ p) l = refl
 
 module _ (s : Machine) (i u : ℕ) (e : i ≡ firstTree u (s .trees)) (h : i < length (s .trees)) where
-  pub first-is : first u (s .trees) ≡ some (pendingAt s i)
-  first-is = rw e (first-some u (s .trees) (rw e at h))
-
-  pub set-first : (p : List Signal) → withTrees s (set (s .trees) i (record { thread = treeAt s i .thread; pending = p }))
-      ≡ withTrees s (put u (some p) (s .trees))
-  set-first p =
-      let k : firstTree u (s .trees) < length (s .trees) = rw e at h in
-      let f : treeAt s i .thread ≡ u = rw e (first-thread u (s .trees) k) in
-      rw (f, e, ← put-some u p (s .trees) k)
-
-  -- the signals that it has already
-  pub put-same : put u (some (pendingAt s i)) (s .trees) ≡ s .trees
-  put-same =
-      let own : set (s .trees) i (treeAt s i) ≡ s .trees = set-split (s .trees) i (treeAt s i) h ∙ sym (split-at (s .trees) i noTree h) in
-      ap (λ (m : Machine). m .trees) (sym (set-first (pendingAt s i)) ∙ ap (withTrees s) own)
-
   pub remove-first : removeAt i (s .trees) ≡ put u none (s .trees)
   remove-first =
       let k : firstTree u (s .trees) < length (s .trees) = rw e at h in

@@ -1,5 +1,3 @@
--- The job trees in a state's bytes: the bytes that are a machine's, signals as values, and what becomes of the tree list.
-pub mod Canon
-pub mod Signals
+-- The tree list in a state's bytes, and what becomes of it.
 pub mod Changes
 pub mod Stored

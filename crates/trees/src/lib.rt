@@ -1,4 +1,2 @@
 // The job trees in the lent bytes of a state, read and changed in place.
 pub mod list;
-pub mod pending;
-pub mod signals;

@@ -1,11 +1,9 @@
 // The list of trees: its count, a thread's first tree, a tree that comes, and a tree that leaves or goes to the end.
-use crate::pending::pending;
-use crate::signals::read_signal;
-use crate::signals::write_signal;
 use fields::read::get8;
 use fields::write::copy;
 use fields::write::put8;
 use fields::write::remove;
+use pending_signals::pending;
 use rules::layout::PENDING_COUNT_PLACE;
 use rules::layout::SIGNALS_PLACE;
 use rules::layout::TREE_COUNT_PLACE;
@@ -13,6 +11,8 @@ use rules::layout::TREE_SIZE;
 use rules::layout::TREES_PLACE;
 use rules::sorts::Thread;
 use rules::sorts::thread_number;
+use signal_records::read_signal;
+use signal_records::write_signal;
 ghost use mathlib.Core.Path.{_≡_};
 ghost use mathlib.Core.Bool.{true};
 ghost use mathlib.Core.List.{[], _∷_, _++_};
@@ -25,7 +25,7 @@ ghost use Rattle.fields.specs.Filled.{removeAt};
 ghost use Rattle.encoding.specs.FirstTree.{firstTree};
 ghost use Rattle.encoding.specs.SignalStores.{moved};
 ghost use Rattle.encoding.specs.TreeStores.{withTrees};
-ghost use Rattle.trees.specs.Canon.{Canon, treeAt};
+ghost use Rattle.pending_signals.specs.Canon.{Canon, treeAt};
 ghost use Rattle.trees.specs.Changes.{arrived, ended};
 
 pub fn tree_count(state: &[u8]) -> usize

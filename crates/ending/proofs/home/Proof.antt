@@ -4,7 +4,7 @@ use native.Mathlib.Omega.{arith}
 use lib.ListN.{length}
 use borrow.Author.Needs.{needs}
 use Rattle.rules.specs.Encoding.{machineFrom}
-use Rattle.trees.specs.Canon.{pendingAt}
+use Rattle.pending_signals.specs.Canon.{pendingAt}
 use Rattle.ending.specs.Home.{home-none, home-some, oldest-below, block-inside, table-long}
 use Rattle.ending.proofs.home.Statement.{statement}
 use Rattle.ending.proofs.home.Tie as tie

@@ -1,7 +1,7 @@
 use Prim.Native.Nat.{ℕ, _+_, _*_, _<_}
 use native.Mathlib.Omega.{arith}
 use Rattle.rules.specs.Sizes.{wordCount}
-use Rattle.state.specs.Records.{word-written}
+use Rattle.state.specs.Words.{word-written}
 use borrow.Author.Needs.{needs}
 use Rattle.moves.proofs.assign.store_word.Statement.{statement}
 use Rattle.moves.proofs.assign.store_word.Tie as tie

@@ -5,7 +5,7 @@ use lib.ListN.{length}
 use Rattle.rules.specs.Sizes.{pendingCount}
 use Rattle.rules.specs.Encoding.{machineFrom}
 use Rattle.rules.specs.declared.statement.Statement.the-variants.{SendBuffered}
-use Rattle.trees.specs.Canon.{pendingAt}
+use Rattle.pending_signals.specs.Canon.{pendingAt}
 use Rattle.moves.specs.Steps.{unread-stepped}
 use Rattle.sending.specs.Buffered.{own-tree, full-stepped}
 use borrow.Author.Needs.{needs}

@@ -8,7 +8,7 @@ use Rattle.rules.specs.Encoding.{signalFrom}
 use Rattle.fields.specs.Put.{put-then}
 use Rattle.encoding.specs.Numbers.{bytes-drop}
 use Rattle.encoding.specs.Trees.{signal-sized}
-use Rattle.trees.specs.Signals.{signalOf, TidySignal, read-tidy}
+use Rattle.signal_records.specs.Signals.{signalOf, TidySignal, read-tidy}
 use Rattle.trees.specs.Stored.{signal-arrived}
 use Rattle.trees.proofs.list.append.Statement.{statement}
 use Rattle.trees.proofs.list.append.Tie as tie

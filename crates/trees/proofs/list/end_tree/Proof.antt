@@ -4,7 +4,7 @@ use Prim.Native.Nat.{_<_}
 use denote.Ref.{now}
 use lib.ListN.{length}
 use Rattle.rules.specs.Encoding.{machineFrom}
-use Rattle.trees.specs.Canon.{pendingAt}
+use Rattle.pending_signals.specs.Canon.{pendingAt}
 use Rattle.trees.specs.Changes.{ended-empty, ended-pending}
 use borrow.Author.Needs.{needs}
 use Rattle.trees.proofs.list.end_tree.Statement.{statement}

@@ -1,6 +1,6 @@
 use Rattle.rules.specs.Encoding.{machineFrom}
 use Rattle.fields.specs.Filled.{removeAt}
-use Rattle.trees.specs.Canon.{treeAt}
+use Rattle.pending_signals.specs.Canon.{treeAt}
 use native.Mathlib.Omega.{arith}
 use mathlib.Core.Path.{ap, _∙_}
 use denote.Ref.{now}

@@ -1,0 +1,94 @@
+// The thread records: each is read as one value and written as one value.
+use fields::read::get8;
+use fields::read::get16;
+use fields::read::get16s;
+use fields::read::get32;
+use fields::read::wide;
+use fields::write::put8;
+use fields::write::put16;
+use fields::write::put16s;
+use fields::write::put32;
+use rules::layout::LOCKS_PLACE;
+use rules::layout::PRESENCE_PLACE;
+use rules::layout::REGISTERS_PLACE;
+use rules::layout::RETURN_COUNT_PLACE;
+use rules::layout::RETURNS_PLACE;
+use rules::layout::THREAD_SIZE;
+use rules::layout::THREADS_PLACE;
+use rules::sorts::Thread;
+use rules::sorts::label_number;
+use rules::sorts::label_of;
+use rules::sorts::thread_number;
+use threads::thread::ThreadState;
+ghost use mathlib.Core.Path.{_≡_};
+ghost use Prim.Native.Nat.{_+_, _<_, _≤_};
+ghost use lib.ListN.{length, set, drop};
+ghost use Rattle.rules.specs.Sizes.{threadCount, returnCount, registerCount, threadSize, stateSize};
+ghost use Rattle.fields.specs.Put.{put};
+ghost use Rattle.encoding.specs.Slots.{returnsIn, registersIn};
+ghost use Rattle.threads.specs.Records.{threadPlace, rawThread, rawBytes};
+ghost use Rattle.thread_records.specs.Stores.{headBytes};
+
+// The place of a thread's record.
+fn record_at(t: Thread) -> usize
+    requires { ⌜ t .0 < threadCount ⌝ }
+    ensures { λ r. ⌜ r ≡ threadPlace (t .0) ⌝ }
+{
+    THREADS_PLACE + THREAD_SIZE * wide(thread_number(t))
+}
+
+pub fn read_thread(state: &[u8], t: Thread) -> ThreadState
+    requires { ⌜ (length (now state) ≡ stateSize) × (t .0 < threadCount) ⌝ }
+    ensures { λ r. ⌜ r ≡ rawThread (drop (threadPlace (t .0)) (now (state .entry))) ⌝ }
+{
+    let at = record_at(t);
+    let mut returns = [0u16; Thread::RETURNS];
+    get16s(state, at + RETURNS_PLACE, &mut returns);
+    let mut registers = [0u16; Thread::REGISTERS];
+    get16s(state, at + REGISTERS_PLACE, &mut registers);
+    ThreadState {
+        present: get32(state, at + PRESENCE_PLACE),
+        label: label_of(get16(state, at)),
+        locks: get16(state, at + LOCKS_PLACE),
+        depth: get8(state, at + RETURN_COUNT_PLACE),
+        returns: returns,
+        registers: registers,
+    }
+}
+
+// The label, the locks and the depth of a record at a place.
+fn write_head(s: &mut [u8], at: usize, w: ThreadState)
+    requires { ⌜ (at + threadSize ≤ length (now s)) × (w .depth ≤ returnCount) ⌝ }
+    ensures { λ _. ⌜ now (s .exit) ≡ put (now (s .entry)) at (headBytes w) ⌝ }
+{
+    put16(s, at, label_number(w.label));
+    put16(s, at + LOCKS_PLACE, w.locks);
+    put8(s, at + RETURN_COUNT_PLACE, w.depth as u8);
+}
+
+// The thread comes back, whole. What is as it was read is not stored: the compiler sees that it comes from where it goes. So this
+// comes before any other store to the state.
+pub fn write_thread(state: &mut [u8], t: Thread, w: ThreadState)
+    requires { ⌜ (length (now state) ≡ stateSize) × (t .0 < threadCount) × (w .depth ≤ returnCount) ⌝ }
+    ensures { λ _. ⌜ now (state .exit) ≡ put (now (state .entry)) (threadPlace (t .0)) (rawBytes w) ⌝ }
+{
+    let at = record_at(t);
+    write_head(state, at, w);
+    let returns = w.returns;
+    put16s(state, at + RETURNS_PLACE, &returns);
+    put32(state, at + PRESENCE_PLACE, w.present);
+    let registers = w.registers;
+    put16s(state, at + REGISTERS_PLACE, &registers);
+}
+
+// The same where the return labels, and all registers but one, are as the record has them: they are not written.
+pub fn write_assigned(state: &mut [u8], t: Thread, w: ThreadState, register: u16, value: u16)
+    requires { ⌜ (length (now state) ≡ stateSize) × (t .0 < threadCount) × (w .depth ≤ returnCount) × (register < registerCount)
+        × (w .returns ≡ returnsIn (now state) (t .0)) × (w .registers ≡ set (registersIn (now state) (t .0)) register value) ⌝ }
+    ensures { λ _. ⌜ now (state .exit) ≡ put (now (state .entry)) (threadPlace (t .0)) (rawBytes w) ⌝ }
+{
+    let at = record_at(t);
+    write_head(state, at, w);
+    put32(state, at + PRESENCE_PLACE, w.present);
+    put16(state, at + REGISTERS_PLACE + 2 * (register as usize), value);
+}
