@@ -1,5 +1,4 @@
 // An event carried out: an arrival, a step or a cut.
-use crate::step::step;
 use ending::cut_job;
 use rules::answer::Answer;
 use rules::codes::ARRIVAL;
@@ -9,7 +8,9 @@ use rules::layout::EVENT_SIZE;
 use rules::layout::EVENT_THREAD_PLACE;
 use rules::sorts::thread_of;
 use sending::arriving::arrive;
+use stepping::step;
 use thread_records::read_thread;
+use threads::thread::ThreadState;
 ghost use Prim.Native.Nat.{_*_};
 ghost use lib.ListN.{drop};
 ghost use Rattle.rules.specs.Sizes.{eventSize};
@@ -32,6 +33,6 @@ pub fn event(image: &[u8], table: &[u8], state: &mut [u8], events: &[u8], i: usi
     if kind == STEP {
         return step(image, table, state, t);
     }
-    let w = read_thread(state, t);
+    let w: ThreadState = read_thread(state, t);
     cut_job(image, table, state, t, w)
 }

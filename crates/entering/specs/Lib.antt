@@ -1,4 +1,2 @@
-pub mod Passages
 pub mod Entering
 pub mod Starting
-pub mod Waiting

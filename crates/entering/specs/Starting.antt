@@ -37,7 +37,7 @@ use Rattle.signal_records.specs.Signals.{signalOf}
 use Rattle.signal_records.specs.declared.Signal as Value
 use Rattle.pending_signals.specs.Canon.{pendingAt}
 use Rattle.pending_signals.specs.Changes.{taken}
-use Rattle.step_ready.specs.Ready.{Ready, replyTo, Stepped, done, runs-written}
+use Rattle.step_ready.specs.Ready.{Ready, replyTo, Stepped, done, job-written}
 use Rattle.ending.specs.Home.{oldest-below}
 use Rattle.entering.specs.Entering.{holds-more}
 use Rattle.entering.specs.declared.start.First.{First}
@@ -135,7 +135,7 @@ module _ {image table b : List ℕ} (h : Ready image table b) (t : ℕ) (rests :
     pub begins : {b′ : List ℕ} {x y : ThreadState} (g : Value.Signal) → t < threadCount → signalOf g ≡ oldest
         → Runs x 0 (begin (signalOf g)) → Runs y (bitOr (x .locks) (2 ^ l .0)) (jobOf x)
         → b′ ≡ put b (threadPlace t) (rawBytes y) → Encodes b′ begun
-    begins g inside e m n z = runs-written h t inside (runs-as (holds-more (l .0) m n) refl (ap begin e)) z
+    begins g inside e m n z = job-written t (h .canonical) inside (runs-as (holds-more (l .0) m n) refl (ap begin e)) z
 
     -- its tree is there still, and the signal leaves it
     pub tree-stays : {b′ : List ℕ} → Encodes b′ begun

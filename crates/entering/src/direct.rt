@@ -1,11 +1,11 @@
 // A direct SEND and a CALL: the thread goes into another block if no other thread holds its lock.
-use crate::passage::Passage;
-use crate::passage::call_passage;
-use crate::passage::send_passage;
 use ending::trapped;
 use image::record_fields::label_a;
 use image::record_fields::label_b;
 use image::record_fields::operand_count;
+use passage::Passage;
+use passage::call_passage;
+use passage::send_passage;
 use rules::answer::Answer;
 use rules::sorts::Thread;
 use thread_records::write_thread;

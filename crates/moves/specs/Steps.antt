@@ -6,46 +6,32 @@ use mathlib.Core.Option.{some}
 use Prim.Native.Nat.{ℕ, _<_}
 use native.Mathlib.Omega.{arith}
 use lib.ListN.{length, drop}
-use borrow.Author.Tests.{ne-eqb}
-use Rattle.rules.specs.Sizes.{threadCount, idleLabel}
+use Rattle.rules.specs.Sizes.{idleLabel}
 use Rattle.rules.specs.Codes.{noReturnLabelCode}
 use Rattle.rules.specs.Image.{labels, recordAt, labelA, labelB}
-use Rattle.rules.specs.Statements.{statementOf, dataOf, reads, conditionOf}
-use Rattle.rules.specs.Effects.{Got, trap, got, Cells, readAll, holds}
-use Rattle.rules.specs.Machine.{Machine, Job, running, window, fill, withThread}
+use Rattle.rules.specs.Statements.{statementOf, dataOf, conditionOf}
+use Rattle.rules.specs.Effects.{got, readAll, holds}
+use Rattle.rules.specs.Machine.{Machine, running, fill, withThread, job}
 use Rattle.rules.specs.Encoding.{machineFrom}
 use Rattle.rules.specs.Events.{step}
-use Rattle.rules.specs.Steps.{blockAt, newest, rulesBy, finished}
+use Rattle.rules.specs.Steps.{newest, rulesBy, finished}
 use Rattle.rules.specs.declared.answer.Answer.{Answer}
 use Rattle.rules.specs.declared.answer.Answer.the-variants.{Moved, Trapped}
 use Rattle.rules.specs.declared.statement.Condition.{Condition}
-use Rattle.rules.specs.declared.statement.Statement.{Statement}
 use Rattle.rules.specs.declared.statement.Statement.the-variants.{Skip, If, Return, Transfer}
 use Rattle.fields.specs.Each.{Each}
-use Rattle.fields.specs.Put.{put}
-use Rattle.encoding.specs.Encoded.{Encodes, Canonical}
+use Rattle.encoding.specs.Encoded.{Encodes}
 use Rattle.soundness.specs.Sound.{PlaceIn, ThreadIn}
 use Rattle.step_laws.specs.Events.{reply}
 use Rattle.step_laws.specs.Statements as law
 use Rattle.threads.specs.Returns.{newestOf, olderOf}
-use Rattle.threads.specs.Threads.{Running, Runs, job, jobOf, returnsOf, registersOf, runs-says}
-use Rattle.threads.specs.Records.{threadPlace, rawBytes}
+use Rattle.threads.specs.Threads.{jobOf, returnsOf, registersOf}
 use Rattle.threads.specs.declared.thread.ThreadState.{ThreadState}
-use Rattle.thread_records.specs.Records.{thread-written}
 use Rattle.operands.specs.Legal.{Fits}
 use Rattle.operands.specs.Cells.{cellsOf}
 use Rattle.operands.specs.Statements.{tests, tests-left, tests-right}
 use Rattle.step_ready.specs.Ready.{Stepped, Ended, replyTo, done}
-use Rattle.step_ready.specs.At.{At, tree, statement-here, cells-here, small, depth-is}
-
--- a running thread runs its job
-pub runs-itself : {w : ThreadState} → Running w → Runs w (w .locks) (jobOf w)
-runs-itself {w} h = record { state = runs-says w (ne-eqb (w .label .0) idleLabel (λ q. omega (arith, h .label))); running = h }
-
--- a thread that runs a job, written
-pub job-written : {b b′ : List ℕ} (t : ℕ) {w : ThreadState} {locks : ℕ} {j : Job} → Canonical b → t < threadCount → Runs w locks j
-    → b′ ≡ put b (threadPlace t) (rawBytes w) → Encodes b′ (withThread (machineFrom b) t (running locks j))
-job-written {b} t {w} h l r e = rw (r .state) at (thread-written b (machineFrom b) h t w l (r .running .tidy) e)
+use Rattle.step_ready.specs.At.{At, tree, statement-here, reads-here, small, depth-is}
 
 -- both choices are below a limit
 pub choice-below : (test : Bool) {x y n : ℕ} → x < n → y < n → cond test x y < n
@@ -68,25 +54,6 @@ module _ {image table b : List ℕ} {t : ℕ} {w : ThreadState} {r : List ℕ} (
 
   abbrev here : List ℕ
   here = recordAt image (w .label .0)
-
-  abbrev lawCells : Cells
-  lawCells = record { registers = jobOf w .registers; words = window (blockAt image (w .label .0)) (m .words) }
-
-  -- the operands of the law's record, read
-  pub reads-here : (S : Statement) {g : Got (List ℕ)} → readAll (cellsOf b w r) (reads S (dataOf r)) ≡ g
-      → readAll lawCells (reads S (dataOf here)) ≡ g
-  reads-here S {g} q =
-      let f = subst (λ (z : List ℕ). readAll (cellsOf b w r) (reads S (dataOf z)) ≡ g) (h .here) q in
-      subst (λ (c : Cells). readAll c (reads S (dataOf here)) ≡ g) (cells-here h) f
-
-  -- an operand that cannot be read
-  pub unread-stepped : (S : Statement) {reason : ℕ} {b′ : List ℕ} {a : Answer} → statementOf r ≡ S
-      → readAll (cellsOf b w r) (reads S (dataOf r)) ≡ trap reason → a ≡ Trapped reason → Ended image table b t b′
-      → Stepped image table b t b′ a
-  unread-stepped S {reason} e g f k =
-      done (finished (rulesBy image table) t m) (Trapped reason)
-      (law.unread image table m t (w .locks) (jobOf w) (tree h .0) (h .runs) (tree h .1) S reason (statement-here h S e)
-      (reads-here S g)) f k
 
   -- ---- SKIP, IF
 
@@ -117,7 +84,7 @@ module _ {image table b : List ℕ} {t : ℕ} {w : ThreadState} {r : List ℕ} (
       let to = q ∙ ap (λ (z : List ℕ). cond (holds (c .relation) x y) (labelA z) (labelB z)) (h .here) in
       done (movedTo (cond (holds (c .relation) x y) (labelA here) (labelB here))) Moved
       (law.branches image table m t (w .locks) (jobOf w) (tree h .0) (h .runs) (tree h .1) (x ∷ y ∷ []) c (statement-here h (If c) e)
-      (reads-here (If c) g)) f (rw to at k)
+      (reads-here h (If c) g)) f (rw to at k)
 
   -- ---- TRANSFER, RETURN
 
@@ -128,7 +95,7 @@ module _ {image table b : List ℕ} {t : ℕ} {w : ThreadState} {r : List ℕ} (
     transferred e =
         rw (ap labelA (h .here))
         (law.transfers image table m t (w .locks) (jobOf w) (tree h .0) (h .runs) (tree h .1) vs (statement-here h Transfer e)
-        (reads-here Transfer g))
+        (reads-here h Transfer g))
 
     module _ (e : statementOf r ≡ Return) where
       -- a list of return labels, with one in it
@@ -137,7 +104,7 @@ module _ {image table b : List ℕ} {t : ℕ} {w : ThreadState} {r : List ℕ} (
       to-newest [] q z = absurd (omega arith)
       to-newest (x ∷ more) q z =
           law.returns-to image table m t (w .locks) (jobOf w) (tree h .0) (h .runs) (tree h .1) vs (statement-here h Return e)
-          (reads-here Return g) x more q
+          (reads-here h Return g) x more q
 
       pub returned : 0 < w .depth → replyTo image table b (step t)
           ≡ reply (withThread m t (running (w .locks) (job (newestOf (returnsOf w)) (olderOf (returnsOf w)) (fill vs)))) Moved
@@ -149,7 +116,7 @@ module _ {image table b : List ℕ} {t : ℕ} {w : ThreadState} {r : List ℕ} (
       unreturned z f k =
           done (finished (rulesBy image table) t m) (Trapped noReturnLabelCode)
           (law.return-none image table m t (w .locks) (jobOf w) (tree h .0) (h .runs) (tree h .1) vs (statement-here h Return e)
-          (reads-here Return g) (rw z refl)) f k
+          (reads-here h Return g) (rw z refl)) f k
 
   pub newest-small : 0 < w .depth → newestOf (returnsOf w) < idleLabel
   newest-small l =

@@ -9,8 +9,8 @@ use Rattle.rules.specs.Sizes.{pendingCount, operandCount}
 use Rattle.rules.specs.Codes.{pendingFullCode}
 use Rattle.rules.specs.Image.{recordAt, operands, labelA, labelB}
 use Rattle.rules.specs.Statements.{statementOf, dataOf}
-use Rattle.rules.specs.Effects.{got, readAll}
-use Rattle.rules.specs.Machine.{Machine, running, first, withThread}
+use Rattle.rules.specs.Effects.{readAll}
+use Rattle.rules.specs.Machine.{Machine, running, first, withThread, job}
 use Rattle.rules.specs.Encoding.{machineFrom}
 use Rattle.rules.specs.Steps.{rulesBy, finished}
 use Rattle.rules.specs.declared.answer.Answer.{Answer}
@@ -18,7 +18,7 @@ use Rattle.rules.specs.declared.answer.Answer.the-variants.{Moved, Trapped}
 use Rattle.rules.specs.declared.statement.Statement.the-variants.{SendBuffered}
 use Rattle.encoding.specs.Encoded.{Encodes, Canonical, encoded-machine}
 use Rattle.encoding.specs.FirstTree.{firstTree, first-some}
-use Rattle.threads.specs.Threads.{jobOf, job, returnsOf, registersOf}
+use Rattle.threads.specs.Threads.{jobOf, returnsOf, registersOf}
 use Rattle.threads.specs.declared.thread.ThreadState.{ThreadState}
 use Rattle.pending_signals.specs.Canon.{pendingAt}
 use Rattle.pending_signals.specs.Changes.{sent}
@@ -26,7 +26,7 @@ use Rattle.operands.specs.Cells.{cellsOf}
 use Rattle.operands.specs.Readings.{Reads}
 use Rattle.step_laws.specs.Statements.{buffer-full, buffers}
 use Rattle.step_ready.specs.Ready.{Stepped, Ended, done}
-use Rattle.step_ready.specs.At.{At, tree, statement-here, data-here}
+use Rattle.step_ready.specs.At.{At, tree, statement-here, reads-here}
 use Rattle.ending.specs.Home.{first-inside}
 
 -- all data of a record could be read, and stand before zeros
@@ -58,7 +58,7 @@ module _ {image table b : List ℕ} {t : ℕ} {w : ThreadState} {r : List ℕ} (
     full-stepped l f k =
         done (finished (rulesBy image table) t m) (Trapped pendingFullCode)
         (buffer-full image table m t (w .locks) (jobOf w) (pendingAt m i) (h .runs) own vs
-        (statement-here h SendBuffered e) (data-here h (got vs) (g .values refl)) (le-leb pendingCount _ l)) f k
+        (statement-here h SendBuffered e) (reads-here h SendBuffered (g .values refl)) (le-leb pendingCount _ l)) f k
 
     -- the machine with the thread at label B, and then with the signal in the tree
     abbrev moved : List ℕ → Machine
@@ -73,5 +73,5 @@ module _ {image table b : List ℕ} {t : ℕ} {w : ThreadState} {r : List ℕ} (
         let both : machineFrom b₂ ≡ buffered r (moved r) = n ∙ ap (buffered r) (encoded-machine b₁ (moved r) k) in
         done (buffered here (moved here)) Moved
         (buffers image table m t (w .locks) (jobOf w) (pendingAt m i) (h .runs) own vs
-        (statement-here h SendBuffered e) (data-here h (got vs) (g .values refl)) (lt-leb pendingCount _ l)) f
+        (statement-here h SendBuffered e) (reads-here h SendBuffered (g .values refl)) (lt-leb pendingCount _ l)) f
         (subst (λ (q : List ℕ). Encodes b₂ (buffered q (moved q))) (h .here) (subst (Encodes b₂) both z))

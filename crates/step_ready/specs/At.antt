@@ -10,24 +10,27 @@ use lib.ListN.{length, set}
 use lib.Seq.{length-take-le}
 use Rattle.rules.specs.Sizes.{threadCount, idleLabel}
 use Rattle.rules.specs.Image.{labels, recordAt, blockField, labelA, labelB}
-use Rattle.rules.specs.Statements.{statementOf, roleA, roleB, dataOf}
+use Rattle.rules.specs.Statements.{statementOf, roleA, roleB, dataOf, reads}
 use Rattle.rules.specs.Check.{recordOk}
-use Rattle.rules.specs.Effects.{Got, Cells, readAll}
-use Rattle.rules.specs.Machine.{Signal, Job, threadAt, first, idle, running, window}
+use Rattle.rules.specs.Effects.{Got, trap, Cells, readAll}
+use Rattle.rules.specs.Machine.{Signal, Job, threadAt, first, idle, running, window, job}
 use Rattle.rules.specs.Encoding.{machineFrom}
-use Rattle.rules.specs.Steps.{blockAt}
+use Rattle.rules.specs.Steps.{blockAt, rulesBy, finished}
+use Rattle.rules.specs.declared.answer.Answer.{Answer}
+use Rattle.rules.specs.declared.answer.Answer.the-variants.{Trapped}
 use Rattle.rules.specs.declared.statement.Statement.{Statement}
 use Rattle.laws.specs.Passed.{Parts, passed, rule-parts}
 use Rattle.laws.specs.Heads.{head-fields, few-operands}
 use Rattle.soundness.specs.Sound.{ThreadIn}
 use Rattle.encoding.specs.Slots.{returnsIn, registersIn}
+use Rattle.step_laws.specs.Statements.{unread}
 use Rattle.image.specs.Records.{labels-small, length-record}
-use Rattle.threads.specs.Threads.{job, jobOf, returnsOf, registersOf, Running, Runs, runs-fields, idle-says, runs-says}
+use Rattle.threads.specs.Threads.{jobOf, returnsOf, registersOf, Running, Runs, runs-fields, idle-says, runs-says}
 use Rattle.threads.specs.Records.{rawThread, same-returns, set-registers}
 use Rattle.threads.specs.declared.thread.ThreadState.{ThreadState}
 use Rattle.operands.specs.Legal.{Below, Readable, label-below}
 use Rattle.operands.specs.Cells.{cellsFrom, cellsOf}
-use Rattle.step_ready.specs.Ready.{Ready, Recorded, says}
+use Rattle.step_ready.specs.Ready.{Ready, Recorded, Stepped, Ended, done, says}
 
 -- thread t runs a job
 abbrev pub Busy : List ℕ → ℕ → Type 0
@@ -111,22 +114,31 @@ module _ {image table b : List ℕ} {t : ℕ} {w : ThreadState} {r : List ℕ} (
   pub block-here : blockField r ≡ blockAt image (w .label .0)
   block-here = ap blockField (h .here)
 
-  pub cells-here : cellsOf b w r ≡ record {
-    registers = jobOf w .registers;
-    words = window (blockAt image (w .label .0))
-        (machineFrom b .words);
-  }
+  abbrev lawRecord : List ℕ
+  lawRecord = recordAt image (w .label .0)
+
+  abbrev lawCells : Cells
+  lawCells = record { registers = jobOf w .registers; words = window (blockAt image (w .label .0)) (machineFrom b .words) }
+
+  pub cells-here : cellsOf b w r ≡ lawCells
   unfolding machineFrom
   cells-here = ap (λ (q : ℕ). cellsFrom b q (w .present) (w .registers)) block-here
 
-  -- the data of the law's record, read
-  pub data-here : (g : Got (List ℕ)) → readAll (cellsOf b w r) (dataOf r) ≡ g
-      → readAll (record { registers = jobOf w .registers; words = window (blockAt image (w .label .0)) (machineFrom b .words) })
-      (dataOf (recordAt image (w .label .0))) ≡ g
-  data-here g q =
-      let f : readAll (cellsOf b w r) (dataOf (recordAt image (w .label .0))) ≡ g = subst
-      (λ (z : List ℕ). readAll (cellsOf b w r) (dataOf z) ≡ g) (h .here) q in
-      subst (λ (c : Cells). readAll c (dataOf (recordAt image (w .label .0))) ≡ g) cells-here f
+  -- the operands of the law's record, read
+  pub reads-here : (S : Statement) {g : Got (List ℕ)} → readAll (cellsOf b w r) (reads S (dataOf r)) ≡ g
+      → readAll lawCells (reads S (dataOf lawRecord)) ≡ g
+  reads-here S {g} q =
+      let f = subst (λ (z : List ℕ). readAll (cellsOf b w r) (reads S (dataOf z)) ≡ g) (h .here) q in
+      subst (λ (c : Cells). readAll c (reads S (dataOf lawRecord)) ≡ g) cells-here f
+
+  -- an operand that cannot be read
+  pub unread-stepped : (S : Statement) {reason : ℕ} {b′ : List ℕ} {a : Answer} → statementOf r ≡ S
+      → readAll (cellsOf b w r) (reads S (dataOf r)) ≡ trap reason → a ≡ Trapped reason → Ended image table b t b′
+      → Stepped image table b t b′ a
+  unread-stepped S {reason} e g f k =
+      done (finished (rulesBy image table) t (machineFrom b)) (Trapped reason)
+      (unread image table (machineFrom b) t (w .locks) (jobOf w) (tree .0) (h .runs) (tree .1) S reason (statement-here S e)
+      (reads-here S g)) f k
 
   -- as many return labels as the thread counts
   pub depth-is : length (returnsOf w) ≡ w .depth

@@ -55,6 +55,11 @@ done {r} {b} {a} s x e f h = record {
   machine = encoded-machine b s h ∙ ap (λ (q : Reply). q .state) (sym e);
 }
 
+-- a thread that runs a job, written
+pub job-written : {b b′ : List ℕ} (t : ℕ) {w : ThreadState} {locks : ℕ} {j : Job} → Canonical b → t < threadCount → Runs w locks j
+    → b′ ≡ put b (threadPlace t) (rawBytes w) → Encodes b′ (withThread (machineFrom b) t (running locks j))
+job-written {b} t {w} h l r e = rw (r .state) at (thread-written b (machineFrom b) h t w l (r .running .tidy) e)
+
 module _ {image table b : List ℕ} (h : Ready image table b) where
   pub ready-again : {b′ : List ℕ} {a : Answer} (e : Event) → Accepted image e → Done (replyTo image table b e) b′ a → Ready image table b′
   ready-again e k d = record {
@@ -71,12 +76,9 @@ module _ {image table b : List ℕ} (h : Ready image table b) where
       → Encodes b′ (withThread (machineFrom b) t (stateOf w))
   written t w l z e = thread-written b (machineFrom b) (h .canonical) t w l z e
 
-  pub runs-written : (t : ℕ) {w : ThreadState} {locks : ℕ} {j : Job} {b′ : List ℕ} → t < threadCount → Runs w locks j
-      → b′ ≡ put b (threadPlace t) (rawBytes w) → Encodes b′ (withThread (machineFrom b) t (running locks j))
-  runs-written t {w} l r e = rw (r .state) at (written t w l (r .running .tidy) e)
-
   -- a step that leaves the thread with these locks and this job, and all else as it was
   pub thread-stepped : (t : ℕ) {w : ThreadState} {locks : ℕ} {j : Job} {b′ : List ℕ} (x : Answer) → t < threadCount
       → replyTo image table b (step t) ≡ record { state = withThread (machineFrom b) t (running locks j); answer = x }
       → Runs w locks j → b′ ≡ put b (threadPlace t) (rawBytes w) → Stepped image table b t b′ x
-  thread-stepped t {w} {locks} {j} x l e r f = done (withThread (machineFrom b) t (running locks j)) x e refl (runs-written t l r f)
+  thread-stepped t {w} {locks} {j} x l e r f =
+      done (withThread (machineFrom b) t (running locks j)) x e refl (job-written t (h .canonical) l r f)

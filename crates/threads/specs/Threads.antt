@@ -14,14 +14,11 @@ use Rattle.rules.specs.Sorts.{label}
 use Rattle.rules.specs.Sizes.{returnCount, registerCount, idleLabel}
 use Rattle.rules.specs.Bytes.{pad}
 use Rattle.rules.specs.Machine as law
-use Rattle.rules.specs.Machine.{Job, idle, running, fill}
+use Rattle.rules.specs.Machine.{Job, job, idle, running, fill}
 use Rattle.rules.specs.Encoding.{registersFrom}
 use Rattle.threads.specs.Returns.{TidyReturns, no-returns}
 use Rattle.threads.specs.Registers.{TidyRegisters, none-tidy, filled-registers, filled-tidy, overlaid-registers, overlaid-tidy}
 use Rattle.threads.specs.declared.thread.ThreadState.{ThreadState}
-
-abbrev pub job : ℕ → List ℕ → List (Option ℕ) → Job
-job l returns registers = record { label = l; returns = returns; registers = registers }
 
 abbrev pub returnsOf : ThreadState → List ℕ
 returnsOf w = take (w .depth) (w .returns)

@@ -6,8 +6,9 @@ ghost use mathlib.Core.Option.{some};
 ghost use Prim.Native.Nat.{_-_, _^_, _<_, _≤_};
 ghost use lib.Bits.{bitOr};
 ghost use lib.ListN.{set, take};
+ghost use Rattle.rules.specs.Machine.{job};
 ghost use Rattle.rules.specs.Sizes.{registerCount};
-ghost use Rattle.threads.specs.Threads.{Running, Runs, job, returnsOf, registersOf, filled, ZerosAfter};
+ghost use Rattle.threads.specs.Threads.{Running, Runs, returnsOf, registersOf, filled, ZerosAfter};
 
 // A presence bit set.
 fn mark(present: u32, register: u16) -> u32

@@ -11,9 +11,9 @@ ghost use Prim.Native.Nat.{_<_, _≤_};
 ghost use lib.Dec.{eqb};
 ghost use lib.ListN.{take, drop};
 ghost use Rattle.rules.specs.Sizes.{registerCount, returnCount, idleLabel};
-ghost use Rattle.rules.specs.Machine.{fill};
+ghost use Rattle.rules.specs.Machine.{fill, job};
 ghost use Rattle.threads.specs.Returns.{newestOf, olderOf};
-ghost use Rattle.threads.specs.Threads.{Idle, Tidy, Running, Runs, job, returnsOf, registersOf, idleThread, ZerosAfter};
+ghost use Rattle.threads.specs.Threads.{Idle, Tidy, Running, Runs, returnsOf, registersOf, idleThread, ZerosAfter};
 
 // At the label 65,535 a thread is idle. Depth is the number of return labels in use; they stand oldest first. Bit r of the presence set
 // is for register r. An array is indexed in a local copy of it and never as a field, which would keep the whole value in memory.

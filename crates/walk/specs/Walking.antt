@@ -15,9 +15,9 @@ use borrow.Author.Tests.{eq-eqb, eqb-true}
 use Rattle.rules.specs.Sizes.{threadCount}
 use Rattle.rules.specs.Walk.{Walk, walk, walkOn, mem?, onto, metCount, metBytes}
 use Rattle.rules.specs.declared.sorts.Thread.{Thread}
-use Rattle.entering.specs.Waiting.{waitsOf}
-use Rattle.entering.specs.declared.waits.Waits.{Waits}
-use Rattle.entering.specs.declared.waits.Waits.the-variants.{For, Nobody}
+use Rattle.awaiting.specs.Waiting.{waitsOf}
+use Rattle.awaiting.specs.declared.Waits.{Waits}
+use Rattle.awaiting.specs.declared.Waits.the-variants.{For, Nobody}
 use Rattle.walk.specs.Laid.{unusedByte, ringCount, among, laidBehind, counted, walkRest}
 
 -- ---- among the bytes

@@ -1,6 +1,6 @@
 // The walk along waits: each thread met is written, first to last, until one that does not wait, or one already written.
-use entering::waits::Waits;
-use entering::waits::awaited;
+use awaiting::Waits;
+use awaiting::awaited;
 use rules::sorts::Thread;
 use rules::sorts::thread_number;
 ghost use mathlib.Core.Path.{_≡_};

@@ -4,7 +4,8 @@ use borrow.Author.Needs.{needs}
 use lib.ListN.{length-append}
 use Rattle.rules.specs.Sizes.{returnCount}
 use Rattle.step_ready.specs.At.{small, depth-is}
-use Rattle.entering.specs.Entering.{call-below, trap-stepped, wait-stepped, go-lock, go-stepped}
+use Rattle.passage.specs.Enters.{call-below}
+use Rattle.entering.specs.Entering.{trap-stepped, wait-stepped, go-lock, go-stepped}
 use Rattle.entering.proofs.direct.call.Statement.{statement}
 use Rattle.entering.proofs.direct.call.Tie as tie
 

@@ -1,6 +1,7 @@
 use borrow.Author.Needs.{needs}
 use Rattle.step_ready.specs.At.{small}
-use Rattle.entering.specs.Entering.{send-below, trap-stepped, wait-stepped, go-lock, go-stepped}
+use Rattle.passage.specs.Enters.{send-below}
+use Rattle.entering.specs.Entering.{trap-stepped, wait-stepped, go-lock, go-stepped}
 use Rattle.entering.proofs.direct.send_direct.Statement.{statement}
 use Rattle.entering.proofs.direct.send_direct.Tie as tie
 

@@ -1,5 +1,4 @@
 use mathlib.Core.Path.{sym, _∙_}
-use mathlib.Core.List.{[]}
 use Prim.Native.Nat.{_<_}
 use lib.ListN.{length}
 use native.Mathlib.Omega.{arith}

@@ -1,12 +1,8 @@
-use mathlib.Core.Path.{_≡_, sym, _∙_, subst}
-use mathlib.Core.Bool.{false}
+use mathlib.Core.Path.{subst}
 use borrow.Author.Needs.{needs}
-use lib.ListN.{set}
-use Rattle.rules.specs.Machine.{idle}
 use Rattle.rules.specs.Encoding.{machineFrom}
-use Rattle.rules.specs.Steps.{held}
 use Rattle.step_ready.specs.Ready.{says}
-use Rattle.entering.specs.Starting.{FirstOf, FirstIs, rests-on, waits-on, label-small, begins, tree-stays, started}
+use Rattle.entering.specs.Starting.{FirstOf, rests-on, waits-on, label-small, begins, tree-stays, started}
 use Rattle.entering.specs.declared.start.First.the-variants.{Go}
 use Rattle.entering.proofs.start.start.Statement.{statement}
 use Rattle.entering.proofs.start.start.Tie as tie

@@ -1,4 +1,4 @@
-use mathlib.Core.Path.{ap, sym, _∙_}
+use mathlib.Core.Path.{ap, sym}
 use borrow.Author.Needs.{needs}
 use Rattle.lock_sets.specs.Lowest.{lowestBy}
 use Rattle.lock_sets.specs.Sets.{zeros-lowest, zeros-none}

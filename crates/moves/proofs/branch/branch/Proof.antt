@@ -2,8 +2,8 @@ use mathlib.Core.Path.{ap, _∙_}
 use mathlib.Core.Bool.{Bool, cond}
 use Rattle.rules.specs.Image.{labelA, labelB}
 use Rattle.rules.specs.declared.statement.Statement.the-variants.{If}
-use Rattle.step_ready.specs.At.{label-A, label-B, small}
-use Rattle.moves.specs.Steps.{condition-fits, choice-below, unread-stepped, branched}
+use Rattle.step_ready.specs.At.{label-A, label-B, small, unread-stepped}
+use Rattle.moves.specs.Steps.{condition-fits, choice-below, branched}
 use borrow.Author.Needs.{needs}
 use Rattle.moves.proofs.branch.branch.Statement.{statement}
 use Rattle.moves.proofs.branch.branch.Tie as tie

@@ -3,7 +3,8 @@ use Rattle.rules.specs.declared.answer.Answer.the-variants.{Moved}
 use Rattle.rules.specs.declared.statement.Statement.the-variants.{Return}
 use Rattle.operands.specs.Gathered.{zeros-stay}
 use Rattle.step_ready.specs.Ready.{thread-stepped}
-use Rattle.moves.specs.Steps.{unread-stepped, returned, unreturned, newest-small}
+use Rattle.step_ready.specs.At.{unread-stepped}
+use Rattle.moves.specs.Steps.{returned, unreturned, newest-small}
 use borrow.Author.Needs.{needs}
 use Rattle.moves.proofs.data.give_back.Statement.{statement}
 use Rattle.moves.proofs.data.give_back.Tie as tie

@@ -8,8 +8,8 @@ use Rattle.rules.specs.Image.{operands}
 use Rattle.rules.specs.declared.answer.Answer.the-variants.{Moved}
 use Rattle.rules.specs.declared.statement.Statement.the-variants.{Transfer}
 use Rattle.step_ready.specs.Ready.{thread-stepped}
-use Rattle.step_ready.specs.At.{label-A, small}
-use Rattle.moves.specs.Steps.{unread-stepped, transferred}
+use Rattle.step_ready.specs.At.{label-A, small, unread-stepped}
+use Rattle.moves.specs.Steps.{transferred}
 use borrow.Author.Needs.{needs}
 use Rattle.moves.proofs.data.transfer.Statement.{statement}
 use Rattle.moves.proofs.data.transfer.Tie as tie

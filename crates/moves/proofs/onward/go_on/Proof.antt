@@ -1,5 +1,5 @@
 use mathlib.Core.Path.{refl}
-use Rattle.moves.specs.Steps.{job-written}
+use Rattle.step_ready.specs.Ready.{job-written}
 use borrow.Author.Needs.{needs}
 use Rattle.moves.proofs.onward.go_on.Statement.{statement}
 use Rattle.moves.proofs.onward.go_on.Tie as tie

@@ -6,7 +6,7 @@ use Rattle.rules.specs.Sizes.{pendingCount}
 use Rattle.rules.specs.Encoding.{machineFrom}
 use Rattle.rules.specs.declared.statement.Statement.the-variants.{SendBuffered}
 use Rattle.pending_signals.specs.Canon.{pendingAt}
-use Rattle.moves.specs.Steps.{unread-stepped}
+use Rattle.step_ready.specs.At.{unread-stepped}
 use Rattle.sending.specs.Buffered.{own-tree, full-stepped}
 use borrow.Author.Needs.{needs}
 use Rattle.sending.proofs.buffered.send_buffered.Statement.{statement}

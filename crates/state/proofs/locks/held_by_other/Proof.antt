@@ -1,6 +1,5 @@
 use borrow.Author.Needs.{needs}
 use mathlib.Core.Path.{_≡_}
-use mathlib.Core.Bool.{Bool, true, false}
 use lib.ListN.{set}
 use Rattle.rules.specs.Machine.{idle}
 use Rattle.rules.specs.Encoding.{machineFrom}

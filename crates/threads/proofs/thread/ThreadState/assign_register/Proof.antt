@@ -1,7 +1,8 @@
 use borrow.Author.Needs.{needs}
 use mathlib.Core.Path.{refl, ap}
+use Rattle.rules.specs.Machine.{job}
 use Rattle.threads.specs.Registers.{stored-registers, stored-tidy}
-use Rattle.threads.specs.Threads.{running-thread, job, returnsOf}
+use Rattle.threads.specs.Threads.{running-thread, returnsOf}
 use Rattle.threads.proofs.thread.ThreadState.assign_register.Statement.{statement}
 use Rattle.threads.proofs.thread.ThreadState.assign_register.Tie as tie
 

@@ -3,9 +3,9 @@ use Prim.Native.Nat.{_+_}
 use mathlib.Core.Path.{_≡_, refl, ap}
 use mathlib.Core.List.{[], _∷_, _++_}
 use lib.ListN.{set, take}
-use Rattle.rules.specs.Machine.{fill}
+use Rattle.rules.specs.Machine.{fill, job}
 use Rattle.threads.specs.Returns.{pushed, pushed-tidy}
-use Rattle.threads.specs.Threads.{job, returnsOf, tidy-with, runs-as}
+use Rattle.threads.specs.Threads.{returnsOf, tidy-with, runs-as}
 use Rattle.threads.proofs.thread.ThreadState.call.Statement.{statement}
 use Rattle.threads.proofs.thread.ThreadState.call.Tie as tie
 

@@ -1,10 +1,10 @@
 use borrow.Author.Needs.{needs}
 use Prim.Native.Nat.{_-_}
 use mathlib.Core.Path.{_≡_, refl, ap, _∙_}
-use lib.ListN.{getD, set, take}
-use Rattle.rules.specs.Machine.{fill}
-use Rattle.threads.specs.Returns.{newestOf, olderOf, popped, popped-label, popped-tidy}
-use Rattle.threads.specs.Threads.{job, returnsOf, tidy-with, runs-as}
+use lib.ListN.{take}
+use Rattle.rules.specs.Machine.{fill, job}
+use Rattle.threads.specs.Returns.{newestOf, popped, popped-label, popped-tidy}
+use Rattle.threads.specs.Threads.{returnsOf, tidy-with, runs-as}
 use Rattle.threads.proofs.thread.ThreadState.return_to_caller.Statement.{statement}
 use Rattle.threads.proofs.thread.ThreadState.return_to_caller.Tie as tie
 

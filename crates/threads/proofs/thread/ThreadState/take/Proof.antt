@@ -1,8 +1,8 @@
 use mathlib.Core.Path.{ap}
 use lib.ListN.{take}
 use borrow.Author.Needs.{needs}
-use Rattle.rules.specs.Machine.{fill}
-use Rattle.threads.specs.Threads.{job, idle-fields, runs-as}
+use Rattle.rules.specs.Machine.{fill, job}
+use Rattle.threads.specs.Threads.{idle-fields, runs-as}
 use Rattle.threads.proofs.thread.ThreadState.take.Statement.{statement}
 use Rattle.threads.proofs.thread.ThreadState.take.Tie as tie
 

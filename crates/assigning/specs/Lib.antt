@@ -1,0 +1,2 @@
+pub mod Destinations
+pub mod Assigned

@@ -1,0 +1,138 @@
+// ASSIGN and its kind: values are worked out and stored to registers or to shared words of the block.
+use ending::trapped;
+use image::record_fields::block_field;
+use image::record_fields::label_a;
+use operands::computed;
+use operands::read_pair;
+use rules::answer::Answer;
+use rules::sorts::Block;
+use rules::sorts::Thread;
+use rules::statement::Assignment;
+use rules::statement::Operand;
+use state::words::write_word;
+use thread_records::write_assigned;
+use thread_records::write_thread;
+use threads::thread::ThreadState;
+ghost use mathlib.Core.Path.{_≡_};
+ghost use Prim.Native.Nat.{_<_};
+ghost use Rattle.rules.specs.Sizes.{threadCount, blockCount};
+ghost use Rattle.rules.specs.Machine.{running, withThread, job};
+ghost use Rattle.rules.specs.Encoding.{machineFrom};
+ghost use Rattle.rules.specs.Statements.{statementOf};
+ghost use Rattle.rules.specs.declared.statement.Statement.the-variants.{Assign};
+ghost use Rattle.encoding.specs.Encoded.{Encodes, Canonical};
+ghost use Rattle.threads.specs.Threads.{Running, Runs, returnsOf, registersOf};
+ghost use Rattle.operands.specs.Legal.{Fits};
+ghost use Rattle.step_ready.specs.Ready.{Stepped};
+ghost use Rattle.step_ready.specs.At.{At};
+ghost use Rattle.assigning.specs.Destinations.{registersAfter, withWordAt, landed};
+ghost use Rattle.assigning.specs.Assigned.{OneChanged};
+
+// A value whose destination is a register goes there; any other leaves the thread as it is.
+fn store_register(w: ThreadState, to: Operand, v: u16) -> ThreadState
+    requires { ⌜ Running w × Fits to ⌝ }
+    ensures { λ x. ⌜ Runs x (w .locks) (job (w .label .0) (returnsOf w) (registersAfter to v (registersOf w))) ⌝ }
+{
+    match to {
+        Operand::Number(_) => w,
+        Operand::Register(k) => w.assign_register(k, v),
+        Operand::Word(_) => w,
+    }
+}
+
+// A value whose destination is a shared word of the block goes there; any other leaves the state as it is.
+fn store_word(state: &mut [u8], block: Block, to: Operand, v: u16)
+    requires { ⌜ Canonical (now state) × (block .0 < blockCount) × Fits to ⌝ }
+    ensures { λ _. ⌜ Encodes (now (state .exit)) (withWordAt (machineFrom (now (state .entry))) (block .0) to v) ⌝ }
+{
+    match to {
+        Operand::Number(_) => {}
+        Operand::Register(_) => {}
+        Operand::Word(k) => write_word(state, block, k, v),
+    }
+}
+
+// The record of a thread in which one value was stored, to a register or to none: one register is written, or all.
+fn write_one(state: &mut [u8], t: Thread, w: ThreadState, to: Operand, v: u16)
+    requires { ⌜ Canonical (now state) × (t .0 < threadCount) × Running w × OneChanged (now state) (t .0) w to v ⌝ }
+    ensures { λ _. ⌜ Encodes (now (state .exit)) (withThread (machineFrom (now (state .entry))) (t .0)
+        (running (w .locks) (job (w .label .0) (returnsOf w) (registersOf w)))) ⌝ }
+{
+    match to {
+        Operand::Number(_) => write_thread(state, t, w),
+        Operand::Register(k) => write_assigned(state, t, w, k, v),
+        Operand::Word(_) => write_thread(state, t, w),
+    }
+}
+
+// The thread w has the first value, if that goes to a register, and takes the second likewise. Its record is written once.
+fn write_both(
+    state: &mut [u8],
+    t: Thread,
+    w: ThreadState,
+    first: Operand,
+    u: u16,
+    second: Operand,
+    v: u16,
+)
+    requires { ⌜ Canonical (now state) × (t .0 < threadCount) × Running w × OneChanged (now state) (t .0) w first u × Fits second ⌝ }
+    ensures { λ _. ⌜ Encodes (now (state .exit)) (withThread (machineFrom (now (state .entry))) (t .0)
+        (running (w .locks) (job (w .label .0) (returnsOf w) (registersAfter second v (registersOf w))))) ⌝ }
+{
+    match second {
+        Operand::Number(_) => write_one(state, t, w, first, u),
+        Operand::Register(k) => write_thread(state, t, w.assign_register(k, v)),
+        Operand::Word(_) => write_one(state, t, w, first, u),
+    }
+}
+
+// The thread goes on to A, and the values to their destinations: registers first, with the thread's record, then words.
+fn store_both(
+    image: &[u8],
+    table: &[u8],
+    state: &mut [u8],
+    t: Thread,
+    w: ThreadState,
+    r: &[u8],
+    a: Assignment,
+    u: u16,
+    v: u16,
+)
+    requires { ⌜ At (now image) (now table) (now state) (t .0) w (now r) × (statementOf (now r) ≡ Assign a) ⌝ }
+    ensures { λ _. ⌜ Encodes (now (state .exit)) (landed (machineFrom (now (state .entry))) (t .0) w (now (r .entry)) a u v) ⌝ }
+{
+    let first = a.first;
+    let second = a.second;
+    let block = block_field(r);
+    let next = store_register(w.move_on(label_a(r)), first, u);
+    write_both(state, t, next, first, u, second, v);
+    store_word(state, block, first, u);
+    store_word(state, block, second, v);
+}
+
+pub fn assign(
+    image: &[u8],
+    table: &[u8],
+    state: &mut [u8],
+    t: Thread,
+    w: ThreadState,
+    r: &[u8],
+    a: Assignment,
+) -> Answer
+    requires { ⌜ At (now image) (now table) (now state) (t .0) w (now r) × (statementOf (now r) ≡ Assign a) ⌝ }
+    ensures { λ z. ⌜ Stepped (now (image .entry)) (now (table .entry)) (now (state .entry)) (t .0) (now (state .exit)) z ⌝ }
+{
+    let left = a.left;
+    let right = a.right;
+    let pair = read_pair(state, w, r, left, right);
+    if pair.trap != 0 {
+        return trapped(image, table, state, t, w, pair.trap);
+    }
+    let operation = a.operation;
+    let worked = computed(operation, pair.left, pair.right);
+    if worked.trap != 0 {
+        return trapped(image, table, state, t, w, worked.trap);
+    }
+    store_both(image, table, state, t, w, r, a, worked.first, worked.second);
+    Answer::Moved
+}

@@ -1,0 +1,43 @@
+use borrow.Author.Needs.{needs}
+use Rattle.awaiting.specs.Waiting.{opcode-send, opcode-call, opcode-other, wants-passage, wants-nothing}
+use Rattle.awaiting.proofs.running_lock.Statement.{statement}
+use Rattle.awaiting.proofs.running_lock.Tie as tie
+
+send-passage-requires : tie.Need-send-passage-requires
+send-passage-requires c κs = (
+  c .before .before .before .before .before .before .before .pre,
+  opcode-send
+      (c .before .before .before .before .before .before .before .args .r .now) (c .before .match .keys1),
+  search needs,
+)
+
+call-passage-requires : tie.Need-call-passage-requires
+call-passage-requires c κs = (
+  c .before .before .before .before .before .before .before .pre,
+  opcode-call
+      (c .before .before .before .before .before .before .before .args .r .now) (c .before .match .keys2),
+  search needs,
+)
+
+returns : tie.Need-returns
+returns c = rw (c .lock-wanted .ensures) (wants-passage (c .before .send-passage .ensures))
+
+returns-2 : tie.Need-returns-2
+returns-2 c = rw (c .lock-wanted2 .ensures) (wants-passage (c .before .call-passage .ensures))
+
+returns-3 : tie.Need-returns-3
+returns-3 c = wants-nothing (c .before .before .before .before .before .before .pre)
+    (opcode-other (c .before .before .before .before .before .before .args .r .now) (c .match .rest .0 .1) (c .match .rest .1))
+
+pub running-lock-spec : {M : Type 1} → statement M
+running-lock-spec =
+    tie.close
+    (tie.spec
+    (λ c. search needs)
+    send-passage-requires
+    (λ c κs. search needs)
+    call-passage-requires
+    (λ c κs. search needs)
+    returns
+    returns-2
+    returns-3)

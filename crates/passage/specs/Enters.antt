@@ -1,0 +1,176 @@
+-- What a direct SEND and a CALL come to, by their passage.
+use mathlib.Core.Path.{_≡_, refl, sym, _∙_}
+use mathlib.Core.Bool.{Bool, true, false, cond}
+use mathlib.Core.Option.{some}
+use mathlib.Core.List.{List, [], _∷_, _++_}
+use Prim.Native.Nat.{ℕ, _+_, _≤_, _<_, _^_}
+use native.Mathlib.Decide.{ℕ-discrete}
+use native.Mathlib.Omega.{arith}
+use lib.Bits.{bitOr}
+use lib.Dec.{eqb, leb}
+use lib.ListN.{length, take, set, replicate, length-append}
+use borrow.Author.Tests.{ne-eqb}
+use Rattle.rules.specs.Sorts.{lock}
+use Rattle.rules.specs.Sizes.{lockCount, returnCount, operandCount}
+use Rattle.rules.specs.Codes.{returnsFullCode, foreignFdBlockCode}
+use Rattle.rules.specs.Image.{labels, recordAt, labelA, labelB, operands, Row, rowAt}
+use Rattle.rules.specs.Statements.{statementOf, dataOf}
+use Rattle.rules.specs.Effects.{readAll}
+use Rattle.rules.specs.Machine.{Signal, Job, Machine, idle, running, threadAt, first, fill, withThread, job}
+use Rattle.rules.specs.Encoding.{machineFrom}
+use Rattle.rules.specs.Events.{step}
+use Rattle.rules.specs.Steps.{Reply, rulesBy, blockAt, alien, held, finished, react}
+use Rattle.rules.specs.declared.sorts.Lock.{Lock}
+use Rattle.rules.specs.declared.answer.Answer.the-variants.{Waiting, Moved, Trapped}
+use Rattle.rules.specs.declared.statement.Statement.the-variants.{SendDirect, Call}
+use Rattle.laws.specs.Passed.{passed}
+use Rattle.soundness.specs.Destinations.{lock-below}
+use Rattle.step_laws.specs.Events.{reply}
+use Rattle.step_laws.specs.Statements.{unread, send-alien, send-waits, send-enters, call-deep, call-alien, call-waits, call-enters}
+use Rattle.threads.specs.Threads.{jobOf, returnsOf, ZerosAfter}
+use Rattle.threads.specs.declared.thread.ThreadState.{ThreadState}
+use Rattle.operands.specs.Readings.{Reads}
+use Rattle.operands.specs.Cells.{cellsOf}
+use Rattle.operands.specs.Gathered.{zeros-stay}
+use Rattle.step_ready.specs.At.{At, tree, label-A, depth-is}
+use Rattle.passage.specs.Passages.{passageTo, callTrap, go-clear, call-clear}
+use Rattle.passage.specs.declared.Passage.{Passage}
+use Rattle.passage.specs.declared.Passage.the-variants.{Trap, Wait, Go}
+
+-- what the reply to a step of thread t is, by its passage: the thread goes in with the job k
+abbrev pub Passes : List ℕ → List ℕ → Machine → ℕ → ℕ → Job → Passage → Type 0
+Passes image table s t locks k (Trap x) = react (rulesBy image table) s (step t) ≡ reply (finished (rulesBy image table) t s) (Trapped x)
+Passes image table s t locks k (Wait l) = (l .0 < lockCount) × (react (rulesBy image table) s (step t) ≡ reply s (Waiting l))
+Passes image table s t locks k (Go l) =
+    (l .0 < lockCount) × (react (rulesBy image table) s (step t) ≡ reply (withThread s t (running (bitOr locks (2 ^ l .0)) k)) Moved)
+
+-- the passage of the statement in the record r, with the return labels and the values with which the thread goes in
+pub record Enters (image table b : List ℕ) (t : ℕ) (w : ThreadState) (r returns vs : List ℕ) (p : Passage) : Type 0 where
+  pub passes : Passes image table (machineFrom b) t (w .locks) (job (labelA r) returns (fill (take (operands r) vs))) p
+  pub zeros : (l : Lock) → p ≡ Go l → ZerosAfter (operands r) vs
+  pub room : (l : Lock) → p ≡ Go l → length returns ≤ returnCount
+
+module _ (image table : List ℕ) (s : Machine) (t locks : ℕ) (k : Job) (row : Row) where
+  abbrev stepped : Reply
+  stepped = react (rulesBy image table) s (step t)
+
+  abbrev taken : Bool
+  taken = held (row .lock) (set (s .threads) t idle)
+
+  -- an earlier test made a trap
+  trapped-before : (x : ℕ) → (x ≡ 0 → ⊥) → stepped ≡ reply (finished (rulesBy image table) t s) (Trapped x)
+      → Passes image table s t locks k (passageTo s row t x)
+  unfolding passageTo
+  trapped-before x n e = rw (ne-eqb x 0 n) e
+
+  -- none did
+  none-before : row .lock < lockCount
+      → (alien row t ≡ true → stepped ≡ reply (finished (rulesBy image table) t s) (Trapped foreignFdBlockCode))
+      → (alien row t ≡ false → taken ≡ true → stepped ≡ reply s (Waiting (lock (row .lock))))
+      → (alien row t ≡ false → taken ≡ false → stepped ≡ reply (withThread s t (running (bitOr locks (2 ^ row .lock)) k)) Moved)
+      → Passes image table s t locks k (passageTo s row t 0)
+  unfolding passageTo
+  none-before inside f g h = case (alien row t) taken f g h
+    where
+      case : (a b : Bool) → (a ≡ true → stepped ≡ reply (finished (rulesBy image table) t s) (Trapped foreignFdBlockCode))
+          → (a ≡ false → b ≡ true → stepped ≡ reply s (Waiting (lock (row .lock))))
+          → (a ≡ false → b ≡ false → stepped ≡ reply (withThread s t (running (bitOr locks (2 ^ row .lock)) k)) Moved)
+          → Passes image table s t locks k (cond a (Trap foreignFdBlockCode) (cond b (Wait (lock (row .lock))) (Go (lock (row .lock)))))
+      case true b f g h = f refl
+      case false true f g h = (inside, g refl refl)
+      case false false f g h = (inside, h refl refl)
+
+-- the record at the label of a running thread, and the data that it reads
+module _ (image table b : List ℕ) (t : ℕ) (w : ThreadState) (p : List Signal)
+    (runs : threadAt (machineFrom b) t ≡ running (w .locks) (jobOf w)) (own : first t (machineFrom b .trees) ≡ some p) where
+  abbrev r : List ℕ
+  r = recordAt image (w .label .0)
+
+  abbrev into : Row
+  into = rowAt table (blockAt image (labelA r))
+
+  module _ {x n : ℕ} {before vs : List ℕ} (g : Reads (readAll (cellsOf b w r) (dataOf r)) x n before vs)
+      (inside : into .lock < lockCount) where
+    send-by : statementOf r ≡ SendDirect
+        → Passes image table (machineFrom b) t (w .locks) (job (labelA r) (returnsOf w) (fill (take n vs)))
+        (passageTo (machineFrom b) into t x)
+    unfolding machineFrom
+    send-by e = case (ℕ-discrete x 0)
+      where
+        case : Dec (x ≡ 0) → Passes image table (machineFrom b) t (w .locks) (job (labelA r) (returnsOf w) (fill (take n vs)))
+            (passageTo (machineFrom b) into t x)
+        case (yes z) =
+            rw z (none-before image table (machineFrom b) t (w .locks) (job (labelA r) (returnsOf w) (fill (take n vs))) into inside
+            (send-alien image table (machineFrom b) t (w .locks) (jobOf w) p runs own (take n vs) e (g .values z))
+            (send-waits image table (machineFrom b) t (w .locks) (jobOf w) p runs own (take n vs) e (g .values z))
+            (send-enters image table (machineFrom b) t (w .locks) (jobOf w) p runs own (take n vs) e (g .values z)))
+        case (no m) = trapped-before image table (machineFrom b) t (w .locks) _ into x m
+            (unread image table (machineFrom b) t (w .locks) (jobOf w) p runs own SendDirect x e (g .trapped m))
+
+    call-by : length (returnsOf w) ≡ w .depth → statementOf r ≡ Call
+        → Passes image table (machineFrom b) t (w .locks) (job (labelA r) (returnsOf w ++ labelB r ∷ []) (fill (take n vs)))
+        (passageTo (machineFrom b) into t (callTrap x (w .depth)))
+    unfolding machineFrom callTrap
+    call-by deep e = case (ℕ-discrete x 0) (leb returnCount (w .depth)) refl
+      where
+        case : Dec (x ≡ 0) → (f : Bool) → leb returnCount (w .depth) ≡ f
+            → Passes image table (machineFrom b) t (w .locks) (job (labelA r) (returnsOf w ++ labelB r ∷ []) (fill (take n vs)))
+            (passageTo (machineFrom b) into t (cond (eqb x 0) (cond (leb returnCount (w .depth)) returnsFullCode 0) x))
+        case (yes z) true f =
+            rw (z, f) (trapped-before image table (machineFrom b) t (w .locks) _ into returnsFullCode (λ q. omega arith)
+            (call-deep image table (machineFrom b) t (w .locks) (jobOf w) p runs own (take n vs) e (g .values z) (rw deep f)))
+        case (yes z) false f =
+            rw (z, f) (none-before image table (machineFrom b) t (w .locks) _ into inside
+            (call-alien image table (machineFrom b) t (w .locks) (jobOf w) p runs own (take n vs) e (g .values z) (rw deep f))
+            (call-waits image table (machineFrom b) t (w .locks) (jobOf w) p runs own (take n vs) e (g .values z) (rw deep f))
+            (call-enters image table (machineFrom b) t (w .locks) (jobOf w) p runs own (take n vs) e (g .values z) (rw deep f)))
+        case (no m) f q = rw (ne-eqb x 0 m)
+            (trapped-before image table (machineFrom b) t (w .locks) _ into x m
+            (unread image table (machineFrom b) t (w .locks) (jobOf w) p runs own Call x e (g .trapped m)))
+
+module _ {image table b : List ℕ} {t : ℕ} {w : ThreadState} {r : List ℕ} (h : At image table b t w r) where
+  -- the signal of a direct SEND or a CALL is below n, and its lock is one of the 16
+  pub send-below : statementOf r ≡ SendDirect → labelA r < labels image
+  send-below e = label-A h SendDirect e
+
+  pub call-below : statementOf r ≡ Call → labelA r < labels image
+  call-below e = label-A h Call e
+
+  lock-inside : (q : List ℕ) → labelA q < labels image → rowAt table (blockAt image (labelA q)) .lock < lockCount
+  lock-inside q l = lock-below image table (passed image table [] (h .ready .checked) .0) (labelA q) l
+
+  module _ {x : ℕ} {vs : List ℕ} (g : Reads (readAll (cellsOf b w r) (dataOf r)) x (operands r) (replicate operandCount 0) vs)
+      (q : Passage) where
+    pub send-enters-as : statementOf r ≡ SendDirect → q ≡ passageTo (machineFrom b) (rowAt table (blockAt image (labelA r))) t x
+        → Enters image table b t w r (returnsOf w) vs q
+    send-enters-as e f = record {
+      passes = rw f (go r (h .here) g e (lock-inside r (send-below e)));
+      zeros = λ l z. zeros-stay g (go-clear _ _ _ _ l (sym f ∙ z));
+      room = λ l z. omega (arith, depth-is h, h .thread .tidy .returns .within);
+    }
+      where
+        go : (q : List ℕ) → q ≡ recordAt image (w .label .0)
+            → Reads (readAll (cellsOf b w q) (dataOf q)) x (operands q) (replicate operandCount 0) vs → statementOf q ≡ SendDirect
+            → rowAt table (blockAt image (labelA q)) .lock < lockCount
+            → Passes image table (machineFrom b) t (w .locks) (job (labelA q) (returnsOf w) (fill (take (operands q) vs)))
+            (passageTo (machineFrom b) (rowAt table (blockAt image (labelA q))) t x)
+        go q i = rw i (λ g e l. send-by image table b t w (tree h .0) (h .runs) (tree h .1) g l e)
+
+    pub call-enters-as : statementOf r ≡ Call
+        → q ≡ passageTo (machineFrom b) (rowAt table (blockAt image (labelA r))) t (callTrap x (w .depth))
+        → Enters image table b t w r (returnsOf w ++ labelB r ∷ []) vs q
+    call-enters-as e f = record {
+      passes = rw f (go r (h .here) g e (lock-inside r (call-below e)));
+      zeros = λ l z. zeros-stay g (clear l z .0);
+      room = λ l z. simp length-append (omega (arith, clear l z .1, depth-is h));
+    }
+      where
+        clear : (l : Lock) → q ≡ Go l → (x ≡ 0) × (w .depth < returnCount)
+        clear l z = call-clear x (w .depth) (go-clear _ _ _ _ l (sym f ∙ z))
+
+        go : (q : List ℕ) → q ≡ recordAt image (w .label .0)
+            → Reads (readAll (cellsOf b w q) (dataOf q)) x (operands q) (replicate operandCount 0) vs → statementOf q ≡ Call
+            → rowAt table (blockAt image (labelA q)) .lock < lockCount
+            → Passes image table (machineFrom b) t (w .locks) (job (labelA q) (returnsOf w ++ labelB q ∷ []) (fill (take (operands q) vs)))
+            (passageTo (machineFrom b) (rowAt table (blockAt image (labelA q))) t (callTrap x (w .depth)))
+        go q i = rw i (λ g e l. call-by image table b t w (tree h .0) (h .runs) (tree h .1) g l (depth-is h) e)

@@ -1,0 +1,2 @@
+pub mod Passages
+pub mod Enters

@@ -1,0 +1,60 @@
+-- What a direct SEND or a CALL comes to: a trap, then its lock.
+use mathlib.Core.Path.{_≡_, refl}
+use mathlib.Core.Bool.{Bool, true, false, cond}
+use Prim.Native.Nat.{ℕ, _<_}
+use lib.Dec.{eqb, leb}
+use lib.ListN.{set}
+use borrow.Author.Tests.{eqb-true, leb-false}
+use Rattle.rules.specs.Sorts.{lock}
+use Rattle.rules.specs.Sizes.{returnCount}
+use Rattle.rules.specs.Codes.{returnsFullCode, foreignFdBlockCode}
+use Rattle.rules.specs.Image.{Row}
+use Rattle.rules.specs.Machine.{Machine, idle}
+use Rattle.rules.specs.Steps.{alien, held}
+use Rattle.rules.specs.declared.sorts.Lock.{Lock}
+use Rattle.laws.specs.Logic.{never}
+use Rattle.passage.specs.declared.Passage.{Passage}
+use Rattle.passage.specs.declared.Passage.the-variants.{Trap, Wait, Go}
+
+-- an operand cannot be read, or 8 return labels: the reason of the trap, or 0
+unfoldable pub callTrap : ℕ → ℕ → ℕ
+callTrap unread depth = cond (eqb unread 0) (cond (leb returnCount depth) returnsFullCode 0) unread
+
+-- by whether another thread holds the lock
+abbrev byLock : Bool → Lock → Passage
+byLock h l = cond h (Wait l) (Go l)
+
+-- an earlier trap, an FD block of another thread, or the block's lock
+unfoldable pub passageTo : Machine → Row → ℕ → ℕ → Passage
+passageTo s row t earlier =
+    cond (eqb earlier 0) (cond (alien row t) (Trap foreignFdBlockCode)
+    (byLock (held (row .lock) (set (s .threads) t idle)) (lock (row .lock)))) (Trap earlier)
+
+-- no earlier trap
+pub passage-on : (s : Machine) (row : Row) (t x : ℕ) → x ≡ 0 → (a h : Bool) → alien row t ≡ a
+    → held (row .lock) (set (s .threads) t idle) ≡ h
+    → passageTo s row t x ≡ cond a (Trap foreignFdBlockCode) (byLock h (lock (row .lock)))
+unfolding passageTo
+passage-on s row t x z a h e f = rw (z, e, f)
+
+-- a thread that goes in met no trap
+pub go-clear : (s : Machine) (row : Row) (t x : ℕ) (l : Lock) → passageTo s row t x ≡ Go l → x ≡ 0
+unfolding passageTo
+go-clear s row t x l e = case (eqb x 0) refl e
+  where
+    case : (z : Bool) → eqb x 0 ≡ z
+        → cond z (cond (alien row t) (Trap foreignFdBlockCode) (byLock (held (row .lock) (set (s .threads) t idle)) (lock (row .lock))))
+        (Trap x) ≡ Go l → x ≡ 0
+    case true z e = eqb-true x 0 z
+    case false z e = never (cc)
+
+-- a CALL that makes no trap has read its data, and has room for its return label
+pub call-clear : (u depth : ℕ) → callTrap u depth ≡ 0 → (u ≡ 0) × (depth < returnCount)
+unfolding callTrap
+call-clear u depth e = case (eqb u 0) (leb returnCount depth) refl refl e
+  where
+    case : (z f : Bool) → eqb u 0 ≡ z → leb returnCount depth ≡ f → cond z (cond f returnsFullCode 0) u ≡ 0
+        → (u ≡ 0) × (depth < returnCount)
+    case true true z f e = never (cc)
+    case true false z f e = (eqb-true u 0 z, leb-false returnCount depth f)
+    case false f z q e = never (let k : _≡_ {A = Bool} true false = rw e at z in cc)

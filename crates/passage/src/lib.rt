@@ -1,0 +1,128 @@
+// What a direct SEND or a CALL comes to: a trap, then its lock, and nothing is changed. The step and the walk ask the same.
+use image::record_fields::label_a;
+use image::records::block_at;
+use image::table::kind_at;
+use image::table::lock_at;
+use image::table::thread_at;
+use operands::read_data;
+use rules::codes::FD;
+use rules::codes::FOREIGN_FD_BLOCK;
+use rules::codes::RETURNS_FULL;
+use rules::sorts::Block;
+use rules::sorts::Label;
+use rules::sorts::Lock;
+use rules::sorts::Thread;
+use rules::sorts::same_thread;
+use state::locks::held_by_other;
+use threads::thread::ThreadState;
+ghost use mathlib.Core.Path.{_≡_};
+ghost use mathlib.Core.List.{[], _∷_, _++_};
+ghost use Prim.Native.Nat.{_<_};
+ghost use lib.ListN.{length, replicate};
+ghost use Rattle.rules.specs.Sizes.{blockCount, registerCount, tableSize};
+ghost use Rattle.rules.specs.Image.{labels, labelB, rowAt};
+ghost use Rattle.rules.specs.Statements.{statementOf};
+ghost use Rattle.rules.specs.declared.statement.Statement.the-variants.{SendDirect, Call};
+ghost use Rattle.rules.specs.Check.{Checked};
+ghost use Rattle.rules.specs.Encoding.{machineFrom};
+ghost use Rattle.rules.specs.Steps.{alien, blockAt};
+ghost use Rattle.encoding.specs.Encoded.{Canonical};
+ghost use Rattle.threads.specs.Threads.{returnsOf};
+ghost use Rattle.step_ready.specs.At.{At};
+ghost use Rattle.passage.specs.Passages.{passageTo, callTrap};
+ghost use Rattle.passage.specs.Enters.{Enters};
+
+// A trap with its reason, a lock that another thread holds, or a lock that the step takes.
+pub enum Passage {
+    Trap(u8),
+    Wait(Lock),
+    Go(Lock),
+}
+
+// The reason of the trap that a CALL makes before its block is looked at; 0 where it makes none.
+fn call_trap(unread: u8, depth: usize) -> u8
+    ensures { λ k. ⌜ k ≡ callTrap unread depth ⌝ }
+{
+    if unread != 0 {
+        return unread;
+    }
+    if Thread::RETURNS <= depth {
+        return RETURNS_FULL;
+    }
+    0
+}
+
+// Whether a block is an FD block of a thread other than t.
+fn is_alien(table: &[u8], t: Thread, block: Block) -> bool
+    requires { ⌜ (block .0 < blockCount) × (length (now table) ≡ tableSize) ⌝ }
+    ensures { λ r. ⌜ r ≡ alien (rowAt (now (table .entry)) (block .0)) (t .0) ⌝ }
+{
+    (kind_at(table, block) == FD) & !same_thread(thread_at(table, block), t)
+}
+
+// The passage of thread t into the block of a label, where no earlier test made a trap (0): an FD block of another thread is a trap
+// whoever holds its lock.
+fn passage_to(
+    image: &[u8],
+    table: &[u8],
+    state: &[u8],
+    t: Thread,
+    to: Label,
+    earlier: u8,
+) -> Passage
+    requires { ⌜ Checked (now image) (now table) × Canonical (now state) × (to .0 < labels (now image)) ⌝ }
+    ensures { λ p. ⌜ p ≡ passageTo (machineFrom (now (state .entry)))
+        (rowAt (now (table .entry)) (blockAt (now (image .entry)) (to .0))) (t .0) earlier ⌝ }
+{
+    if earlier != 0 {
+        return Passage::Trap(earlier);
+    }
+    let block = block_at(image, to);
+    let lock = lock_at(table, block);
+    let held = held_by_other(state, lock, t);
+    if is_alien(table, t, block) {
+        return Passage::Trap(FOREIGN_FD_BLOCK);
+    }
+    if held {
+        return Passage::Wait(lock);
+    }
+    Passage::Go(lock)
+}
+
+// The passage of a direct SEND, and the values that it reads.
+pub fn send_passage(
+    image: &[u8],
+    table: &[u8],
+    state: &[u8],
+    t: Thread,
+    w: ThreadState,
+    r: &[u8],
+    values: &mut [u16; Thread::REGISTERS],
+) -> Passage
+    requires { ⌜ At (now image) (now table) (now state) (t .0) w (now r)
+        × (statementOf (now r) ≡ SendDirect) × (now values ≡ replicate registerCount 0) ⌝ }
+    ensures { λ p. ⌜ Enters (now (image .entry)) (now (table .entry)) (now (state .entry)) (t .0) w (now (r .entry))
+        (returnsOf w) (now (values .exit)) p ⌝ }
+{
+    let trap = read_data(state, w, r, values);
+    passage_to(image, table, state, t, label_a(r), trap)
+}
+
+// The same of a CALL, which needs room for its return label.
+pub fn call_passage(
+    image: &[u8],
+    table: &[u8],
+    state: &[u8],
+    t: Thread,
+    w: ThreadState,
+    r: &[u8],
+    values: &mut [u16; Thread::REGISTERS],
+) -> Passage
+    requires { ⌜ At (now image) (now table) (now state) (t .0) w (now r)
+        × (statementOf (now r) ≡ Call) × (now values ≡ replicate registerCount 0) ⌝ }
+    ensures { λ p. ⌜ Enters (now (image .entry)) (now (table .entry)) (now (state .entry)) (t .0) w (now (r .entry))
+        (returnsOf w ++ (labelB (now (r .entry)) ∷ [])) (now (values .exit)) p ⌝ }
+{
+    let trap = call_trap(read_data(state, w, r, values), w.depth);
+    passage_to(image, table, state, t, label_a(r), trap)
+}
