@@ -1,7 +1,7 @@
 use borrow.Author.Needs.{needs}
 use Prim.Native.Nat.{_-_}
-use Rattle.trials.proofs.cases.case_agrees.Statement.{statement}
-use Rattle.trials.proofs.cases.case_agrees.Tie as tie
+use Rattle.trial_calls.proofs.cases.case_agrees.Statement.{statement}
+use Rattle.trial_calls.proofs.cases.case_agrees.Tie as tie
 
 abbrev Inv-loop : tie.InvT-loop
 Inv-loop line memory lengths at₀ thread₀ at thread = Unit {0}

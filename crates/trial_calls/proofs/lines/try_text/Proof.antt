@@ -1,8 +1,8 @@
 use borrow.Author.Needs.{needs}
 use Prim.Native.Nat.{_-_, _≤_}
 use lib.ListN.{length}
-use Rattle.trials.proofs.lines.try_text.Statement.{statement}
-use Rattle.trials.proofs.lines.try_text.Tie as tie
+use Rattle.trial_calls.proofs.lines.try_text.Statement.{statement}
+use Rattle.trial_calls.proofs.lines.try_text.Tie as tie
 
 abbrev Inv-loop : tie.InvT-loop
 Inv-loop text call memory₀ lengths₀ tally₀ at₀ number₀ memory lengths tally at number = (at ≤ length text) × (number ≤ at)

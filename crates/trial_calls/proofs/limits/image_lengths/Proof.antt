@@ -1,7 +1,7 @@
 use borrow.Author.Needs.{needs}
 use Prim.Native.Nat.{_-_}
-use Rattle.trials.proofs.limits.image_lengths.Statement.{statement}
-use Rattle.trials.proofs.limits.image_lengths.Tie as tie
+use Rattle.trial_calls.proofs.limits.image_lengths.Statement.{statement}
+use Rattle.trial_calls.proofs.limits.image_lengths.Tie as tie
 
 abbrev Inv-loop : tie.InvT-loop
 Inv-loop memory lengths₀ tally₀ n₀ lengths tally n = Unit {0}

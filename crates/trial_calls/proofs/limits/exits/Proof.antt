@@ -1,7 +1,7 @@
 use borrow.Author.Needs.{needs}
 use Prim.Native.Nat.{_-_}
-use Rattle.trials.proofs.limits.exits.Statement.{statement}
-use Rattle.trials.proofs.limits.exits.Tie as tie
+use Rattle.trial_calls.proofs.limits.exits.Statement.{statement}
+use Rattle.trial_calls.proofs.limits.exits.Tie as tie
 
 abbrev Inv-loop : tie.InvT-loop
 Inv-loop memory₀ lengths i₀ memory i = Unit {0}
