@@ -7,6 +7,7 @@ use native.Mathlib.Omega.{arith}
 use lib.Dec.{eqb, leb}
 use lib.ListN.{length}
 use borrow.Author.Tests.{eqb-true}
+use Rattle.rules.specs.Codes.{badEventNumber}
 use Rattle.rules.specs.Sizes.{eventSize, eventCount}
 use Rattle.rules.specs.Events.{eventsIn, eventAtOk}
 use Rattle.rules.specs.Calls.{runReturn, eventsLengthFault, eventFault}
@@ -31,5 +32,5 @@ events-ok image table state events space h =
     in
     record {
       whole = eqb-true (length events) (eventSize * eventsIn events) (size .0);
-      each = fault-free (eventAtOk image events) (eventsIn events) 8 (omega arith) (eight .0);
+      each = fault-free (eventAtOk image events) (eventsIn events) badEventNumber (omega arith) (eight .0);
     }

@@ -2,22 +2,27 @@
 use crate::event::first_bad_event;
 use image_check::faults::first_of;
 use image_check::faults::refuse;
+use rules::codes::BAD_ANSWERS_LENGTH;
+use rules::codes::BAD_EVENT;
+use rules::codes::BAD_EVENTS_LENGTH;
 use rules::layout::ANSWER_SIZE;
 use rules::layout::EVENT_SIZE;
+use rules::limits::Run;
 use state_check::faults::machine_fault;
 ghost use mathlib.Core.Path.{_≡_};
 ghost use Rattle.rules.specs.Check.{firstOf};
 ghost use Rattle.rules.specs.Calls.{eventsLengthFault, eventFault, answersLengthFault, runReturn};
 ghost use Rattle.event_check.specs.Faults.{eventsFaults};
 
-// At most 1,024 events.
-pub const EVENTS: usize = 1024;
-
 pub fn events_length_fault(events: &[u8]) -> u32
     ensures { λ r. ⌜ r ≡ eventsLengthFault (now (events .entry)) ⌝ }
 {
     let m = events.len() / EVENT_SIZE;
-    refuse((events.len() == EVENT_SIZE * m) & (m <= EVENTS), 7, 0)
+    refuse(
+        (events.len() == EVENT_SIZE * m) & (m <= Run::EVENTS),
+        BAD_EVENTS_LENGTH,
+        0,
+    )
 }
 
 pub fn event_fault(image: &[u8], events: &[u8]) -> u32
@@ -26,7 +31,7 @@ pub fn event_fault(image: &[u8], events: &[u8]) -> u32
 {
     let m = events.len() / EVENT_SIZE;
     let i = first_bad_event(image, events, m);
-    refuse(i == m, 8, i)
+    refuse(i == m, BAD_EVENT, i)
 }
 
 pub fn answers_length_fault(events: &[u8], answers: &[u8]) -> u32
@@ -34,7 +39,7 @@ pub fn answers_length_fault(events: &[u8], answers: &[u8]) -> u32
 {
     refuse(
         answers.len() == ANSWER_SIZE * (events.len() / EVENT_SIZE),
-        9,
+        BAD_ANSWERS_LENGTH,
         0,
     )
 }

@@ -9,6 +9,10 @@ use operand_check::operand_places::FEW;
 use operand_check::operand_places::few_ok;
 use operand_check::operand_places::slots_ok;
 use record_check::rule::outline_ok;
+use rules::codes::BAD_IMAGE_LENGTH;
+use rules::codes::BAD_RECORD;
+use rules::codes::BAD_TABLE_FIELD;
+use rules::codes::BAD_TABLE_LENGTH;
 use rules::layout::OPERAND_COUNT_PLACE;
 use rules::layout::RECORD_SIZE;
 use rules::layout::TABLE_SIZE;
@@ -103,13 +107,13 @@ pub fn image_length_fault(image: &[u8], n: usize) -> u32
     requires { ⌜ n ≡ labels (now image) ⌝ }
     ensures { λ r. ⌜ r ≡ imageLengthFault (now (image .entry)) ⌝ }
 {
-    refuse(0 < n, 1, 0)
+    refuse(0 < n, BAD_IMAGE_LENGTH, 0)
 }
 
 pub fn table_length_fault(table: &[u8]) -> u32
     ensures { λ r. ⌜ r ≡ tableLengthFault (now (table .entry)) ⌝ }
 {
-    refuse(table.len() == TABLE_SIZE, 2, 0)
+    refuse(table.len() == TABLE_SIZE, BAD_TABLE_LENGTH, 0)
 }
 
 // Number 3, at the first row that is out of range.
@@ -118,7 +122,7 @@ pub fn row_fault(table: &[u8]) -> u32
     ensures { λ r. ⌜ r ≡ tableFault (now (table .entry)) ⌝ }
 {
     let b = first_bad_row(table);
-    refuse(b == Block::COUNT, 3, b)
+    refuse(b == Block::COUNT, BAD_TABLE_FIELD, b)
 }
 
 // The same. The first row is looked for only where there is one.
@@ -135,7 +139,7 @@ pub fn record_fault(image: &[u8], n: usize) -> u32
 {
     let m = first_bad_outline(image, n);
     let l = first_bad_operand(image, m);
-    refuse(l == n, 4, l)
+    refuse(l == n, BAD_RECORD, l)
 }
 
 // The first of the refusals 1 to 4, or 0.

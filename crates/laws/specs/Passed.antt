@@ -7,6 +7,7 @@ use native.Mathlib.Omega.{arith}
 use lib.Dec.{ltb}
 use lib.ListN.{length}
 use borrow.Author.Tests.{ltb-true, eqb-true}
+use Rattle.rules.specs.Codes.{badTableFieldNumber, badRecordNumber}
 use Rattle.rules.specs.Sizes.{threadCount, blockKindCount, lockCount, blockCount, operandCount, tableSize}
 use Rattle.rules.specs.Bytes.{allFrom, every}
 use Rattle.rules.specs.Image.{labels, recordAt, blockField, labelA, labelB, Row, rowAt, fieldAt, threadField, kindField}
@@ -34,8 +35,8 @@ passed image table more h =
       record {
         someLabels = ltb-true 0 (labels image) (refusal-zero _ 1 0 (omega arith) (one .0));
         wholeTable = eqb-true (length table) tableSize (refusal-zero _ 2 0 (omega arith) (two .0));
-        rows = fault-free (rowOk table) blockCount 3 (omega arith) (three .0);
-        records = fault-free (recordOk image) (labels image) 4 (omega arith) (four .0);
+        rows = fault-free (rowOk table) blockCount badTableFieldNumber (omega arith) (three .0);
+        records = fault-free (recordOk image) (labels image) badRecordNumber (omega arith) (four .0);
       },
       four .1,
     )

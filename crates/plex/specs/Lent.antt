@@ -7,6 +7,7 @@ use native.Mathlib.Omega.{arith}
 use lib.Dec.{eqb, leb}
 use lib.ListN.{length}
 use borrow.Author.Tests.{eqb-true, ne-eqb, ltb-true}
+use Rattle.rules.specs.Codes.{badEventNumber}
 use Rattle.rules.specs.Sizes.{wordsSize, stateSize, eventSize, answerSize, eventCount, threadCount}
 use Rattle.rules.specs.Bytes.{blocks}
 use Rattle.rules.specs.Check.{firstOf, imageFaults}
@@ -102,7 +103,7 @@ module _ (image table state events space : List ℕ) where
           record {
             whole = eqb-true _ _ (and-both (eqb (length events) (eventSize * eventsIn events)) (leb (eventsIn events) eventCount) whole
                 .0);
-            ok = fault-free (eventAtOk image events) (eventsIn events) 8 (omega arith) (eight .0);
+            ok = fault-free (eventAtOk image events) (eventsIn events) badEventNumber (omega arith) (eight .0);
           },
           eqb-true (length space) (answerSize * eventsIn events) (refusal-zero _ 9 0 (omega arith) (nine .0)),
         )

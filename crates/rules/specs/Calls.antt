@@ -1,11 +1,12 @@
--- "Turned back at the door": the four calls, each as a function from the lent bytes to the return value and to the lent bytes after
--- it. A call refuses by the first of its numbers that applies, and leaves every lent byte then; otherwise it returns 0, or what the
--- walk found.
+-- The four calls, each as a function from the lent bytes to the return value and to the lent bytes after it. A call refuses by the first
+-- of its numbers that applies, and leaves every lent byte then; otherwise it returns 0, or what the walk found.
 use mathlib.Core.Bool.{Bool, cond}
 use mathlib.Core.List.{List, [], _∷_}
 use Prim.Native.Nat.{ℕ, _*_}
 use lib.ListN.{length}
 use lib.Dec.{eqb, ltb}
+use Rattle.rules.specs.Codes.{badAnswersLengthNumber, badWordsLengthNumber, badWalkThreadNumber, badMetLengthNumber}
+use Rattle.rules.specs.Codes.{badStateLengthNumber, badStateNumber, badEventsLengthNumber, badEventNumber}
 use Rattle.rules.specs.Sizes.{wordsSize, stateSize, answerSize, threadCount}
 use Rattle.rules.specs.Bytes.{blocks}
 use Rattle.rules.specs.Check.{refusal, firstFault, firstOf, imageFaults}
@@ -21,30 +22,30 @@ use Rattle.rules.specs.Walk.{walkFrom, metBytes, metCount}
 
 -- 5: state not 7,929 bytes; 6: state not well formed
 unfoldable pub stateLengthFault : List ℕ → ℕ
-stateLengthFault state = refusal (eqb (length state) stateSize) 5 0
+stateLengthFault state = refusal (eqb (length state) stateSize) badStateLengthNumber 0
 
 unfoldable pub stateFault : List ℕ → List ℕ → List ℕ → ℕ
-stateFault image table state = refusal (wellFormed image table state) 6 0
+stateFault image table state = refusal (wellFormed image table state) badStateNumber 0
 
 -- 7: events not 55 × m, m 0 to 1,024; 8: event breaks a rule, the first index; 9: answers not 2 × m bytes
 unfoldable pub eventsLengthFault : List ℕ → ℕ
-eventsLengthFault events = refusal (eventsLengthOk events) 7 0
+eventsLengthFault events = refusal (eventsLengthOk events) badEventsLengthNumber 0
 
 unfoldable pub eventFault : List ℕ → List ℕ → ℕ
-eventFault image events = firstFault (eventAtOk image events) (eventsIn events) 8
+eventFault image events = firstFault (eventAtOk image events) (eventsIn events) badEventNumber
 
 unfoldable pub answersLengthFault : List ℕ → List ℕ → ℕ
-answersLengthFault events space = refusal (eqb (length space) (answerSize * eventsIn events)) 9 0
+answersLengthFault events space = refusal (eqb (length space) (answerSize * eventsIn events)) badAnswersLengthNumber 0
 
 -- 10: initial words not 512 bytes; 11: walk's thread above 7; 12: walk's buffer not 8 bytes
 unfoldable pub wordsLengthFault : List ℕ → ℕ
-wordsLengthFault words = refusal (eqb (length words) wordsSize) 10 0
+wordsLengthFault words = refusal (eqb (length words) wordsSize) badWordsLengthNumber 0
 
 unfoldable pub threadFault : ℕ → ℕ
-threadFault t = refusal (ltb t threadCount) 11 0
+threadFault t = refusal (ltb t threadCount) badWalkThreadNumber 0
 
 unfoldable pub metLengthFault : List ℕ → ℕ
-metLengthFault met = refusal (eqb (length met) threadCount) 12 0
+metLengthFault met = refusal (eqb (length met) threadCount) badMetLengthNumber 0
 
 -- a call that is not refused
 abbrev pub accepts : ℕ → Bool

@@ -9,6 +9,7 @@ use lib.ListN.{length}
 use lib.Dec.{eqb, leb, ltb}
 use Rattle.rules.specs.Sizes.{blockCount, registerCount, wordCount, operandCount, tableSize}
 use Rattle.rules.specs.Codes.{directCode, bufferedCode, numberOperandCode, registerOperandCode, wordOperandCode}
+use Rattle.rules.specs.Codes.{badImageLengthNumber, badTableLengthNumber, badTableFieldNumber, badRecordNumber}
 use Rattle.rules.specs.Bytes.{allFrom, firstBad, every}
 use Rattle.rules.specs.Image.{labels, recordAt, opcode, blockField, entry, operator, labelA, labelB, operands, kind, value, Field}
 use Rattle.rules.specs.Image.{rowFields, fieldAt}
@@ -101,19 +102,19 @@ firstFault ok n number = refusal (eqb (firstBad ok 0 n) n) number (firstBad ok 0
 
 -- 1: image length not 84 × n, n 1 to 512
 unfoldable pub imageLengthFault : List ℕ → ℕ
-imageLengthFault image = refusal (ltb 0 (labels image)) 1 0
+imageLengthFault image = refusal (ltb 0 (labels image)) badImageLengthNumber 0
 
 -- 2: table not 32 bytes
 unfoldable pub tableLengthFault : List ℕ → ℕ
-tableLengthFault table = refusal (eqb (length table) tableSize) 2 0
+tableLengthFault table = refusal (eqb (length table) tableSize) badTableLengthNumber 0
 
 -- 3: table field out of range; the first block
 unfoldable pub tableFault : List ℕ → ℕ
-tableFault table = firstFault (rowOk table) blockCount 3
+tableFault table = firstFault (rowOk table) blockCount badTableFieldNumber
 
 -- 4: record breaks a rule; the first label
 unfoldable pub recordFault : List ℕ → ℕ
-recordFault image = firstFault (recordOk image) (labels image) 4
+recordFault image = firstFault (recordOk image) (labels image) badRecordNumber
 
 -- lowest number first: of a list of refusals, the first that is not 0
 unfoldable pub firstOf : List ℕ → ℕ

@@ -138,3 +138,41 @@ pendingFullCode = 4
 
 abbrev pub foreignFdBlockCode : ℕ
 foreignFdBlockCode = 5
+
+-- ---- numbers of a refusal
+
+abbrev pub badImageLengthNumber : ℕ
+badImageLengthNumber = 1
+
+abbrev pub badTableLengthNumber : ℕ
+badTableLengthNumber = 2
+
+abbrev pub badTableFieldNumber : ℕ
+badTableFieldNumber = 3
+
+abbrev pub badRecordNumber : ℕ
+badRecordNumber = 4
+
+abbrev pub badStateLengthNumber : ℕ
+badStateLengthNumber = 5
+
+abbrev pub badStateNumber : ℕ
+badStateNumber = 6
+
+abbrev pub badEventsLengthNumber : ℕ
+badEventsLengthNumber = 7
+
+abbrev pub badEventNumber : ℕ
+badEventNumber = 8
+
+abbrev pub badAnswersLengthNumber : ℕ
+badAnswersLengthNumber = 9
+
+abbrev pub badWordsLengthNumber : ℕ
+badWordsLengthNumber = 10
+
+abbrev pub badWalkThreadNumber : ℕ
+badWalkThreadNumber = 11
+
+abbrev pub badMetLengthNumber : ℕ
+badMetLengthNumber = 12

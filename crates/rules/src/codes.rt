@@ -90,3 +90,28 @@ pub const RETURNS_FULL: u8 = 3;
 pub const PENDING_FULL: u8 = 4;
 
 pub const FOREIGN_FD_BLOCK: u8 = 5;
+
+// Numbers of a refusal.
+pub const BAD_IMAGE_LENGTH: u32 = 1;
+
+pub const BAD_TABLE_LENGTH: u32 = 2;
+
+pub const BAD_TABLE_FIELD: u32 = 3;
+
+pub const BAD_RECORD: u32 = 4;
+
+pub const BAD_STATE_LENGTH: u32 = 5;
+
+pub const BAD_STATE: u32 = 6;
+
+pub const BAD_EVENTS_LENGTH: u32 = 7;
+
+pub const BAD_EVENT: u32 = 8;
+
+pub const BAD_ANSWERS_LENGTH: u32 = 9;
+
+pub const BAD_WORDS_LENGTH: u32 = 10;
+
+pub const BAD_WALK_THREAD: u32 = 11;
+
+pub const BAD_MET_LENGTH: u32 = 12;

@@ -45,3 +45,9 @@ impl Tree {
 
     pub const PENDING: usize = 8;
 }
+
+pub struct Run {}
+
+impl Run {
+    pub const EVENTS: usize = 1024;
+}

@@ -9,7 +9,7 @@ use lib.Dec.{eqb, leb}
 use lib.ListN.{length, getD, drop, length-drop}
 use borrow.Author.Tests.{eqb-true}
 use Rattle.rules.specs.Sizes.{registerCount, stateSize, eventKindPlace, eventThreadPlace, eventSignalPlace, eventSize, eventCount}
-use Rattle.rules.specs.Codes.{arrivalCode}
+use Rattle.rules.specs.Codes.{arrivalCode, badEventNumber}
 use Rattle.rules.specs.Bytes.{num16, part, isZeros}
 use Rattle.rules.specs.Image.{recordAt, entry}
 use Rattle.rules.specs.Check.{Checked}
@@ -139,7 +139,7 @@ given-of image table state events space h =
       formed = refusal-zero _ 6 0 (omega arith) (six .0);
       accepted =
           events-accepted image events (eqb-true _ _ length-ok)
-          (fault-free (eventAtOk image events) (eventsIn events) 8 (omega arith) (eight .0));
+          (fault-free (eventAtOk image events) (eventsIn events) badEventNumber (omega arith) (eight .0));
     }
 
 -- the state that an accepted Run left

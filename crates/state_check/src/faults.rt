@@ -4,6 +4,11 @@ use crate::form::well_formed;
 use image_check::faults::first_of;
 use image_check::faults::image_fault;
 use image_check::faults::refuse;
+use rules::codes::BAD_MET_LENGTH;
+use rules::codes::BAD_STATE;
+use rules::codes::BAD_STATE_LENGTH;
+use rules::codes::BAD_WALK_THREAD;
+use rules::codes::BAD_WORDS_LENGTH;
 use rules::layout::STATE_SIZE;
 use rules::layout::WORDS_SIZE;
 use rules::sorts::Thread;
@@ -17,32 +22,32 @@ ghost use Rattle.state_check.specs.Faults.{machineFaults};
 pub fn state_length_fault(state: &[u8]) -> u32
     ensures { λ r. ⌜ r ≡ stateLengthFault (now (state .entry)) ⌝ }
 {
-    refuse(state.len() == STATE_SIZE, 5, 0)
+    refuse(state.len() == STATE_SIZE, BAD_STATE_LENGTH, 0)
 }
 
 pub fn state_fault(image: &[u8], table: &[u8], state: &[u8]) -> u32
     requires { ⌜ Checked (now image) (now table) × (length (now state) ≡ stateSize) ⌝ }
     ensures { λ r. ⌜ r ≡ stateFault (now (image .entry)) (now (table .entry)) (now (state .entry)) ⌝ }
 {
-    refuse(well_formed(image, table, state), 6, 0)
+    refuse(well_formed(image, table, state), BAD_STATE, 0)
 }
 
 pub fn words_length_fault(words: &[u8]) -> u32
     ensures { λ r. ⌜ r ≡ wordsLengthFault (now (words .entry)) ⌝ }
 {
-    refuse(words.len() == WORDS_SIZE, 10, 0)
+    refuse(words.len() == WORDS_SIZE, BAD_WORDS_LENGTH, 0)
 }
 
 pub fn thread_fault(thread: u32) -> u32
     ensures { λ r. ⌜ r ≡ threadFault thread ⌝ }
 {
-    refuse((thread as usize) < Thread::COUNT, 11, 0)
+    refuse((thread as usize) < Thread::COUNT, BAD_WALK_THREAD, 0)
 }
 
 pub fn met_length_fault(met: &[u8]) -> u32
     ensures { λ r. ⌜ r ≡ metLengthFault (now (met .entry)) ⌝ }
 {
-    refuse(met.len() == Thread::COUNT, 12, 0)
+    refuse(met.len() == Thread::COUNT, BAD_MET_LENGTH, 0)
 }
 
 // The first of the refusals 1 to 6, or 0.

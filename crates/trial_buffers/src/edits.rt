@@ -12,7 +12,11 @@ use crate::text::after;
 use crate::text::begins;
 use crate::text::next;
 use crate::text::number;
+use rules::layout::EVENT_SIZE;
+use rules::layout::RECORD_SIZE;
+use rules::layout::ROW_SIZE;
 ghost use Prim.Native.Nat.{_*_, _<_, _≤_};
+ghost use Rattle.rules.specs.Sizes.{recordSize};
 
 // The buffer that the word at `at` names, or BUFFERS.
 fn buffer_named(line: &[u8], at: usize) -> usize {
@@ -30,12 +34,12 @@ fn buffer_named(line: &[u8], at: usize) -> usize {
 // The first byte of a record of a buffer.
 fn record_start(buffer: usize, index: usize) -> usize
     requires { ⌜ index < 10000000000000 ⌝ }
-    ensures { λ r. ⌜ r ≤ 84 * index ⌝ }
+    ensures { λ r. ⌜ r ≤ recordSize * index ⌝ }
 {
     match buffer {
-        IMAGE => 84 * index,
-        EVENTS => 55 * index,
-        TABLE => 2 * index,
+        IMAGE => RECORD_SIZE * index,
+        EVENTS => EVENT_SIZE * index,
+        TABLE => ROW_SIZE * index,
         _ => index,
     }
 }
