@@ -1,6 +1,6 @@
 // The ends of a job: EXIT, a trap and a cut. Each clears the thread to idle and keeps the job's shared writes and pending signals.
+use block_table::thread_at;
 use image::records::block_at;
-use image::table::thread_at;
 use pending_signals::oldest_label;
 use pending_signals::pending;
 use rules::answer::Answer;

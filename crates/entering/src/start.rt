@@ -1,6 +1,6 @@
 // A step of an idle thread: the oldest signal of its first tree starts a job, if its block's lock can be taken.
+use block_table::lock_at;
 use image::records::block_at;
-use image::table::lock_at;
 use pending_signals::oldest;
 use pending_signals::oldest_label;
 use pending_signals::take_oldest;

@@ -1,5 +1,2 @@
--- The laws of the image's records, and of their opcodes.
+-- The laws of the image's records.
 pub mod Records
-pub mod Assigns
-pub mod OtherRows
-pub mod Rows

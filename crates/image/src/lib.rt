@@ -1,5 +1,3 @@
-// The image and the block table: the record at a label, and the statement in a record.
-pub mod decode;
+// The image: the record at a label, and the fields of a record.
 pub mod record_fields;
 pub mod records;
-pub mod table;

@@ -1,10 +1,10 @@
 // The image check: the refusals 1 to 4, lowest number first.
 use crate::marks::MARKS;
 use crate::marks::ROOM;
+use block_table::first_bad_row;
+use block_table::rows_ok;
 use fields::read::wide;
 use image::records::count_labels;
-use image::table::first_bad_row;
-use image::table::rows_ok;
 use operand_check::operand_places::FEW;
 use operand_check::operand_places::few_ok;
 use operand_check::operand_places::slots_ok;

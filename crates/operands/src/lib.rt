@@ -1,7 +1,7 @@
 // The operands of a statement, read: a thread's registers from its value, and the shared words of the statement's own block from a
 // state's bytes.
+use decoding::operand_at;
 use fields::read::wide;
-use image::decode::operand_at;
 use image::record_fields::block_field;
 use image::record_fields::operand_count;
 use rules::codes::ABSENT_REGISTER;

@@ -1,9 +1,9 @@
 // What a direct SEND or a CALL comes to: a trap, then its lock, and nothing is changed. The step and the walk ask the same.
+use block_table::kind_at;
+use block_table::lock_at;
+use block_table::thread_at;
 use image::record_fields::label_a;
 use image::records::block_at;
-use image::table::kind_at;
-use image::table::lock_at;
-use image::table::thread_at;
 use operands::read_data;
 use rules::codes::FD;
 use rules::codes::FOREIGN_FD_BLOCK;

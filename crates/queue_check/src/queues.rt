@@ -1,10 +1,10 @@
 // The trees of the state, and the queues that they make, in one pass.
+use block_table::thread_at;
 use fields::read::all_zero;
 use fields::read::get8;
 use fields::read::get16;
 use image::records::block_at;
 use image::records::index_of;
-use image::table::thread_at;
 use rules::layout::PENDING_COUNT_PLACE;
 use rules::layout::SIGNALS_PLACE;
 use rules::layout::THREAD_SIZE;

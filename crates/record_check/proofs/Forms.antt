@@ -15,7 +15,7 @@ use Rattle.rules.specs.declared.statement.Statement.{Statement}
 use Rattle.rules.specs.declared.statement.Statement.the-variants.{Assign}
 use Rattle.rules.specs.Check.{usageOk, otherOk, shapeOk}
 use Rattle.laws.specs.Heads.{few-by}
-use Rattle.image.specs.OtherRows.{NoRow, no-row}
+use Rattle.decoding.specs.OtherRows.{NoRow, no-row}
 use Rattle.record_check.specs.Forms.{labelsOk, formOk, outlineOk}
 
 -- below n, in the block and of the entry

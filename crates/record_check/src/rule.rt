@@ -1,10 +1,10 @@
 // The rules of a record.
+use decoding::Assigns;
+use decoding::destinations_of;
+use decoding::operation_at;
+use decoding::shape_of;
 use fields::read::get16;
 use fields::read::wide;
-use image::decode::Assigns;
-use image::decode::destinations_of;
-use image::decode::operation_at;
-use image::decode::shape_of;
 use image::record_fields::block_field;
 use image::record_fields::label_a;
 use image::record_fields::label_b;

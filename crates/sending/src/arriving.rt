@@ -1,7 +1,7 @@
 // An arrival: a tree with its signal goes to the list's end, if there is room for it.
+use block_table::thread_at;
 use fields::read::get16;
 use image::records::block_at;
-use image::table::thread_at;
 use rules::answer::Answer;
 use rules::layout::EVENT_SIGNAL_PLACE;
 use rules::layout::EVENT_SIZE;

@@ -1,10 +1,10 @@
 // A step of a thread: an idle one starts a job, a running one carries out the statement at its label.
 use assigning::assign;
+use decoding::statement_of;
 use ending::leave;
 use entering::direct::call;
 use entering::direct::send_direct;
 use entering::start::start;
-use image::decode::statement_of;
 use image::records::record_at;
 use moves::branch::branch;
 use moves::data::give_back;

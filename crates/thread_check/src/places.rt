@@ -1,13 +1,13 @@
 // The labels of a running thread: below n, the lock of the block held, the block CMX or the thread's own.
 use crate::registers::running_tidy;
+use block_table::kind_at;
+use block_table::lock_at;
+use block_table::thread_at;
 use fields::read::all_zero;
 use fields::read::get8;
 use fields::read::get16;
 use image::records::block_at;
 use image::records::index_of;
-use image::table::kind_at;
-use image::table::lock_at;
-use image::table::thread_at;
 use lock_sets::held::number_held;
 use rules::codes::CMX;
 use rules::layout::LOCKS_PLACE;

@@ -1,5 +1,5 @@
 use mathlib.Core.Path.{sym, _∙_}
-use Rattle.image.specs.Assigns.{assigns-none, assigns-some}
+use Rattle.decoding.specs.Assigns.{assigns-none, assigns-some}
 use Rattle.record_check.proofs.Forms.{form-none, form-assign}
 use borrow.Author.Needs.{needs}
 use Rattle.record_check.proofs.rule.form_ok.Statement.{statement}

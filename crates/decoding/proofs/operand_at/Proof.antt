@@ -1,0 +1,21 @@
+use Rattle.rules.specs.Statements.{operandAt}
+use borrow.Author.Needs.{needs}
+use Rattle.decoding.proofs.operand_at.Statement.{statement}
+use Rattle.decoding.proofs.operand_at.Tie as tie
+
+returns : tie.Need-returns
+unfolding operandAt
+returns c = simp (c .operand-of .ensures, c .before .get16 .ensures)
+
+pub operand-at-spec : {M : Type 1} → statement M
+operand-at-spec =
+    tie.close
+    (tie.spec
+    (λ c. search needs)
+    (λ c. search needs)
+    (λ c. search needs)
+    (λ c. search needs)
+    (λ c. search needs)
+    (λ c κs. search needs)
+    (λ c κs. search needs)
+    returns)

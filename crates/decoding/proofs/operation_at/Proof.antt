@@ -1,0 +1,41 @@
+use Rattle.rules.specs.Statements.{operationAt}
+use borrow.Author.Tests.{ne-eqb}
+use Rattle.decoding.proofs.operation_at.Statement.{statement}
+use Rattle.decoding.proofs.operation_at.Tie as tie
+
+returns : tie.Need-returns
+unfolding operationAt
+returns c = rw (c .before .match .keys1, c .match2 .keys1)
+
+returns-2 : tie.Need-returns-2
+unfolding operationAt
+returns-2 c = rw (c .before .match .keys1, c .match2 .keys2)
+
+returns-3 : tie.Need-returns-3
+unfolding operationAt
+returns-3 c = rw (c .before .match .keys1, c .match2 .keys3)
+
+returns-4 : tie.Need-returns-4
+unfolding operationAt
+returns-4 c = rw (c .before .match .keys1, c .match2 .keys4)
+
+returns-5 : tie.Need-returns-5
+unfolding operationAt
+returns-5 c =
+    let no = c .match2 .rest in
+    simp (c .before .match .keys1, ne-eqb _ 1 (no .0 .0 .0 .1), ne-eqb _ 2 (no .0 .0 .1), ne-eqb _ 3 (no .0 .1), ne-eqb _ 4 (no .1))
+
+returns-6 : tie.Need-returns-6
+unfolding operationAt
+returns-6 c = simp (ne-eqb _ 2 (c .match .rest .1))
+
+pub operation-at-spec : {M : Type 1} → statement M
+operation-at-spec =
+    tie.close
+    (tie.spec
+    returns
+    returns-2
+    returns-3
+    returns-4
+    returns-5
+    returns-6)

@@ -1,0 +1,3 @@
+-- The laws of the opcodes of a record.
+pub mod Assigns
+pub mod OtherRows
