@@ -1,31 +1,34 @@
 -- A direct SEND and a CALL carried out, by their passage.
 use mathlib.Core.Path.{_≡_, refl, subst}
-use mathlib.Core.List.{List}
-use Prim.Native.Nat.{ℕ, _<_, _^_}
-use lib.Bits.{bitOr}
-use lib.ListN.{take}
-use Rattle.rules.specs.Sizes.{lockCount}
-use Rattle.rules.specs.Image.{labelA, operands}
-use Rattle.rules.specs.Machine.{Job, fill, job}
+use mathlib.Core.List.{List, [], _∷_, _++_}
+use Prim.Native.Nat.{ℕ, _<_, _≤_}
+use native.Mathlib.Omega.{arith}
+use lib.ListN.{length, take, length-append}
+use Rattle.rules.specs.Sizes.{lockCount, threadCount, registerCount, returnCount, idleLabel, recordSize}
+use Rattle.rules.specs.Image.{labels, labelA, labelB, operands}
+use Rattle.rules.specs.Machine.{fill, job}
 use Rattle.rules.specs.Encoding.{machineFrom}
 use Rattle.rules.specs.Steps.{rulesBy, finished}
 use Rattle.rules.specs.declared.sorts.Lock.{Lock}
 use Rattle.rules.specs.declared.answer.Answer.{Answer}
 use Rattle.rules.specs.declared.answer.Answer.the-variants.{Waiting, Moved, Trapped}
-use Rattle.fields.specs.Put.{put}
-use Rattle.threads.specs.Threads.{jobOf, Runs, runs-then}
-use Rattle.threads.specs.Records.{threadPlace, rawBytes}
+use Rattle.encoding.specs.Encoded.{Canonical, Encodes}
+use Rattle.threads.specs.Threads.{Running, Runs, returnsOf, ZerosAfter}
 use Rattle.threads.specs.declared.thread.ThreadState.{ThreadState}
-use Rattle.step_ready.specs.Ready.{Stepped, Ended, done, thread-stepped}
-use Rattle.step_ready.specs.At.{At}
+use Rattle.step_ready.specs.Ready.{Stepped, Ended, done}
+use Rattle.step_ready.specs.At.{At, small, depth-is}
 use Rattle.passage.specs.declared.Passage.{Passage}
 use Rattle.passage.specs.declared.Passage.the-variants.{Trap, Wait, Go}
 use Rattle.passage.specs.Enters.{Passes, Enters}
+use Rattle.entering.specs.Holding.{holding, holding-as}
 
--- a thread that holds one lock more
-pub holds-more : {x y : ThreadState} {locks : ℕ} {j : Job} (k : ℕ) → Runs x locks j → Runs y (bitOr (x .locks) (2 ^ k)) (jobOf x)
-    → Runs y (bitOr locks (2 ^ k)) j
-holds-more k m n = runs-then (λ z. bitOr z (2 ^ k)) (λ j. j) m n
+-- a thread w that can go in by the record r, with the values that it read
+pub record CanEnter (w : ThreadState) (r vs : List ℕ) : Type 0 where
+  pub thread : Running w
+  pub long : length r ≡ recordSize
+  pub few : operands r ≤ registerCount
+  pub label : labelA r < idleLabel
+  pub zeros : ZerosAfter (operands r) vs
 
 module _ {image table b : List ℕ} {t : ℕ} {w : ThreadState} {r returns vs : List ℕ} {p : Passage} (h : At image table b t w r)
     (e : Enters image table b t w r returns vs p) where
@@ -41,11 +44,25 @@ module _ {image table b : List ℕ} {t : ℕ} {w : ThreadState} {r returns vs : 
   pub wait-stepped : (l : Lock) → p ≡ Wait l → Stepped image table b t b (Waiting l)
   wait-stepped l f = done (machineFrom b) (Waiting l) (passes-as (Wait l) f .1) refl (h .ready .canonical)
 
-  -- the lock that is taken is one of the 16
-  pub go-lock : (l : Lock) → p ≡ Go l → l .0 < lockCount
-  go-lock l f = passes-as (Go l) f .0
+  pub can-enter : (l : Lock) → p ≡ Go l → labelA r < labels image → CanEnter w r vs
+  can-enter l f k = record {
+    thread = h .thread;
+    long = h .readable .long;
+    few = h .readable .few;
+    label = small h _ k;
+    zeros = e .zeros l f;
+  }
 
-  pub go-stepped : (l : Lock) → p ≡ Go l → {x y : ThreadState} {b′ : List ℕ}
-      → Runs x (w .locks) (job (labelA r) returns (fill (take (operands r) vs))) → Runs y (bitOr (x .locks) (2 ^ l .0)) (jobOf x)
-      → b′ ≡ put b (threadPlace t) (rawBytes y) → Stepped image table b t b′ Moved
-  go-stepped l f m n z = thread-stepped (h .ready) t Moved (h .inside) (passes-as (Go l) f .1) (holds-more (l .0) m n) z
+  -- the lock that the thread takes, once it is changed to x, is one of the 16
+  pub can-hold : (l : Lock) → p ≡ Go l → {x : ThreadState} → Running x → Canonical b × (t < threadCount) × Running x × (l .0 < lockCount)
+  can-hold l f k = (h .ready .canonical, h .inside, k, passes-as (Go l) f .0)
+
+  pub go-stepped : (l : Lock) → p ≡ Go l → {x : ThreadState} {b′ : List ℕ}
+      → Runs x (w .locks) (job (labelA r) returns (fill (take (operands r) vs))) → Encodes b′ (holding (machineFrom b) t x l)
+      → Stepped image table b t b′ Moved
+  go-stepped l f m z = done _ Moved (passes-as (Go l) f .1) refl (holding-as (machineFrom b) t l m z)
+
+-- a CALL has room for its return label
+pub call-room : {image table b : List ℕ} {t : ℕ} {w : ThreadState} {r vs : List ℕ} {p : Passage} → At image table b t w r
+    → Enters image table b t w r (returnsOf w ++ labelB r ∷ []) vs p → (l : Lock) → p ≡ Go l → w .depth < returnCount
+call-room h e l f = let k = e .room l f in omega (arith, simp length-append at k, depth-is h)

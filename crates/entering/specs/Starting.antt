@@ -20,7 +20,6 @@ use Rattle.rules.specs.Steps.{rulesBy, blockAt, begin, held}
 use Rattle.rules.specs.declared.sorts.Lock.{Lock}
 use Rattle.rules.specs.declared.answer.Answer.the-variants.{NoWork, Waiting, Started}
 use Rattle.fields.specs.Each.{Each}
-use Rattle.fields.specs.Put.{put}
 use Rattle.encoding.specs.Encoded.{Encodes, Canonical, encoded-machine, encoded-canonical}
 use Rattle.encoding.specs.FirstTree.{firstTree, first-some}
 use Rattle.laws.specs.Passed.{passed}
@@ -30,31 +29,55 @@ use Rattle.soundness.specs.Queues.{headPending, first-queue}
 use Rattle.soundness.specs.Destinations.{lock-below}
 use Rattle.step_laws.specs.Events.{reply, no-tree, start-waits, start-runs}
 use Rattle.image.specs.Records.{labels-small}
-use Rattle.threads.specs.Threads.{jobOf, Runs, runs-as}
-use Rattle.threads.specs.Records.{threadPlace, rawBytes}
+use Rattle.threads.specs.Threads.{Idle, Runs}
 use Rattle.threads.specs.declared.thread.ThreadState.{ThreadState}
-use Rattle.signal_records.specs.Signals.{signalOf}
-use Rattle.signal_records.specs.declared.Signal as Value
 use Rattle.pending_signals.specs.Canon.{pendingAt}
 use Rattle.pending_signals.specs.Changes.{taken}
-use Rattle.step_ready.specs.Ready.{Ready, replyTo, Stepped, done, job-written}
+use Rattle.step_ready.specs.Ready.{Ready, Recorded, replyTo, Stepped, done, says}
 use Rattle.ending.specs.Home.{oldest-below}
-use Rattle.entering.specs.Entering.{holds-more}
+use Rattle.entering.specs.Holding.{holding, holding-as}
 use Rattle.entering.specs.declared.start.First.{First}
 use Rattle.entering.specs.declared.start.First.the-variants.{Nothing, Wait, Go}
+
+-- the oldest signal of tree i
+abbrev pub oldestAt : Machine → ℕ → Signal
+oldestAt s i = getD (pendingAt s i) 0 noSignal
 
 -- thread t's first tree has the place i, and a signal pending; l is the lock of its oldest signal's block
 pub record FirstIs (image table : List ℕ) (s : Machine) (t i : ℕ) (l : Lock) : Type 0 where
   pub place : i ≡ firstTree t (s .trees)
   pub inside : i < length (s .trees)
   pub some : 0 < length (pendingAt s i)
-  pub lock : l ≡ Sorts.lock (rowAt table (blockAt image (getD (pendingAt s i) 0 noSignal .label)) .lock)
+  pub lock : l ≡ Sorts.lock (rowAt table (blockAt image (oldestAt s i .label)) .lock)
   pub small : l .0 < lockCount
 
 abbrev pub FirstOf : List ℕ → List ℕ → Machine → ℕ → First → Type 0
 FirstOf image table s t Nothing = first t (s .trees) ≡ none
 FirstOf image table s t (Wait l) = (i : ℕ) × FirstIs image table s t i l × (held (l .0) (set (s .threads) t idle) ≡ true)
 FirstOf image table s t (Go i l) = FirstIs image table s t i l × (held (l .0) (set (s .threads) t idle) ≡ false)
+
+-- an idle thread, which is w, can take the oldest signal of tree i of the bytes b
+pub record CanTake (b : List ℕ) (w : ThreadState) (i : ℕ) : Type 0 where
+  pub canonical : Canonical b
+  pub rests : Idle w
+  pub inside : i < length (machineFrom b .trees)
+  pub some : 0 < length (pendingAt (machineFrom b) i)
+  pub label : oldestAt (machineFrom b) i .label < idleLabel
+
+-- the tree is the first of thread t, which is w, and l is one of the 16 locks
+pub record CanBegin (b : List ℕ) (t : ℕ) (w : ThreadState) (i : ℕ) (l : Lock) : Type 0 where
+  pub signal : CanTake b w i
+  pub thread : t < threadCount
+  pub place : i ≡ firstTree t (machineFrom b .trees)
+  pub lock : l .0 < lockCount
+
+-- the thread has taken the signal and holds the lock
+abbrev taking : Machine → ℕ → ℕ → Lock → Machine
+taking s t i l = withThread s t (running (bitOr 0 (2 ^ l .0)) (begin (oldestAt s i)))
+
+-- and the signal has left its tree
+abbrev pub begun : Machine → ℕ → ℕ → Lock → Machine
+begun s t i l = taken t i (taking s t i l)
 
 -- a tree of an idle thread has a signal pending
 homed-some : (image table : List ℕ) (x : Tree) → homed image table x ≡ true → 0 < length (x .pending)
@@ -84,7 +107,7 @@ module _ {image table b : List ℕ} (h : Ready image table b) (t : ℕ) (rests :
 
   -- the first tree, by its place and the label of its oldest signal
   pub first-is : (i : ℕ) (l : Lock) → i ≡ firstTree t (s .trees) → i < length (s .trees)
-      → l ≡ Sorts.lock (rowAt table (blockAt image (getD (pendingAt s i) 0 noSignal .label)) .lock) → FirstIs image table s t i l
+      → l ≡ Sorts.lock (rowAt table (blockAt image (oldestAt s i .label)) .lock) → FirstIs image table s t i l
   first-is i l e k f =
       let some = idle-pending i e k in
       record {
@@ -98,59 +121,67 @@ module _ {image table b : List ℕ} (h : Ready image table b) (t : ℕ) (rests :
 
   -- ---- what its step comes to
 
-  pub rests-on : first t (s .trees) ≡ none → Stepped image table b t b NoWork
-  rests-on e = done s NoWork (no-tree (rulesBy image table) s t rests e) refl (h .canonical)
-
   module _ {i : ℕ} {l : Lock} (k : FirstIs image table s t i l) where
-    abbrev oldest : Signal
-    oldest = getD (pendingAt s i) 0 noSignal
-
-    first-oldest : first t (s .trees) ≡ some (oldest ∷ drop 1 (pendingAt s i))
+    first-oldest : first t (s .trees) ≡ some (oldestAt s i ∷ drop 1 (pendingAt s i))
     first-oldest =
         let e : first t (s .trees) ≡ some (pendingAt s i) = rw (k .place) (first-some t (s .trees) (rw (k .place) at (k .inside))) in
         e ∙ ap some (drop-cons (pendingAt s i) 0 noSignal (k .some))
 
     -- another thread holds the lock
     pub start-waiting : held (l .0) (set (s .threads) t idle) ≡ true → replyTo image table b (step t) ≡ reply s (Waiting l)
-    start-waiting e = rw (k .lock) (start-waits (rulesBy image table) s t oldest (drop 1 (pendingAt s i)) rests first-oldest
+    start-waiting e = rw (k .lock) (start-waits (rulesBy image table) s t (oldestAt s i) (drop 1 (pendingAt s i)) rests first-oldest
         (rw (k .lock) at e))
 
-    pub waits-on : held (l .0) (set (s .threads) t idle) ≡ true → Stepped image table b t b (Waiting l)
-    waits-on e = done s (Waiting l) (start-waiting e) refl (h .canonical)
-
-    -- the signal's label is below n
-    pub label-small : (g : Value.Signal) → signalOf g ≡ oldest → g .label .0 < idleLabel
-    label-small g e =
-        let below : g .label .0 < labels image = rw (ap (λ (o : Signal). o .label) e) (oldest-below h i (k .inside) (k .some)) in
-        omega (arith, labels-small image)
-
-    -- no other does: the thread as it is written has taken the signal and holds the lock
-    abbrev begun : Machine
-    begun = withThread s t (running (bitOr 0 (2 ^ l .0)) (begin oldest))
-
-    pub start-running : held (l .0) (set (s .threads) t idle) ≡ false → replyTo image table b (step t) ≡ reply (taken t i begun) Started
-    start-running e = rw (k .lock) (start-runs (rulesBy image table) s t oldest (drop 1 (pendingAt s i)) rests first-oldest
+    -- no other does
+    pub start-running : held (l .0) (set (s .threads) t idle) ≡ false → replyTo image table b (step t) ≡ reply (begun s t i l) Started
+    start-running e = rw (k .lock) (start-runs (rulesBy image table) s t (oldestAt s i) (drop 1 (pendingAt s i)) rests first-oldest
         (rw (k .lock) at e))
 
-    pub begins : {b′ : List ℕ} {x y : ThreadState} (g : Value.Signal) → t < threadCount → signalOf g ≡ oldest
-        → Runs x 0 (begin (signalOf g)) → Runs y (bitOr (x .locks) (2 ^ l .0)) (jobOf x)
-        → b′ ≡ put b (threadPlace t) (rawBytes y) → Encodes b′ begun
-    begins g inside e m n z = job-written t (h .canonical) inside (runs-as (holds-more (l .0) m n) refl (ap begin e)) z
+  -- by the first signal that is found
+  module _ {f : First} (k : FirstOf image table s t f) where
+    found-as : (g : First) → f ≡ g → FirstOf image table s t g
+    found-as g e = subst (FirstOf image table s t) e k
 
-    -- its tree is there still, and the signal leaves it
-    pub tree-stays : {b′ : List ℕ} → Encodes b′ begun
-        → Canonical b′ × (i < length (machineFrom b′ .trees)) × (0 < length (pendingAt (machineFrom b′) i))
-    tree-stays {b′} z = (
-      encoded-canonical b′ begun z,
-      rw (encoded-machine b′ begun z) (k .inside),
-      rw (encoded-machine b′ begun z)
-          (k .some),
-    )
+    pub rests-on : f ≡ Nothing → Stepped image table b t b NoWork
+    rests-on e = done s NoWork (no-tree (rulesBy image table) s t rests (found-as Nothing e)) refl (h .canonical)
 
-    pub started : {b′ b″ : List ℕ} → held (l .0) (set (s .threads) t idle) ≡ false → Encodes b′ begun → Canonical b″
-        → ((u : ℕ) → i ≡ firstTree u (machineFrom b′ .trees) → machineFrom b″ ≡ taken u i (machineFrom b′))
-        → Stepped image table b t b″ Started
-    started {b′} {b″} e z c f =
-        let same : machineFrom b′ ≡ begun = encoded-machine b′ begun z in
-        let m : machineFrom b″ ≡ taken t i begun = f t (rw same (k .place)) ∙ ap (taken t i) same in
-        done (taken t i begun) Started (start-running e) refl (subst (λ (q : Machine). Encodes b″ q) m c)
+    pub waits-on : (l : Lock) → f ≡ Wait l → Stepped image table b t b (Waiting l)
+    waits-on l e = let q = found-as (Wait l) e in done s (Waiting l) (start-waiting (q .1) (q .2)) refl (h .canonical)
+
+    pub begins-on : (i : ℕ) (l : Lock) {b′ : List ℕ} → f ≡ Go i l → Encodes b′ (begun s t i l) → Stepped image table b t b′ Started
+    begins-on i l e z = let q = found-as (Go i l) e in done (begun s t i l) Started (start-running (q .0) (q .1)) refl z
+
+    pub can-begin : (i : ℕ) (l : Lock) {w : ThreadState} → f ≡ Go i l → t < threadCount → Recorded b t w → CanBegin b t w i l
+    can-begin i l e inside read =
+        let q = found-as (Go i l) e .0 in
+        record {
+          signal = record {
+            canonical = h .canonical;
+            rests = rw rests at (says h t inside read);
+            inside = q .inside;
+            some = q .some;
+            label = omega (arith, oldest-below h i (q .inside) (q .some), labels-small image);
+          };
+          thread = inside;
+          place = q .place;
+          lock = q .small;
+        }
+
+-- ---- the job begun
+
+module _ {b b′ : List ℕ} {t : ℕ} {w x : ThreadState} {i : ℕ} {l : Lock} (k : CanBegin b t w i l)
+    (m : Runs x 0 (begin (oldestAt (machineFrom b) i))) (z : Encodes b′ (holding (machineFrom b) t x l)) where
+  written : Encodes b′ (taking (machineFrom b) t i l)
+  written = holding-as (machineFrom b) t l m z
+
+  same : machineFrom b′ ≡ taking (machineFrom b) t i l
+  same = encoded-machine b′ (taking (machineFrom b) t i l) written
+
+  -- its tree is there still, and the signal leaves it
+  pub tree-stays : Canonical b′ × (i < length (machineFrom b′ .trees)) × (0 < length (pendingAt (machineFrom b′) i))
+  tree-stays = (encoded-canonical b′ (taking (machineFrom b) t i l) written, rw same (k .signal .inside), rw same (k .signal .some))
+
+  pub signal-leaves : {b″ : List ℕ} → Canonical b″
+      → ((u : ℕ) → i ≡ firstTree u (machineFrom b′ .trees) → machineFrom b″ ≡ taken u i (machineFrom b′))
+      → Encodes b″ (begun (machineFrom b) t i l)
+  signal-leaves {b″} c f = subst (λ (q : Machine). Encodes b″ q) (f t (rw same (k .place)) ∙ ap (taken t i) same) c
