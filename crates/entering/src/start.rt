@@ -8,6 +8,7 @@ use pending_signals::take_oldest;
 use rules::answer::Answer;
 use rules::sorts::Lock;
 use rules::sorts::Thread;
+use signal_records::Signal;
 use state::locks::held_by_other;
 use threads::thread::ThreadState;
 use trees::list::first_tree;
@@ -53,7 +54,7 @@ fn started(state: &[u8], w: ThreadState, i: usize) -> ThreadState
     requires { ⌜ CanTake (now state) w i ⌝ }
     ensures { λ x. ⌜ Runs x 0 (begin (oldestAt (machineFrom (now (state .entry))) i)) ⌝ }
 {
-    let g = oldest(state, i);
+    let g: Signal = oldest(state, i);
     let values = g.values;
     w.take(g.label, values, g.count)
 }
