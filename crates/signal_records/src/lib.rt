@@ -11,9 +11,11 @@ use rules::sorts::Thread;
 use rules::sorts::label_number;
 use rules::sorts::label_of;
 ghost use mathlib.Core.Path.{_≡_};
+ghost use mathlib.Core.List.{[], _∷_, _++_};
 ghost use Prim.Native.Nat.{_+_, _≤_};
 ghost use lib.ListN.{length, drop};
 ghost use Rattle.rules.specs.Sizes.{signalSize};
+ghost use Rattle.rules.specs.Bytes.{le16};
 ghost use Rattle.rules.specs.Encoding.{signalBytes};
 ghost use Rattle.fields.specs.Put.{put};
 ghost use Rattle.signal_records.specs.Signals.{signalOf, TidySignal, signalRead};
@@ -37,12 +39,20 @@ pub fn read_signal(s: &[u8], at: usize) -> Signal
     }
 }
 
+// The label and the value count of a signal at a place.
+fn write_head(s: &mut [u8], at: usize, g: Signal)
+    requires { ⌜ at + signalSize ≤ length (now s) ⌝ }
+    ensures { λ _. ⌜ now (s .exit) ≡ put (now (s .entry)) at (le16 (g .label .0) ++ g .count ∷ []) ⌝ }
+{
+    put16(s, at, label_number(g.label));
+    put8(s, at + VALUE_COUNT_PLACE, g.count);
+}
+
 pub fn write_signal(s: &mut [u8], at: usize, g: Signal)
     requires { ⌜ (at + signalSize ≤ length (now s)) × TidySignal g ⌝ }
     ensures { λ _. ⌜ now (s .exit) ≡ put (now (s .entry)) at (signalBytes (signalOf g)) ⌝ }
 {
-    put16(s, at, label_number(g.label));
-    put8(s, at + VALUE_COUNT_PLACE, g.count);
+    write_head(s, at, g);
     let values = g.values;
     put16s(s, at + VALUES_PLACE, &values);
 }

@@ -58,28 +58,25 @@ module _ (s : List ℕ) (at : ℕ) (bytes : AreBytes s) (a : List ℕ) (j k : �
 abbrev pub headBytes : ThreadState → List ℕ
 headBytes w = le16 (w .label .0) ++ le16 (w .locks) ++ w .depth ∷ []
 
--- all up to the registers
-abbrev upToRegisters : ThreadState → List ℕ
-upToRegisters w = headBytes w ++ blocks le16 (w .returns) ++ le32 (w .present)
+-- with the bytes of the return labels
+abbrev pub labelBytes : ThreadState → List ℕ
+labelBytes w = headBytes w ++ blocks le16 (w .returns)
+
+-- the bytes of the presence and the registers
+abbrev pub registerBytes : ThreadState → List ℕ
+registerBytes w = le32 (w .present) ++ blocks le16 (w .registers)
 
 module _ (w : ThreadState) (n : length (w .returns) ≡ returnCount) (s : List ℕ) (at : ℕ) where
-  length-up : length (upToRegisters w) ≡ registersPlace
-  length-up = simp length-append (omega (arith, size (w .returns)))
+  length-labels : length (labelBytes w) ≡ presencePlace
+  length-labels = simp length-append (omega (arith, size (w .returns)))
 
-  pub stored-up : {s₁ s₂ s₃ : List ℕ} → s₁ ≡ put s at (headBytes w) → s₂ ≡ put s₁ (at + returnsPlace) (blocks le16 (w .returns))
-      → s₃ ≡ put s₂ (at + presencePlace) (le32 (w .present))
-      → s₃ ≡ put s at (upToRegisters w)
-  stored-up e₁ e₂ e₃ =
-      let f₂ = put-then s at (headBytes w) _ _ e₁ e₂ refl in
-      put-then s at _ _ _ f₂ e₃ (simp length-append (omega (arith, size (w .returns))))
-
-  pub stored-all : {s₃ s₄ : List ℕ} → length (w .registers) ≡ registerCount → s₃ ≡ put s at (upToRegisters w)
-      → s₄ ≡ put s₃ (at + registersPlace) (blocks le16 (w .registers))
-      → s₄ ≡ put s at (rawBytes w)
+  pub stored-all : {s₁ s₂ : List ℕ} → length (w .registers) ≡ registerCount → s₁ ≡ put s at (labelBytes w)
+      → s₂ ≡ put s₁ (at + presencePlace) (registerBytes w)
+      → s₂ ≡ put s at (rawBytes w)
   unfolding rawBytes threadRaw
-  stored-all m e₃ e₄ =
-      put-then s at _ _ _ e₃ e₄ (ap (at +_) (sym length-up))
-      ∙ rw (pad-full 0 returnCount (w .returns) n, pad-full 0 registerCount (w .registers) m, append-assoc)
+  stored-all m e₁ e₂ =
+      put-then s at _ _ _ e₁ e₂ (ap (at +_) (sym length-labels))
+      ∙ rw (pad-full 0 returnCount (w .returns) n, pad-full 0 registerCount (w .registers) m, append-assoc (headBytes w))
 
 -- the record of thread t in a state, where the return labels and all registers but one stay
 module _ (s : List ℕ) (t : ℕ) (bytes : AreBytes s) (long : length s ≡ stateSize) (l : t < threadCount) (w : ThreadState) (k v : ℕ)
@@ -91,9 +88,13 @@ module _ (s : List ℕ) (t : ℕ) (bytes : AreBytes s) (long : length s ≡ stat
 
   pub stored-one : {s₁ s₂ s₃ : List ℕ} → s₁ ≡ put s at (headBytes w) → s₂ ≡ put s₁ (at + presencePlace) (le32 (w .present))
       → s₃ ≡ put s₂ (at + registersPlace + 2 * k) (le16 v) → s₃ ≡ put s at (rawBytes w)
-  stored-one {s₁} {s₂} e₁ e₂ e₃ =
+  stored-one {s₁} {s₂} {s₃} e₁ e₂ e₃ =
       let f : s₁ ≡ put s₁ (at + returnsPlace) (blocks le16 (w .returns)) = rw returns
       (kept s at bytes (headBytes w) returnsPlace returnCount e₁ refl (omega arith)) in
-      let up : s₂ ≡ put s at (upToRegisters w) = stored-up w n s at e₁ f e₂ in
-      stored-all w n s at m up (rw registers (one-stored s at bytes (upToRegisters w) registersPlace registerCount up (length-up w n s at)
-      (omega arith) k v h e₃))
+      let labels : s₁ ≡ put s at (labelBytes w) = put-then s at (headBytes w) _ _ e₁ f refl in
+      let up : s₂ ≡ put s at (labelBytes w ++ le32 (w .present)) = put-then s at _ _ _ labels e₂ (ap (at +_)
+      (sym (length-labels w n s at))) in
+      let g : s₃ ≡ put s₂ (at + registersPlace) (blocks le16 (w .registers)) = rw registers (one-stored s at bytes
+      (labelBytes w ++ le32 (w .present)) registersPlace registerCount up (simp length-append (omega (arith, size (w .returns))))
+      (omega arith) k v h e₃) in
+      stored-all w n s at m labels (put-then s₁ (at + presencePlace) (le32 (w .present)) _ _ e₂ g (omega arith))

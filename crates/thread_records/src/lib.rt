@@ -23,11 +23,11 @@ use threads::thread::ThreadState;
 ghost use mathlib.Core.Path.{_≡_};
 ghost use Prim.Native.Nat.{_+_, _<_, _≤_};
 ghost use lib.ListN.{length, set, drop};
-ghost use Rattle.rules.specs.Sizes.{threadCount, returnCount, registerCount, threadSize, stateSize};
+ghost use Rattle.rules.specs.Sizes.{threadCount, returnCount, registerCount, threadSize, presencePlace, stateSize};
 ghost use Rattle.fields.specs.Put.{put};
 ghost use Rattle.encoding.specs.Slots.{returnsIn, registersIn};
 ghost use Rattle.threads.specs.Records.{threadPlace, rawThread, rawBytes};
-ghost use Rattle.thread_records.specs.Stores.{headBytes};
+ghost use Rattle.thread_records.specs.Stores.{headBytes, labelBytes, registerBytes};
 
 // The place of a thread's record.
 fn record_at(t: Thread) -> usize
@@ -66,6 +66,26 @@ fn write_head(s: &mut [u8], at: usize, w: ThreadState)
     put8(s, at + RETURN_COUNT_PLACE, w.depth as u8);
 }
 
+// The head and the return labels of a record at a place.
+fn write_labels(s: &mut [u8], at: usize, w: ThreadState)
+    requires { ⌜ (at + threadSize ≤ length (now s)) × (w .depth ≤ returnCount) ⌝ }
+    ensures { λ _. ⌜ now (s .exit) ≡ put (now (s .entry)) at (labelBytes w) ⌝ }
+{
+    write_head(s, at, w);
+    let returns = w.returns;
+    put16s(s, at + RETURNS_PLACE, &returns);
+}
+
+// The registers of a record at a place, and which of them are present.
+fn write_registers(s: &mut [u8], at: usize, w: ThreadState)
+    requires { ⌜ at + threadSize ≤ length (now s) ⌝ }
+    ensures { λ _. ⌜ now (s .exit) ≡ put (now (s .entry)) (at + presencePlace) (registerBytes w) ⌝ }
+{
+    put32(s, at + PRESENCE_PLACE, w.present);
+    let registers = w.registers;
+    put16s(s, at + REGISTERS_PLACE, &registers);
+}
+
 // The thread comes back, whole. What is as it was read is not stored: the compiler sees that it comes from where it goes. So this
 // comes before any other store to the state.
 pub fn write_thread(state: &mut [u8], t: Thread, w: ThreadState)
@@ -73,12 +93,8 @@ pub fn write_thread(state: &mut [u8], t: Thread, w: ThreadState)
     ensures { λ _. ⌜ now (state .exit) ≡ put (now (state .entry)) (threadPlace (t .0)) (rawBytes w) ⌝ }
 {
     let at = record_at(t);
-    write_head(state, at, w);
-    let returns = w.returns;
-    put16s(state, at + RETURNS_PLACE, &returns);
-    put32(state, at + PRESENCE_PLACE, w.present);
-    let registers = w.registers;
-    put16s(state, at + REGISTERS_PLACE, &registers);
+    write_labels(state, at, w);
+    write_registers(state, at, w);
 }
 
 // The same where the return labels, and all registers but one, are as the record has them: they are not written.

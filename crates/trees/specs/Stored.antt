@@ -4,7 +4,7 @@ use mathlib.Core.List.{List, [], _∷_, _++_}
 use Prim.Native.Nat.{ℕ, _+_, _*_, _-_, _<_}
 use native.Mathlib.Omega.{arith}
 use lib.ListN.{length, getD, replicate, length-append}
-use lib.Seq.{take-all, getD-at, set-at}
+use lib.Seq.{getD-at, set-at}
 use Rattle.rules.specs.Sizes.{treeCount, treeSize, treeCountPlace, treesPlace}
 use Rattle.rules.specs.Bytes.{part, firstBad}
 use Rattle.rules.specs.Machine.{Signal, Tree, Machine}
@@ -25,18 +25,6 @@ use Rattle.trees.specs.Changes.{arrived, sized-append, sized-remove, siz
 pub found : {b : List ℕ} (k : Canon b) (t thread n : ℕ) {i : ℕ} → thread ≡ t → n ≡ getD b treeCountPlace 0
     → i ≡ firstBad (elsewhere b thread) 0 n → i ≡ firstTree t (machineFrom b .trees)
 found k t thread n et en e = e ∙ rw (et, en ∙ k .count) (first-found _ t (k .same) (k .sized .trees))
-
--- ---- tree i
-
-module _ {b : List ℕ} (k : Canon b) (i : ℕ) (h : i < length (machineFrom b .trees)) where
-  pub tree-removed : {b₁ b₂ : List ℕ} (n at : ℕ) → n ≡ length (machineFrom b .trees) → at ≡ treesPlace + treeSize * i
-      → b₁ ≡ put b at (part b (at + treeSize) (treeSize * (n - 1 - i)) ++ replicate treeSize 0) → b₂ ≡ put b₁ treeCountPlace ((n - 1) ∷ [])
-      → Canon b₂ × (machineFrom b₂ ≡ withTrees (machineFrom b) (removeAt i (machineFrom b .trees)))
-  tree-removed n at en ea e₁ e₂ =
-      let s = machineFrom b in
-      let q = tree-remove s i n at (k .same) (k .sized .trees) h en ea e₁ e₂ in
-      let z = sized-remove s (k .sized) i h in
-      (canon _ z q, says _ z q)
 
 -- ---- the list's end
 
@@ -61,30 +49,40 @@ module _ {b : List ℕ} (k : Canon b) where
       let z = sized-append s (k .sized) x zx room in
       (canon _ z q, says _ z q)
 
--- tree i, whose bytes stand in another buffer, has left the list and comes to its end
-pub tree-moved : {b b₁ b₂ b₃ : List ℕ} (k : Canon b) (i n : ℕ) (tree : List ℕ) → i < length (machineFrom b .trees)
-    → n ≡ length (machineFrom b .trees)
-    → tree ≡ put (replicate treeSize 0) 0 (part b (treesPlace + treeSize * i) treeSize) → Canon b₁
-    → machineFrom b₁ ≡ withTrees (machineFrom b) (removeAt i (machineFrom b .trees))
-    → b₂ ≡ put b₁ (treesPlace + treeSize * (n - 1)) (part tree 0 treeSize) → b₃ ≡ put b₂ treeCountPlace (n ∷ [])
-    → Canon b₃ × (machineFrom b₃ ≡ withTrees (machineFrom b) (removeAt i (machineFrom b .trees) ++ treeAt (machineFrom b) i ∷ []))
-unfolding part
-tree-moved {b} {b₁} {b₂} {b₃} k i n tree h en et k₁ m e₂ e₃ =
-    let s = machineFrom b in
-    let x = treeAt s i in
-    let f : part b (treesPlace + treeSize * i) treeSize ≡ treeBytes x =
-    tree-bytes-are s i (k .same) (k .sized .trees) h (treesPlace + treeSize * i) refl in
-    let g : tree ≡ treeBytes x = et ∙ rw f (put-whole (replicate treeSize 0) (treeBytes x) (sym (length-tree x))) in
-    let w : part tree 0 treeSize ≡ treeBytes x = rw g (take-all treeSize (treeBytes x) (omega (arith, length-tree x))) in
-    let l : length (machineFrom b₁ .trees) ≡ length (s .trees) - 1 = rw m (length-removeAt i (s .trees) h) in
-    let o : n ≡ n - 1 + 1 = omega arith in
-    let r = tree-appended k₁ (n - 1) (treesPlace + treeSize * (n - 1)) x (sized-at s (k .sized) i h) (omega (arith, k .sized .trees))
-    (omega arith) refl (rw w at e₂) (rw o at e₃) in
-    (r .0, r .1 ∙ rw m)
+-- ---- tree i
+
+module _ {b : List ℕ} (k : Canon b) (i : ℕ) (h : i < length (machineFrom b .trees)) where
+  pub tree-removed : {b₁ b₂ : List ℕ} (n at : ℕ) → n ≡ length (machineFrom b .trees) → at ≡ treesPlace + treeSize * i
+      → b₁ ≡ put b at (part b (at + treeSize) (treeSize * (n - 1 - i)) ++ replicate treeSize 0) → b₂ ≡ put b₁ treeCountPlace ((n - 1) ∷ [])
+      → Canon b₂ × (machineFrom b₂ ≡ withTrees (machineFrom b) (removeAt i (machineFrom b .trees)))
+  tree-removed n at en ea e₁ e₂ =
+      let s = machineFrom b in
+      let q = tree-remove s i n at (k .same) (k .sized .trees) h en ea e₁ e₂ in
+      let z = sized-remove s (k .sized) i h in
+      (canon _ z q, says _ z q)
+
+  -- it is copied to a buffer, leaves the list and comes to its end
+  pub tree-copied : {tree : List ℕ} → tree ≡ put (replicate treeSize 0) 0 (part b (treesPlace + treeSize * i) treeSize)
+      → tree ≡ treeBytes (treeAt (machineFrom b) i)
+  tree-copied e =
+      let x = treeAt (machineFrom b) i in
+      e ∙ rw (tree-bytes-are (machineFrom b) i (k .same) (k .sized .trees) h (treesPlace + treeSize * i) refl)
+      (put-whole (replicate treeSize 0) (treeBytes x) (sym (length-tree x)))
+
+  pub tree-moved : {b₁ b₂ tree : List ℕ} (n : ℕ) → n ≡ length (machineFrom b .trees) → tree ≡ treeBytes (treeAt (machineFrom b) i)
+      → Canon b₁ → machineFrom b₁ ≡ withTrees (machineFrom b) (removeAt i (machineFrom b .trees))
+      → b₂ ≡ put (put b₁ (treesPlace + treeSize * (n - 1)) tree) treeCountPlace ((n - 1 + 1) ∷ [])
+      → Canon b₂ × (machineFrom b₂ ≡ withTrees (machineFrom b) (removeAt i (machineFrom b .trees) ++ treeAt (machineFrom b) i ∷ []))
+  tree-moved {b₁} n en et k₁ m e =
+      let s = machineFrom b in
+      let l : length (machineFrom b₁ .trees) ≡ length (s .trees) - 1 = rw m (length-removeAt i (s .trees) h) in
+      let r = tree-appended k₁ (n - 1) (treesPlace + treeSize * (n - 1)) (treeAt s i) (sized-at s (k .sized) i h)
+      (omega (arith, k .sized .trees)) (omega arith) refl refl (rw et at e) in
+      (r .0, r .1 ∙ rw m)
 
 -- the last tree gets another thread
 pub last-moved : {b b′ : List ℕ} (k : Canon b) (s : Machine) (a : List Tree) (x : Tree) (t n : ℕ)
-    → machineFrom b ≡ withTrees s (a ++ x ∷ []) → n ≡ length (machineFrom b .trees)
+    → machineFrom b ≡ withTrees s (a ++ x ∷ []) → n ≡ length a + 1
     → b′ ≡ put b (treesPlace + treeSize * (n - 1)) (t ∷ []) → Canon b′ × (machineFrom b′ ≡ withTrees s (a ++ moved x t ∷ []))
 last-moved {b} {b′} k s a x t n m en e =
     let l : length (machineFrom b .trees) ≡ length a + 1 = rw m (length-append a (x ∷ [])) in

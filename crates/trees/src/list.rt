@@ -11,20 +11,23 @@ use rules::layout::TREE_SIZE;
 use rules::layout::TREES_PLACE;
 use rules::sorts::Thread;
 use rules::sorts::thread_number;
+use signal_records::Signal;
 use signal_records::read_signal;
 use signal_records::write_signal;
 ghost use mathlib.Core.Path.{_≡_};
 ghost use mathlib.Core.Bool.{true};
 ghost use mathlib.Core.List.{[], _∷_, _++_};
-ghost use Prim.Native.Nat.{ℕ, _+_, _<_, _≤_};
+ghost use Prim.Native.Nat.{ℕ, _+_, _*_, _<_, _≤_};
 ghost use lib.ListN.{length, drop};
-ghost use Rattle.rules.specs.Sizes.{treeCount, signalSize};
-ghost use Rattle.rules.specs.Encoding.{signalFrom, machineFrom};
+ghost use Rattle.rules.specs.Sizes.{treeCount, treeSize, treeCountPlace, treesPlace, signalSize, stateSize};
+ghost use Rattle.rules.specs.Encoding.{signalBytes, signalFrom, treeBytes, machineFrom};
 ghost use Rattle.rules.specs.WellFormed.{signalTidy};
+ghost use Rattle.fields.specs.Put.{put};
 ghost use Rattle.fields.specs.Filled.{removeAt};
 ghost use Rattle.encoding.specs.FirstTree.{firstTree};
 ghost use Rattle.encoding.specs.SignalStores.{moved};
 ghost use Rattle.encoding.specs.TreeStores.{withTrees};
+ghost use Rattle.signal_records.specs.Signals.{signalOf, TidySignal};
 ghost use Rattle.pending_signals.specs.Canon.{Canon, treeAt};
 ghost use Rattle.trees.specs.Changes.{arrived, ended};
 
@@ -52,6 +55,27 @@ pub fn first_tree(state: &[u8], t: Thread) -> usize
     i
 }
 
+// A tree on thread t with the one signal g, at a place that is free.
+fn write_tree(s: &mut [u8], at: usize, t: Thread, g: Signal)
+    requires { ⌜ (at + treeSize ≤ length (now s)) × TidySignal g ⌝ }
+    ensures { λ _. ⌜ now (s .exit) ≡ put (now (s .entry)) at (t .0 ∷ 1 ∷ signalBytes (signalOf g)) ⌝ }
+{
+    put8(s, at, thread_number(t));
+    put8(s, at + PENDING_COUNT_PLACE, 1);
+    write_signal(s, at + SIGNALS_PLACE, g);
+}
+
+// That tree comes to the list's end.
+fn append_tree(state: &mut [u8], t: Thread, g: Signal)
+    requires { ⌜ Canon (now state) × (length (machineFrom (now state) .trees) < treeCount) × TidySignal g ⌝ }
+    ensures { λ _. ⌜ Canon (now (state .exit)) ⌝ }
+    ensures { λ _. ⌜ machineFrom (now (state .exit)) ≡ arrived (t .0) (signalOf g) (machineFrom (now (state .entry))) ⌝ }
+{
+    let n = tree_count(state);
+    write_tree(state, TREES_PLACE + TREE_SIZE * n, t, g);
+    put8(state, TREE_COUNT_PLACE, (n + 1) as u8);
+}
+
 // An arrival: a tree on thread t with the one signal whose bytes stand at a place of another buffer.
 pub fn append(state: &mut [u8], t: Thread, bytes: &[u8], at: usize)
     requires { ⌜ Canon (now state) × (length (machineFrom (now state) .trees) < treeCount) × (at + signalSize ≤ length (now bytes))
@@ -60,23 +84,16 @@ pub fn append(state: &mut [u8], t: Thread, bytes: &[u8], at: usize)
     ensures { λ _. ⌜ machineFrom (now (state .exit)) ≡ arrived (t .0) (signalFrom (drop at (now (bytes .entry))))
         (machineFrom (now (state .entry))) ⌝ }
 {
-    let n = get8(state, TREE_COUNT_PLACE);
-    let to = TREES_PLACE + TREE_SIZE * n;
-    let g = read_signal(bytes, at);
-    put8(state, to, thread_number(t));
-    put8(state, to + PENDING_COUNT_PLACE, 1);
-    write_signal(state, to + SIGNALS_PLACE, g);
-    put8(state, TREE_COUNT_PLACE, (n + 1) as u8);
+    append_tree(state, t, read_signal(bytes, at));
 }
 
-// Tree i leaves the list: the later ones move down, and zeros fill the last one's place.
-fn remove_tree(state: &mut [u8], i: usize)
-    requires { ⌜ Canon (now state) × (i < length (machineFrom (now state) .trees)) ⌝ }
+// Tree i of n leaves the list: the later ones move down, and zeros fill the last one's place.
+fn remove_tree(state: &mut [u8], i: usize, n: usize)
+    requires { ⌜ Canon (now state) × (i < length (machineFrom (now state) .trees)) × (n ≡ length (machineFrom (now state) .trees)) ⌝ }
     ensures { λ _. ⌜ Canon (now (state .exit)) ⌝ }
     ensures { λ _. ⌜ machineFrom (now (state .exit)) ≡ withTrees (machineFrom (now (state .entry)))
         (removeAt i (machineFrom (now (state .entry)) .trees)) ⌝ }
 {
-    let n = get8(state, TREE_COUNT_PLACE);
     remove(
         state,
         TREES_PLACE + TREE_SIZE * i,
@@ -86,38 +103,50 @@ fn remove_tree(state: &mut [u8], i: usize)
     put8(state, TREE_COUNT_PLACE, (n - 1) as u8);
 }
 
-// Tree i goes to the list's end.
-fn move_to_end(state: &mut [u8], i: usize)
-    requires { ⌜ Canon (now state) × (i < length (machineFrom (now state) .trees)) ⌝ }
+// The bytes of a tree, copied from another buffer, come after n trees.
+fn append_copy(state: &mut [u8], n: usize, tree: &[u8])
+    requires { ⌜ (length (now state) ≡ stateSize) × (n < treeCount) × (length (now tree) ≡ treeSize) ⌝ }
+    ensures { λ _. ⌜ now (state .exit) ≡ put (put (now (state .entry)) (treesPlace + treeSize * n) (now (tree .entry))) treeCountPlace
+        ((n + 1) ∷ []) ⌝ }
+{
+    copy(state, TREES_PLACE + TREE_SIZE * n, tree, 0, TREE_SIZE);
+    put8(state, TREE_COUNT_PLACE, (n + 1) as u8);
+}
+
+// Tree i of n, whose bytes stand in another buffer too, leaves the list and comes to its end.
+fn reinsert(state: &mut [u8], i: usize, n: usize, tree: &[u8])
+    requires { ⌜ Canon (now state) × (i < length (machineFrom (now state) .trees)) × (n ≡ length (machineFrom (now state) .trees))
+        × (now tree ≡ treeBytes (treeAt (machineFrom (now state)) i)) ⌝ }
     ensures { λ _. ⌜ Canon (now (state .exit)) ⌝ }
     ensures { λ _. ⌜ machineFrom (now (state .exit)) ≡ withTrees (machineFrom (now (state .entry)))
         (removeAt i (machineFrom (now (state .entry)) .trees) ++ treeAt (machineFrom (now (state .entry))) i ∷ []) ⌝ }
 {
-    let n = get8(state, TREE_COUNT_PLACE);
+    remove_tree(state, i, n);
+    append_copy(state, n - 1, tree);
+}
+
+// Tree i of n goes to the list's end.
+fn move_to_end(state: &mut [u8], i: usize, n: usize)
+    requires { ⌜ Canon (now state) × (i < length (machineFrom (now state) .trees)) × (n ≡ length (machineFrom (now state) .trees)) ⌝ }
+    ensures { λ _. ⌜ Canon (now (state .exit)) ⌝ }
+    ensures { λ _. ⌜ machineFrom (now (state .exit)) ≡ withTrees (machineFrom (now (state .entry)))
+        (removeAt i (machineFrom (now (state .entry)) .trees) ++ treeAt (machineFrom (now (state .entry))) i ∷ []) ⌝ }
+{
     if i + 1 < n {
         let mut tree = [0u8; TREE_SIZE];
         copy(&mut tree, 0, state, TREES_PLACE + TREE_SIZE * i, TREE_SIZE);
-        remove_tree(state, i);
-        copy(
-            state,
-            TREES_PLACE + TREE_SIZE * (n - 1),
-            &tree,
-            0,
-            TREE_SIZE,
-        );
-        put8(state, TREE_COUNT_PLACE, n as u8);
+        reinsert(state, i, n, &tree);
     }
 }
 
-// Tree i goes to the list's end, on thread t.
-fn requeue(state: &mut [u8], i: usize, t: Thread)
-    requires { ⌜ Canon (now state) × (i < length (machineFrom (now state) .trees)) ⌝ }
+// Tree i of n goes to the list's end, on thread t.
+fn requeue(state: &mut [u8], i: usize, n: usize, t: Thread)
+    requires { ⌜ Canon (now state) × (i < length (machineFrom (now state) .trees)) × (n ≡ length (machineFrom (now state) .trees)) ⌝ }
     ensures { λ _. ⌜ Canon (now (state .exit)) ⌝ }
     ensures { λ _. ⌜ machineFrom (now (state .exit)) ≡ withTrees (machineFrom (now (state .entry)))
         (removeAt i (machineFrom (now (state .entry)) .trees) ++ moved (treeAt (machineFrom (now (state .entry))) i) (t .0) ∷ []) ⌝ }
 {
-    move_to_end(state, i);
-    let n = get8(state, TREE_COUNT_PLACE);
+    move_to_end(state, i, n);
     put8(state, TREES_PLACE + TREE_SIZE * (n - 1), thread_number(t));
 }
 
@@ -128,9 +157,10 @@ pub fn end_tree(state: &mut [u8], i: usize, t: Thread)
     ensures { λ _. ⌜ ((u : ℕ) → i ≡ firstTree u (machineFrom (now (state .entry)) .trees)
         → machineFrom (now (state .exit)) ≡ ended u (t .0) i (machineFrom (now (state .entry)))) ⌝ }
 {
+    let n = tree_count(state);
     if pending(state, i) == 0 {
-        remove_tree(state, i);
+        remove_tree(state, i, n);
     } else {
-        requeue(state, i, t);
+        requeue(state, i, n, t);
     }
 }

@@ -12,31 +12,18 @@ long : (c : tie.Start) → length (c .args .g .values) ≡ registerCount
 long c = search needs
 
 put16s-requires : tie.Need-put16s-requires
-put16s-requires c κs = omega (
-  arith,
-  long (c .before .before .before .before .before .before .before .before .before .before .before
-      .before .before),
-)
+put16s-requires c κs = omega (arith, long (c .before .before .before .before .before .before .before .before))
 
 returns : tie.Need-returns
 returns c =
-    let g = c .before .before .before .before .before .before .before .before .before .before .before .before .before .before .before
-    .before .args .g in
-    let e = put-then _ _ _ _ _ (put-then _ _ _ _ _ (c .before .before .before .before .before .before .before .before .before .before
-    .before .before .put16 .ensures) (c .before .before .before .before .before .before .before .before .put8 .ensures) refl)
-    (c .before .before .put16s .ensures) refl in
-    let number = c .before .before .before .before .before .before .before .before .before .before .before .before .before .label-number in
-    let start = c .before .before .before .before .before .before .before .before .before .before .before .before .before .before .before
-    .before in
-    e ∙ rw (number .ensures, value-bytes g (long start) (start .pre .1))
+    let s = c .before .before .before .before .before .before .before .before .before .before .before in
+    let head = c .before .before .before .before .before .before .before .before .write-head .ensures in
+    put-then _ _ _ _ _ head (c .before .before .put16s .ensures) refl ∙ rw (value-bytes (s .args .g) (long s) (s .pre .1))
 
 pub write-signal-spec : {M : Type 1} → statement M
 write-signal-spec =
     tie.close
     (tie.spec
-    (λ c κs. omega arith)
-    (λ c κs. omega arith)
-    (λ c. omega arith)
     (λ c κs. omega arith)
     (λ c. omega arith)
     (λ c. search needs)

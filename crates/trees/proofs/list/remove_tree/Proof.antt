@@ -1,21 +1,19 @@
 use native.Mathlib.Omega.{arith}
-use mathlib.Core.Path.{refl, _∙_}
+use mathlib.Core.Path.{refl}
 use Rattle.trees.specs.Stored.{tree-removed}
 use Rattle.trees.proofs.list.remove_tree.Statement.{statement}
 use Rattle.trees.proofs.list.remove_tree.Tie as tie
 
 returns : tie.Need-returns
 returns c =
-    let k = c .before .before .before .before .before .before .before .before .before .before .before .pre .0 in
-    tree-removed k _ (c .before .before .before .before .before .before .before .before .before .before .before .pre .1) _ _
-    (c .before .before .before .before .before .before .before .before .get8 .ensures .0 ∙ k .count) refl
-    (c .before .before .before .before .before .before .remove .ensures) (c .before .before .put8 .ensures)
+    let p = c .before .before .before .before .before .before .before .before .before .pre in
+    tree-removed (p .0) _ (p .1) _ _ (p .2) refl (c .before .before .before .before .before .before .remove .ensures)
+    (c .before .before .put8 .ensures)
 
 pub remove-tree-spec : {M : Type 1} → statement M
 remove-tree-spec =
     tie.close
     (tie.spec
-    (λ c κs. omega arith)
     (λ c. omega arith)
     (λ c. omega arith)
     (λ c. omega arith)
