@@ -1,4 +1,3 @@
--- Events carried out one after the other, and the bytes of a fresh machine.
+-- Events carried out one after the other.
 pub mod Kinds
 pub mod Runs
-pub mod Fresh

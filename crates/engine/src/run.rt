@@ -1,6 +1,6 @@
 // A run: every event in order, each with the two bytes of its answer, for which there is space.
-use crate::answers::write_answer;
 use crate::event::event;
+use answer_bytes::write_answer;
 use rules::layout::EVENT_SIZE;
 ghost use mathlib.Core.Path.{_≡_};
 ghost use Prim.Native.Nat.{_*_};

@@ -12,30 +12,25 @@ use lib.Bits.{bitOr, or-shr, or-step, shifted-even}
 use Rattle.rules.specs.Bytes.{has}
 
 -- bit l of a number
-bit : ℕ → ℕ → ℕ
+abbrev bit : ℕ → ℕ → ℕ
 bit n l = n / 2 ^ l % 2
 
-bit-or : (a b l : ℕ) → bit (bitOr a b) l ≡ max (bit a l) (bit b l)
-unfolding bit
+pub bit-or : (a b l : ℕ) → bit (bitOr a b) l ≡ max (bit a l) (bit b l)
 bit-or a b l = rw (or-shr a b l) (omega (arith, or-step (a / 2 ^ l) (b / 2 ^ l)))
 
 bit-lt : (n l : ℕ) → bit n l < 2
-unfolding bit
 bit-lt n l = omega arith
 
 bit-zero : (l : ℕ) → bit 0 l ≡ 0
-unfolding bit
 bit-zero l = rw (div-eq-of-lt (pow-pos l))
 
 bit-same : (l : ℕ) → bit (2 ^ l) l ≡ 1
-unfolding bit
 bit-same l = let e : 2 ^ l / 2 ^ l ≡ 1 = rw one-mul at (shl-shr 1 l) in rw e
 
 high-bit : (k l : ℕ) → 2 ^ (suc k + l) / 2 ^ l % 2 ≡ 0
 high-bit k l = rw (pow-add 2 (suc k) l, shl-shr (2 ^ suc k) l, ← one-mul (2 ^ suc k)) (shifted-even 1 k)
 
 bit-other : (l m : ℕ) → l ≢ m → bit (2 ^ m) l ≡ 0
-unfolding bit
 bit-other l m h = go (decLt m l)
   where
     go : Dec (m < l) → 2 ^ m / 2 ^ l % 2 ≡ 0
@@ -51,13 +46,10 @@ or-other : (a l m : ℕ) → l ≢ m → bit (bitOr a (2 ^ m)) l ≡ bit a l
 or-other a l m h = omega (arith, bit-or a (2 ^ m) l, bit-other l m h)
 
 pub has-none : (l : ℕ) → has l 0 ≡ false
-unfolding bit
 has-none l = ap (λ (n : ℕ). eqb n 1) (bit-zero l)
 
 pub has-same : (l set : ℕ) → has l (bitOr set (2 ^ l)) ≡ true
-unfolding bit
 has-same l set = ap (λ (n : ℕ). eqb n 1) (or-same set l)
 
 pub has-other : (l m set : ℕ) → l ≢ m → has l (bitOr set (2 ^ m)) ≡ has l set
-unfolding bit
 has-other l m set h = ap (λ (n : ℕ). eqb n 1) (or-other set l m h)

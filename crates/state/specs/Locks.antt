@@ -18,7 +18,7 @@ use Rattle.rules.specs.Steps.{held}
 use Rattle.rules.specs.Walk.{holder}
 use Rattle.encoding.specs.Numbers.{num16-le16}
 use Rattle.encoding.specs.Layout.{thread-on}
-use Rattle.threads.specs.Bits.{has-none}
+use Rattle.laws.specs.Sets.{has-none}
 use Rattle.threads.specs.Records.{threadPlace}
 use Rattle.encoding.specs.Encoded.{Encodes}
 use Rattle.state.specs.declared.locks.Holder.{Holder}

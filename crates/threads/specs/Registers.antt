@@ -18,7 +18,8 @@ use Rattle.rules.specs.Bytes.{has}
 use Rattle.rules.specs.Machine.{fill}
 use Rattle.rules.specs.Encoding.{registerOf, registersFrom}
 use Rattle.encoding.specs.Registers.{length-registers, register-at}
-use Rattle.threads.specs.Bits.{has-set, has-other, has-none, has-low, has-high, has-or-low, has-or-high}
+use Rattle.laws.specs.Sets.{has-none, has-same, has-other}
+use Rattle.threads.specs.Bits.{has-low, has-high, has-or-low, has-or-high}
 
 -- absent registers are zero
 abbrev pub AbsentZero : ℕ → List ℕ → Type 0
@@ -69,14 +70,14 @@ module _ (present : ℕ) (values : List ℕ) (r v : ℕ) (sized : length values 
       go i k (yes e) =
           rw (
             e,
-            has-set present r,
+            has-same r present,
             getD-set-same values r v 0 (omega arith),
             getD-set-same (registersFrom present values 0 registerCount)
                 r (some v) none (omega (arith, length-registers present values 0 registerCount)),
           )
       go i k (no e) =
           rw (
-            has-other present r i (λ q. e (sym q)),
+            has-other i r present e,
             getD-set-other values r i v 0 e,
             getD-set-other
                 (registersFrom present values 0 registerCount) r i (some v) none e,
@@ -87,8 +88,8 @@ module _ (present : ℕ) (values : List ℕ) (r v : ℕ) (sized : length values 
   stored-absent z i k = go (ℕ-discrete i r)
     where
       go : Dec (i ≡ r) → (has i (bitOr present (2 ^ r)) || eqb (getD (set values r v) i 0) 0) ≡ true
-      go (yes e) = rw (e, has-set present r)
-      go (no e) = rw (has-other present r i (λ q. e (sym q)), getD-set-other values r i v 0 e) (z i k)
+      go (yes e) = rw (e, has-same r present)
+      go (no e) = rw (has-other i r present e, getD-set-other values r i v 0 e) (z i k)
 
   pub stored-tidy : TidyRegisters present values → TidyRegisters (bitOr present (2 ^ r)) (set values r v)
   stored-tidy z = record {

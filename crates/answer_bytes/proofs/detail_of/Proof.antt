@@ -1,7 +1,7 @@
 use borrow.Author.Needs.{needs}
 use Rattle.rules.specs.Answers.{detail}
-use Rattle.engine.proofs.answers.detail_of.Statement.{statement}
-use Rattle.engine.proofs.answers.detail_of.Tie as tie
+use Rattle.answer_bytes.proofs.detail_of.Statement.{statement}
+use Rattle.answer_bytes.proofs.detail_of.Tie as tie
 
 pub detail-of-spec : {M : Type 1} → statement M
 unfolding detail

@@ -4,9 +4,9 @@ use native.Mathlib.Omega.{arith}
 use denote.Ref.{now}
 use lib.ListN.{length}
 use Rattle.rules.specs.Sizes.{threadCount, wordsSize, stateSize}
-use Rattle.engine.specs.Fresh.{Begun, begun-none, begun-more, begun-all}
-use Rattle.engine.proofs.fresh.fresh.Statement.{statement}
-use Rattle.engine.proofs.fresh.fresh.Tie as tie
+use Rattle.fresh_state.specs.Fresh.{Begun, begun-none, begun-more, begun-all}
+use Rattle.fresh_state.proofs.fresh.Statement.{statement}
+use Rattle.fresh_state.proofs.fresh.Tie as tie
 
 abbrev Inv-loop : tie.InvT-loop
 Inv-loop words state₀ t₀ state t = (t ≤ threadCount) × (length state ≡ stateSize) × Begun words (stateSize - wordsSize) t state

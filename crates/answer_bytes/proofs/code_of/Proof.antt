@@ -1,7 +1,7 @@
 use borrow.Author.Needs.{needs}
 use Rattle.rules.specs.Answers.{code}
-use Rattle.engine.proofs.answers.code_of.Statement.{statement}
-use Rattle.engine.proofs.answers.code_of.Tie as tie
+use Rattle.answer_bytes.proofs.code_of.Statement.{statement}
+use Rattle.answer_bytes.proofs.code_of.Tie as tie
 
 pub code-of-spec : {M : Type 1} → statement M
 unfolding code

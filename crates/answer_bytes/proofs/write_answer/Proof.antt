@@ -5,8 +5,8 @@ use borrow.Author.Needs.{needs}
 use Rattle.rules.specs.Sizes.{answerSize}
 use Rattle.rules.specs.Answers.{answerBytes}
 use Rattle.fields.specs.Put.{put-then}
-use Rattle.engine.proofs.answers.write_answer.Statement.{statement}
-use Rattle.engine.proofs.answers.write_answer.Tie as tie
+use Rattle.answer_bytes.proofs.write_answer.Statement.{statement}
+use Rattle.answer_bytes.proofs.write_answer.Tie as tie
 
 returns : tie.Need-returns
 unfolding answerBytes
