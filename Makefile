@@ -7,7 +7,7 @@ LDLIBS = -lm -pthread
 LIBRARY = target/staticlib/libplex.a
 SECONDS ?= 60
 
-.PHONY: all demo bench test prove try sorts style format map host command examples papers second compare soak replay \
+.PHONY: all demo bench test toolchains hosts prove try sorts style format map host command examples papers second compare soak replay \
     install uninstall installed clean
 
 all: $(LIBRARY) build/plex build/demo
@@ -129,9 +129,17 @@ soak: $(LIBRARY) | build
 replay: $(LIBRARY) | build
 	$(COMPARE) replay $(SEED)
 
+# after the proofs two rows of tests, side by side: those of the toolchains, and those of the C hosts
 test: prove
-	$(MAKE) --no-print-directory style try sorts host command examples papers second compare installed
+	$(MAKE) --no-print-directory $(LIBRARY)
+	MAKEFLAGS= $(MAKE) --no-print-directory -j2 -O toolchains hosts
 	@tail -n 1 build/ci.log
+
+toolchains:
+	MAKEFLAGS= $(MAKE) --no-print-directory style try sorts second compare
+
+hosts:
+	MAKEFLAGS= $(MAKE) --no-print-directory host command examples papers installed
 
 # ---- installation: the places have GNU's names; DESTDIR goes before each of them
 PREFIX ?= /usr/local

@@ -39,11 +39,11 @@ use Rattle.walk_laws.specs.Waits.{awaits-inside}
 use Rattle.step_ready.specs.Ready.{Ready}
 use Rattle.step_ready.specs.At.{At, tree}
 use Rattle.passage.specs.Enters.{Passes, Enters}
-use Rattle.entering.specs.Starting.{FirstOf, start-waiting, start-running}
+use Rattle.starting.specs.Starting.{FirstOf, start-waiting, start-running}
 use Rattle.passage.specs.declared.Passage.{Passage}
 use Rattle.passage.specs.declared.Passage.the-variants.{Trap, Wait, Go}
-use Rattle.entering.specs.declared.start.First.{First}
-use Rattle.entering.specs.declared.start.First.the-variants as found
+use Rattle.starting.specs.declared.First.{First}
+use Rattle.starting.specs.declared.First.the-variants as found
 use Rattle.awaiting.specs.declared.Wanted.{Wanted}
 use Rattle.awaiting.specs.declared.Wanted.the-variants.{Lock, Nothing}
 use Rattle.awaiting.specs.declared.Waits.{Waits}

@@ -1,6 +1,4 @@
 // Whom a thread waits for, asked without carrying its step out.
-use entering::start::First;
-use entering::start::first_signal;
 use image::records::record_at;
 use passage::Passage;
 use passage::call_passage;
@@ -10,6 +8,8 @@ use rules::codes::SEND_DIRECT;
 use rules::layout::OPCODE_PLACE;
 use rules::sorts::Lock;
 use rules::sorts::Thread;
+use starting::First;
+use starting::first_signal;
 use state::locks::Holder;
 use state::locks::holder_of;
 use thread_records::read_thread;

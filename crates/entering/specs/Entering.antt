@@ -20,7 +20,7 @@ use Rattle.step_ready.specs.At.{At, small, depth-is}
 use Rattle.passage.specs.declared.Passage.{Passage}
 use Rattle.passage.specs.declared.Passage.the-variants.{Trap, Wait, Go}
 use Rattle.passage.specs.Enters.{Passes, Enters}
-use Rattle.entering.specs.Holding.{holding, holding-as}
+use Rattle.holding.specs.Holding.{holding, holding-as}
 
 -- a thread w that can go in by the record r, with the values that it read
 pub record CanEnter (w : ThreadState) (r vs : List ℕ) : Type 0 where

@@ -1,3 +1,2 @@
-pub mod Holding
+-- A direct SEND and a CALL.
 pub mod Entering
-pub mod Starting

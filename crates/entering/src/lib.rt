@@ -1,4 +1,128 @@
-// The steps that take locks: a direct SEND, a CALL, and the start of a job.
-pub mod direct;
-pub mod holding;
-pub mod start;
+// A direct SEND and a CALL: the thread goes into another block if no other thread holds its lock.
+use ending::trapped;
+use holding::write_holding;
+use image::record_fields::label_a;
+use image::record_fields::label_b;
+use image::record_fields::operand_count;
+use passage::Passage;
+use passage::call_passage;
+use passage::send_passage;
+use rules::answer::Answer;
+use rules::sorts::Thread;
+use threads::thread::ThreadState;
+ghost use mathlib.Core.Path.{_≡_};
+ghost use mathlib.Core.List.{[], _∷_, _++_};
+ghost use Prim.Native.Nat.{_<_};
+ghost use lib.ListN.{take};
+ghost use Rattle.rules.specs.Sizes.{returnCount};
+ghost use Rattle.rules.specs.Image.{labelA, labelB, operands};
+ghost use Rattle.rules.specs.Machine.{fill, job};
+ghost use Rattle.rules.specs.Statements.{statementOf};
+ghost use Rattle.rules.specs.declared.statement.Statement.the-variants.{SendDirect, Call};
+ghost use Rattle.threads.specs.Threads.{Runs, returnsOf};
+ghost use Rattle.step_ready.specs.Ready.{Stepped};
+ghost use Rattle.step_ready.specs.At.{At};
+ghost use Rattle.passage.specs.Enters.{Enters};
+ghost use Rattle.entering.specs.Entering.{CanEnter};
+
+// The thread that a direct SEND makes of w.
+fn sent(w: ThreadState, r: &[u8], values: [u16; Thread::REGISTERS]) -> ThreadState
+    requires { ⌜ CanEnter w (now r) values ⌝ }
+    ensures { λ x. ⌜ Runs x (w .locks)
+        (job (labelA (now (r .entry))) (returnsOf w) (fill (take (operands (now (r .entry))) values))) ⌝ }
+{
+    w.enter(label_a(r), values, operand_count(r))
+}
+
+// The thread that a CALL makes of w.
+fn called(w: ThreadState, r: &[u8], values: [u16; Thread::REGISTERS]) -> ThreadState
+    requires { ⌜ CanEnter w (now r) values × (w .depth < returnCount) ⌝ }
+    ensures { λ x. ⌜ Runs x (w .locks)
+        (job (labelA (now (r .entry))) (returnsOf w ++ (labelB (now (r .entry)) ∷ [])) (fill (take (operands (now (r .entry))) values))) ⌝ }
+{
+    let to = label_a(r);
+    let back = label_b(r);
+    w.call(to, back, values, operand_count(r))
+}
+
+// A direct SEND by its passage, with the values that it read.
+fn send_by(
+    image: &[u8],
+    table: &[u8],
+    state: &mut [u8],
+    t: Thread,
+    w: ThreadState,
+    r: &[u8],
+    values: [u16; Thread::REGISTERS],
+    p: Passage,
+) -> Answer
+    requires { ⌜ At (now image) (now table) (now state) (t .0) w (now r) × (statementOf (now r) ≡ SendDirect)
+        × Enters (now image) (now table) (now state) (t .0) w (now r) (returnsOf w) values p ⌝ }
+    ensures { λ a. ⌜ Stepped (now (image .entry)) (now (table .entry)) (now (state .entry)) (t .0) (now (state .exit)) a ⌝ }
+{
+    match p {
+        Passage::Trap(reason) => trapped(image, table, state, t, w, reason),
+        Passage::Wait(lock) => Answer::Waiting(lock),
+        Passage::Go(lock) => {
+            write_holding(state, t, sent(w, r, values), lock);
+            Answer::Moved
+        }
+    }
+}
+
+// A CALL by its passage.
+fn call_by(
+    image: &[u8],
+    table: &[u8],
+    state: &mut [u8],
+    t: Thread,
+    w: ThreadState,
+    r: &[u8],
+    values: [u16; Thread::REGISTERS],
+    p: Passage,
+) -> Answer
+    requires { ⌜ At (now image) (now table) (now state) (t .0) w (now r) × (statementOf (now r) ≡ Call)
+        × Enters (now image) (now table) (now state) (t .0) w (now r) (returnsOf w ++ (labelB (now r) ∷ [])) values p ⌝ }
+    ensures { λ a. ⌜ Stepped (now (image .entry)) (now (table .entry)) (now (state .entry)) (t .0) (now (state .exit)) a ⌝ }
+{
+    match p {
+        Passage::Trap(reason) => trapped(image, table, state, t, w, reason),
+        Passage::Wait(lock) => Answer::Waiting(lock),
+        Passage::Go(lock) => {
+            write_holding(state, t, called(w, r, values), lock);
+            Answer::Moved
+        }
+    }
+}
+
+pub fn send_direct(
+    image: &[u8],
+    table: &[u8],
+    state: &mut [u8],
+    t: Thread,
+    w: ThreadState,
+    r: &[u8],
+) -> Answer
+    requires { ⌜ At (now image) (now table) (now state) (t .0) w (now r) × (statementOf (now r) ≡ SendDirect) ⌝ }
+    ensures { λ a. ⌜ Stepped (now (image .entry)) (now (table .entry)) (now (state .entry)) (t .0) (now (state .exit)) a ⌝ }
+{
+    let mut values = [0u16; Thread::REGISTERS];
+    let p = send_passage(image, table, state, t, w, r, &mut values);
+    send_by(image, table, state, t, w, r, values, p)
+}
+
+pub fn call(
+    image: &[u8],
+    table: &[u8],
+    state: &mut [u8],
+    t: Thread,
+    w: ThreadState,
+    r: &[u8],
+) -> Answer
+    requires { ⌜ At (now image) (now table) (now state) (t .0) w (now r) × (statementOf (now r) ≡ Call) ⌝ }
+    ensures { λ a. ⌜ Stepped (now (image .entry)) (now (table .entry)) (now (state .entry)) (t .0) (now (state .exit)) a ⌝ }
+{
+    let mut values = [0u16; Thread::REGISTERS];
+    let p = call_passage(image, table, state, t, w, r, &mut values);
+    call_by(image, table, state, t, w, r, values, p)
+}

@@ -1,0 +1,95 @@
+use mathlib.Core.Path.{sym, _∙_}
+use Prim.Native.Nat.{_<_}
+use lib.ListN.{length}
+use native.Mathlib.Omega.{arith}
+use borrow.Author.Needs.{needs}
+use Rattle.rules.specs.Image.{labels}
+use Rattle.rules.specs.Encoding.{machineFrom}
+use Rattle.encoding.specs.FirstTree.{first-none}
+use Rattle.ending.specs.Home.{oldest-below, block-inside, table-long}
+use Rattle.starting.specs.Starting.{FirstIs, idle-pending, first-is}
+use Rattle.starting.proofs.first_signal.Statement.{statement}
+use Rattle.starting.proofs.first_signal.Tie as tie
+
+-- the tree is in the list
+inside : (c : tie.After-oldest-label)
+    → c .before .before .before .first-tree .result < length
+    (machineFrom (c .before .before .before .before .before .before .before .args .state .now) .trees)
+inside c = omega (arith, c .before .before .tree-count .ensures, c .before .if1 .left)
+
+-- the label of its oldest signal is below n
+below : (c : tie.After-oldest-label)
+    → c .oldest-label .result .0 < labels (c .before .before .before .before .before .before .before .args .image .now)
+below c =
+    let s = c .before .before .before .before .before .before .before in
+    let i = c .before .before .before .first-tree in
+    rw (c .oldest-label .ensures) (oldest-below (s .pre .0) (i .result) (inside c)
+    (idle-pending (s .pre .0) (s .args .t .0) (s .pre .1) (i .result) (i .ensures) (inside c)))
+
+-- the tree, with the lock that its oldest signal asks for
+found : (c : tie.After-lock-at)
+    → FirstIs (c .before .before .before .before .before .before .before .before .before .args .image .now)
+    (c .before .before .before .before .before .before .before .before .before .args .table .now)
+    (machineFrom (c .before .before .before .before .before .before .before .before .before .args .state .now))
+    (c .before .before .before .before .before .before .before .before .before .args .t .0)
+    (c .before .before .before .before .before .first-tree .result) (c .lock-at .result)
+found c =
+    let s = c .before .before .before .before .before .before .before .before .before in
+    let i = c .before .before .before .before .before .first-tree in
+    first-is (s .pre .0) (s .args .t .0) (s .pre .1) (i .result) (c .lock-at .result) (i .ensures) (inside (c .before .before))
+    (c .lock-at .ensures ∙ rw (c .before .block-at .ensures, c .before .before .oldest-label .ensures))
+
+returns : tie.Need-returns
+returns c = first-none (c .before .before .before .before .before .before .args .t .0)
+    (machineFrom (c .before .before .before .before .before .before .args .state .now) .trees)
+    (omega (arith, c .before .tree-count .ensures, c .if1 .taken, c .before .before .first-tree .ensures))
+
+oldest-label-requires : tie.Need-oldest-label-requires
+oldest-label-requires c κs =
+    let s = c .before .before .before .before .before .before in
+    let i = c .before .before .first-tree in
+    let l : i .result < length (machineFrom (s .args .state .now) .trees) = omega (arith, c .before .tree-count .ensures, c .if1 .left) in
+    (s .pre .0 .canonical, l, idle-pending (s .pre .0) (s .args .t .0) (s .pre .1) (i .result) (i .ensures) l)
+
+block-at-requires : tie.Need-block-at-requires
+block-at-requires c κs = below c
+
+lock-at-requires : tie.Need-lock-at-requires
+lock-at-requires c κs = (
+  rw (c .block-at .ensures)
+      (block-inside (c .before .before .before .before .before .before .before .before .pre .0) _ (below (c .before))),
+  table-long
+      (c .before .before .before .before .before .before .before .before .pre .0),
+)
+
+held-by-other-requires : tie.Need-held-by-other-requires
+held-by-other-requires c κs = (
+  c .before .before .before .before .before .before .before .before .before .pre .0 .canonical,
+  found c
+      .small,
+)
+
+returns-2 : tie.Need-returns-2
+returns-2 c = (
+  c .before .before .before .before .before .before .before .first-tree .result,
+  found (c .before .before),
+  sym
+      (c .before .held-by-other .ensures) ∙ c .if2 .taken,
+)
+
+returns-3 : tie.Need-returns-3
+returns-3 c = (found (c .before .before), sym (c .before .held-by-other .ensures) ∙ c .if2 .left)
+
+pub first-signal-spec : {M : Type 1} → statement M
+first-signal-spec =
+    tie.close
+    (tie.spec
+    (λ c κs. search needs)
+    (λ c κs. search needs)
+    returns
+    oldest-label-requires
+    block-at-requires
+    lock-at-requires
+    held-by-other-requires
+    returns-2
+    returns-3)

@@ -1,0 +1,2 @@
+-- The start of a job.
+pub mod Starting
