@@ -28,8 +28,8 @@ report 'files over 300 lines' "$(git ls-files '*.c' '*.h' '*.rs' '*.sh' '*.rt' '
 crates=$(sed -n 's/^\([a-z_0-9]*\):.*/\1/p' crates.txt)
 report 'modules with the name of a crate' "$(for crate in $crates; do ls crates/*/src/$crate.rt 2>/dev/null; done)"
 
-# the sizes and places of the formats stand in rules alone; the trials say the document's own numbers
-sizes=$(git grep -nwE '7929|7_929|1112|1113|426' -- 'crates/*.rt' 'crates/*.antt' ':!crates/rules' ':!crates/byte_trials' ':!crates/trials')
+# the sizes and places of the formats stand in rules alone
+sizes=$(git grep -nwE '7929|7_929|1112|1113|426' -- 'crates/*.rt' 'crates/*.antt' ':!crates/rules' ':!crates/trials')
 report 'sizes as numbers outside rules' "$sizes"
 
 report 'docs/map.dot is not what `make map` makes of crates.txt' "$(awk -f tools/map.awk crates.txt | diff - docs/map.dot | head -n 5)"

@@ -1,12 +1,12 @@
--- The marked trials of docs/PROMISES.md on the bytes of the calls: each from Fresh's state, computed. Numbers of bytes are those of
--- docs/MACHINE.md, so that a wrong size or place in the law fails here.
+-- The marked trials of docs/PROMISES.md on the bytes of the calls: each from Fresh's state, computed. Counts and codes are those
+-- of docs/MACHINE.md, so that a wrong one in the law fails here.
 use mathlib.Core.Path.{_≡_, refl}
 use mathlib.Core.Option.{Option·elim}
 use mathlib.Core.List.{List, [], _∷_, _++_}
-use Prim.Native.Nat.{ℕ, zero, suc, _*_}
+use Prim.Native.Nat.{ℕ, zero, suc, _+_, _*_}
 use native.Mathlib.Decide.{ℕ-discrete}
 use lib.ListN.{replicate, drop}
-use Rattle.rules.specs.Sizes.{tableSize, wordsSize, stateSize}
+use Rattle.rules.specs.Sizes.{tableSize, wordsSize, stateSize, threadsPlace, presencePlace, treeCountPlace}
 use Rattle.rules.specs.Bytes.{num16, num32, part, isZeros, allFrom, firstBad, blocks, pad, chunks, every}
 use Rattle.rules.specs.Image.{labels, recordAt, rowAt}
 use Rattle.rules.specs.Statements.{operandOf, operandAt, operandsFrom, operationAt, optional, assignmentBy}
@@ -75,6 +75,10 @@ answersWith rows image m events = runAnswers image rows (freshState image rows w
 abbrev stateAfter : List ℕ → ℕ → List ℕ → List ℕ
 stateAfter image m events = runState image table (initial image) events (replicate (2 * m) 0)
 
+-- where the presence set of thread 0 stands in a state, its registers behind it
+abbrev presenceSet : ℕ
+presenceSet = threadsPlace + presencePlace
+
 -- ---- the images
 
 -- label 0 block 0, entry 3, ASSIGN copy shared word 0 from 7, A 1; label 1 EXIT in block 0
@@ -142,8 +146,8 @@ wholeList = arrivalBytes 0 [] ++ times 4 (turnBytes 2 0)
 
 pub record OnBytes : Type 0 where
   -- "65,535 + 1 is 0": the presence set and register 0, before it 7; "0 - 1 is 65,535": the same, and shared word 0
-  pub sum : part (stateAfter (computing 2 2 255) 3 startAndStep) 533 6 ≡ 1 ∷ 0 ∷ 0 ∷ 0 ∷ 0 ∷ 0 ∷ []
-  pub difference : part (stateAfter (computing 3 2 0) 3 startAndStep) 533 6 ≡ 1 ∷ 0 ∷ 0 ∷ 0 ∷ 255 ∷ 255 ∷ []
+  pub sum : part (stateAfter (computing 2 2 255) 3 startAndStep) presenceSet 6 ≡ 1 ∷ 0 ∷ 0 ∷ 0 ∷ 0 ∷ 0 ∷ []
+  pub difference : part (stateAfter (computing 3 2 0) 3 startAndStep) presenceSet 6 ≡ 1 ∷ 0 ∷ 0 ∷ 0 ∷ 255 ∷ 255 ∷ []
   pub difference-word : part (stateAfter (computing 3 3 0) 3 startAndStep) 0 2 ≡ 255 ∷ 255 ∷ []
   -- "RETURN in a job with no call: 8, 2"
   pub returns : answersTo returning 3 (arrivalBytes 0 [] ++ times 2 (turnBytes 2 0)) ≡ 1 ∷ 0 ∷ 5 ∷ 0 ∷ 8 ∷ 2 ∷ []
@@ -152,18 +156,18 @@ pub record OnBytes : Type 0 where
       ≡ 1 ∷ 0 ∷ 5 ∷ 0 ∷ 6 ∷ 0 ∷ times 8 (6 ∷ 0 ∷ []) ++ 8 ∷ 3 ∷ []
   -- "The eighth pending signal is kept; the ninth: 8, 4"
   pub signals : answersTo sending 11 (arrivalBytes 0 [] ++ times 10 (turnBytes 2 0)) ≡ 1 ∷ 0 ∷ 5 ∷ 0 ∷ times 8 (6 ∷ 0 ∷ []) ++ 8 ∷ 4 ∷ []
-  pub signals-kept : part (stateAfter sending 10 (arrivalBytes 0 [] ++ times 9 (turnBytes 2 0))) 1112 3 ≡ 1 ∷ 0 ∷ 8 ∷ []
+  pub signals-kept : part (stateAfter sending 10 (arrivalBytes 0 [] ++ times 9 (turnBytes 2 0))) treeCountPlace 3 ≡ 1 ∷ 0 ∷ 8 ∷ []
   -- "The sixteenth arrival gets 1; the next 2"
   pub arrivals : answersTo assigning 17 (times 17 (arrivalBytes 0 [])) ≡ times 16 (1 ∷ 0 ∷ []) ++ 2 ∷ 0 ∷ []
   -- "EXIT two calls deep: lock set, return count, presence all 0": before it three locks are held and there are two return labels;
   -- after it the state is Fresh's again
-  pub deep : part (stateAfter (nested 10) 4 (arrivalBytes 0 [] ++ times 3 (turnBytes 2 0))) 512 5 ≡ 4 ∷ 0 ∷ 7 ∷ 0 ∷ 2 ∷ []
+  pub deep : part (stateAfter (nested 10) 4 (arrivalBytes 0 [] ++ times 3 (turnBytes 2 0))) threadsPlace 5 ≡ 4 ∷ 0 ∷ 7 ∷ 0 ∷ 2 ∷ []
   pub exit : answersTo (nested 10) 5 (arrivalBytes 0 [] ++ times 4 (turnBytes 2 0)) ≡ 1 ∷ 0 ∷ 5 ∷ 0 ∷ 6 ∷ 0 ∷ 6 ∷ 0 ∷ 7 ∷ 0 ∷ []
   pub exited : stateAfter (nested 10) 5 (arrivalBytes 0 [] ++ times 4 (turnBytes 2 0)) ≡ initial (nested 10)
   -- "TRANSFER with one value keeps register 1; direct SEND with one makes it absent": the presence set and registers 0 and 1
-  pub transfer : part (stateAfter (passing 9) 3 (arrivalBytes 0 (2 ∷ 3 ∷ 0 ∷ 4 ∷ 0 ∷ []) ++ times 2 (turnBytes 2 0))) 533 8
+  pub transfer : part (stateAfter (passing 9) 3 (arrivalBytes 0 (2 ∷ 3 ∷ 0 ∷ 4 ∷ 0 ∷ []) ++ times 2 (turnBytes 2 0))) presenceSet 8
       ≡ 3 ∷ 0 ∷ 0 ∷ 0 ∷ 5 ∷ 0 ∷ 4 ∷ 0 ∷ []
-  pub direct : part (stateAfter (passing 5) 3 (arrivalBytes 0 (2 ∷ 3 ∷ 0 ∷ 4 ∷ 0 ∷ []) ++ times 2 (turnBytes 2 0))) 533 8
+  pub direct : part (stateAfter (passing 5) 3 (arrivalBytes 0 (2 ∷ 3 ∷ 0 ∷ 4 ∷ 0 ∷ []) ++ times 2 (turnBytes 2 0))) presenceSet 8
       ≡ 1 ∷ 0 ∷ 0 ∷ 0 ∷ 5 ∷ 0 ∷ 0 ∷ 0 ∷ []
   -- "No events: return 0, state unchanged"
   pub no-events : runReturn assigning table (initial assigning) [] [] ≡ 0
@@ -176,10 +180,10 @@ pub record OnBytes : Type 0 where
   pub answers : answersTo assigning 5 wholeList ≡ 1 ∷ 0 ∷ 5 ∷ 0 ∷ 6 ∷ 0 ∷ 7 ∷ 0 ∷ 3 ∷ 0 ∷ []
   pub word : stateAfter assigning 5 wholeList ≡ 7 ∷ drop 1 (initial assigning)
   -- also: IF, operator 2, is p less than q, and 1 is p equal to q: the label then
-  pub less : part (stateAfter (comparing 2 3 5) 3 startAndStep) 512 2 ≡ 1 ∷ 0 ∷ []
-  pub not-less : part (stateAfter (comparing 2 5 3) 3 startAndStep) 512 2 ≡ 2 ∷ 0 ∷ []
-  pub equal : part (stateAfter (comparing 1 5 5) 3 startAndStep) 512 2 ≡ 1 ∷ 0 ∷ []
-  pub not-equal : part (stateAfter (comparing 1 3 5) 3 startAndStep) 512 2 ≡ 2 ∷ 0 ∷ []
+  pub less : part (stateAfter (comparing 2 3 5) 3 startAndStep) threadsPlace 2 ≡ 1 ∷ 0 ∷ []
+  pub not-less : part (stateAfter (comparing 2 5 3) 3 startAndStep) threadsPlace 2 ≡ 2 ∷ 0 ∷ []
+  pub equal : part (stateAfter (comparing 1 5 5) 3 startAndStep) threadsPlace 2 ≡ 1 ∷ 0 ∷ []
+  pub not-equal : part (stateAfter (comparing 1 3 5) 3 startAndStep) threadsPlace 2 ≡ 2 ∷ 0 ∷ []
   -- also: a direct SEND to an FD block (kind 0) of another thread traps, reason 5; a CMX block (kind 1) is open
   pub foreign-FD : answersWith (foreign 0) entering 3 startAndStep ≡ 1 ∷ 0 ∷ 5 ∷ 0 ∷ 8 ∷ 5 ∷ []
   pub foreign-CMX : answersWith (foreign 1) entering 3 startAndStep ≡ 1 ∷ 0 ∷ 5 ∷ 0 ∷ 6 ∷ 0 ∷ []
@@ -190,7 +194,7 @@ pub record OnBytes : Type 0 where
   pub walk-alone : walkReturn crossing both ring 2 (replicate 8 0) ≡ 1
   pub alone-met : walkMet crossing both ring 2 (replicate 8 0) ≡ 2 ∷ replicate 7 255
   -- also: after two CALLs and a RETURN all three locks are held
-  pub return : part (stateAfter (nested 8) 5 (arrivalBytes 0 [] ++ times 4 (turnBytes 2 0))) 512 5 ≡ 3 ∷ 0 ∷ 7 ∷ 0 ∷ 1 ∷ []
+  pub return : part (stateAfter (nested 8) 5 (arrivalBytes 0 [] ++ times 4 (turnBytes 2 0))) threadsPlace 5 ≡ 3 ∷ 0 ∷ 7 ∷ 0 ∷ 1 ∷ []
   -- also: a cut two calls deep leaves Fresh's state
   pub cut : answersTo (nested 10) 5 (arrivalBytes 0 [] ++ times 3 (turnBytes 2 0) ++ turnBytes 3 0)
       ≡ 1 ∷ 0 ∷ 5 ∷ 0 ∷ 6 ∷ 0 ∷ 6 ∷ 0 ∷ 9 ∷ 0 ∷ []

@@ -1,8 +1,20 @@
 // Tries the exported calls: the trials that are not proved, and the vectors. Prints a line for each group of trials.
-use trial_buffers::memory::Lengths;
-use trial_buffers::memory::Memory;
-use trial_calls::limits::image_lengths;
-use trial_calls::lines::try_file;
+mod calls;
+mod cases;
+mod claims;
+mod edits;
+mod files;
+mod limits;
+mod lines;
+mod marks;
+mod memory;
+mod tally;
+mod text;
+
+use limits::image_lengths;
+use lines::try_file;
+use memory::Lengths;
+use memory::Memory;
 
 // The lines of the limits and of the vectors that name `call`.
 fn try_lines(call: &[u8], memory: &mut Memory, lengths: &mut Lengths) {
