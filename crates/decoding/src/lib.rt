@@ -32,6 +32,7 @@ ghost use mathlib.Core.Bool.{cond};
 ghost use Prim.Native.Nat.{_<_, _≤_};
 ghost use lib.ListN.{length};
 ghost use Rattle.rules.specs.Sizes.{recordSize, operandCount};
+ghost use Rattle.rules.specs.Image.{kind, value};
 ghost use Rattle.rules.specs.Statements.{operandOf, operandAt, operationAt, shape, optional, relationOf, assignmentOf, conditionOf};
 ghost use Rattle.rules.specs.Statements.{otherOf, statementOf};
 ghost use Rattle.decoding.specs.Assigns.{assignsOf};
@@ -49,15 +50,27 @@ pub fn operand_of(kind: u8, value: u16) -> Operand
     }
 }
 
+// The kind and the value of the operand at a place of a record.
+pub fn kind_at(r: &[u8], k: usize) -> u8
+    requires { ⌜ (length (now r) ≡ recordSize) × (k < operandCount) ⌝ }
+    ensures { λ z. ⌜ z ≡ kind (now (r .entry)) k ⌝ }
+{
+    r[OPERANDS_PLACE + OPERAND_SIZE * k]
+}
+
+pub fn value_at(r: &[u8], k: usize) -> u16
+    requires { ⌜ (length (now r) ≡ recordSize) × (k < operandCount) ⌝ }
+    ensures { λ z. ⌜ z ≡ value (now (r .entry)) k ⌝ }
+{
+    get16(r, OPERAND_VALUES_PLACE + OPERAND_SIZE * k)
+}
+
 // The operand at a place of a record.
 pub fn operand_at(r: &[u8], k: usize) -> Operand
     requires { ⌜ (length (now r) ≡ recordSize) × (k < operandCount) ⌝ }
     ensures { λ z. ⌜ z ≡ operandAt (now (r .entry)) k ⌝ }
 {
-    operand_of(
-        r[OPERANDS_PLACE + OPERAND_SIZE * k],
-        get16(r, OPERAND_VALUES_PLACE + OPERAND_SIZE * k),
-    )
+    operand_of(kind_at(r, k), value_at(r, k))
 }
 
 // What an opcode of ASSIGN's kind works out; nothing for any other opcode.

@@ -1,10 +1,13 @@
 // The operands of a statement, read: a thread's registers from its value, and the shared words of the statement's own block from a
 // state's bytes.
-use decoding::operand_at;
+use decoding::kind_at;
+use decoding::value_at;
 use fields::read::wide;
 use image::record_fields::block_field;
 use image::record_fields::operand_count;
 use rules::codes::ABSENT_REGISTER;
+use rules::codes::NUMBER_OPERAND;
+use rules::codes::REGISTER_OPERAND;
 use rules::sorts::Block;
 use rules::sorts::Thread;
 use rules::statement::Operand;
@@ -15,9 +18,9 @@ ghost use mathlib.Core.Path.{_≡_};
 ghost use mathlib.Core.List.{[], _∷_};
 ghost use Prim.Native.Nat.{_<_};
 ghost use lib.ListN.{length};
-ghost use Rattle.rules.specs.Sizes.{blockCount, operandCount, stateSize};
+ghost use Rattle.rules.specs.Sizes.{blockCount, operandCount, recordSize, stateSize};
 ghost use Rattle.rules.specs.Image.{operands};
-ghost use Rattle.rules.specs.Statements.{dataOf};
+ghost use Rattle.rules.specs.Statements.{operandOf, operandAt, dataOf};
 ghost use Rattle.rules.specs.Effects.{one, compute, read, readAll};
 ghost use Rattle.operands.specs.Readings.{readingOf, Reads};
 ghost use Rattle.operands.specs.Legal.{Fits, Readable};
@@ -54,6 +57,52 @@ fn read_operand(
     }
 }
 
+// An operand by its kind and its value, read: the kind is tested once, and each kind is read in its own branch.
+fn read_kind(
+    state: &[u8],
+    block: Block,
+    registers: &[u16; Thread::REGISTERS],
+    present: u32,
+    kind: u8,
+    value: u16,
+) -> Reading
+    requires { ⌜ (length (now state) ≡ stateSize) × (block .0 < blockCount) × Fits (operandOf kind value) ⌝ }
+    ensures { λ r. ⌜ r ≡ readingOf (read (cellsFrom (now (state .entry)) (block .0) present (now (registers .entry)))
+        (operandOf kind value)) ⌝ }
+{
+    match kind {
+        NUMBER_OPERAND => read_operand(state, block, registers, present, Operand::Number(value)),
+        REGISTER_OPERAND => {
+            read_operand(state, block, registers, present, Operand::Register(value))
+        }
+        _ => read_operand(state, block, registers, present, Operand::Word(value)),
+    }
+}
+
+// The operand at a place of the record r, read.
+fn read_place(
+    state: &[u8],
+    block: Block,
+    registers: &[u16; Thread::REGISTERS],
+    present: u32,
+    r: &[u8],
+    k: usize,
+) -> Reading
+    requires { ⌜ (length (now state) ≡ stateSize) × (block .0 < blockCount) × (length (now r) ≡ recordSize) × (k < operandCount)
+        × Fits (operandAt (now r) k) ⌝ }
+    ensures { λ a. ⌜ a ≡ readingOf (read (cellsFrom (now (state .entry)) (block .0) present (now (registers .entry)))
+        (operandAt (now (r .entry)) k)) ⌝ }
+{
+    read_kind(
+        state,
+        block,
+        registers,
+        present,
+        kind_at(r, k),
+        value_at(r, k),
+    )
+}
+
 // The data operands of the record r that thread w comes to, read left to right: their values are stored from place 0 on, what stands
 // behind them stays, and the answer is 0, or the reason of the trap that reading them makes.
 pub fn read_data(
@@ -71,7 +120,7 @@ pub fn read_data(
     let n = wide(operand_count(r));
     let mut k = 0;
     while k < n {
-        match read_operand(state, block, &registers, w.present, operand_at(r, k)) {
+        match read_place(state, block, &registers, w.present, r, k) {
             Reading::Value(v) => {
                 values[k] = v;
             }

@@ -5,17 +5,13 @@ use Rattle.decoding.proofs.operand_at.Tie as tie
 
 returns : tie.Need-returns
 unfolding operandAt
-returns c = simp (c .operand-of .ensures, c .before .get16 .ensures)
+returns c = simp (c .operand-of .ensures, c .before .value-at .ensures, c .before .before .kind-at .ensures)
 
 pub operand-at-spec : {M : Type 1} → statement M
 operand-at-spec =
     tie.close
     (tie.spec
-    (λ c. search needs)
-    (λ c. search needs)
-    (λ c. search needs)
-    (λ c. search needs)
-    (λ c. search needs)
+    (λ c κs. search needs)
     (λ c κs. search needs)
     (λ c κs. search needs)
     returns)

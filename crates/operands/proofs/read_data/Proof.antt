@@ -37,55 +37,42 @@ loop-holds c =
       refl,
     )
 
-operand-at-requires : tie.Need-operand-at-requires Inv-loop μ-loop
-operand-at-requires c κs = omega (
-  arith,
-  c .before .before .before .wide .ensures .0,
-  c .before .before .before .before .operand-count
-      .ensures,
-  c .before .before .before .before .before .before .before .before .before .pre .1 .few,
-  c .before .before .before .before
-      .before .before .before .before .before .pre .1 .long,
-)
-
-read-operand-requires : tie.Need-read-operand-requires Inv-loop μ-loop
-read-operand-requires c κs =
-    let s = c .before .before .before .before .before .before .before .before .before .before in
-    let k = c .before .before .before .loop .k in
-    let n = c .before .before .before .before .wide .ensures .0 ∙ c .before .before .before .before .before .operand-count .ensures in (
+read-place-requires : tie.Need-read-place-requires Inv-loop μ-loop
+read-place-requires c κs =
+    let s = c .before .before .before .before .before .before .before .before .before in
+    let k = c .before .before .loop .k in
+    let n = c .before .before .before .wide .ensures .0 ∙ c .before .before .before .before .operand-count .ensures in
+    let h : k < operandCount = omega (arith, n, s .pre .1 .few) in (
       s .pre .0,
-      rw (c .before .before .before .before .before .before .before .block-field .ensures) (s .pre .1 .block),
-      rw
-          (c .operand-at .ensures) (slot-fits (s .args .r .now) (s .pre .1 .slots) k (omega (arith, n))
-          (omega (arith, n, s .pre .1 .few))),
+      rw (c .before .before .before .before .before .before .block-field .ensures) (s .pre .1 .block),
+      s .pre .1 .long,
+      h,
+      slot-fits (s .args .r .now) (s .pre .1 .slots) k (omega (arith, n)) h,
     )
 
 element-write-values : tie.Need-element-write-values Inv-loop μ-loop
 element-write-values c = omega (
   arith,
-  c .before .before .before .before .before .before .before .before .wide .ensures .0,
-  c .before
-      .before .before .before .before .before .before .before .before .operand-count .ensures,
-  c .before .before .before .before .before
-      .before .before .before .before .before .before .before .before .before .pre .1 .few,
+  c .before .before .before .before .before .before .before .wide .ensures .0,
+  c .before .before .before .before .before .before .before .before .operand-count .ensures,
+  c .before .before .before .before .before .before .before .before .before .before .before .before .before .pre .1 .few,
 )
 
 returns : tie.Need-returns Inv-loop μ-loop
 returns c =
-    let s = c .before .before .before .before .before .before .before .before .before .before .before .before .before .before in
+    let s = c .before .before .before .before .before .before .before .before .before .before .before .before .before in
     let a = s .args in
-    let l = c .before .before .before .before .before .before .before .loop in
-    let n : c .before .before .before .before .before .before .before .before .wide .result ≡ operands (a .r .now) = c .before .before
-    .before .before .before .before .before .before .wide .ensures .0
-    ∙ c .before .before .before .before .before .before .before .before .before .operand-count .ensures in
+    let l = c .before .before .before .before .before .before .loop in
+    let n : c .before .before .before .before .before .before .before .wide .result ≡ operands (a .r .now) =
+    c .before .before .before .before .before .before .before .wide .ensures .0
+    ∙ c .before .before .before .before .before .before .before .before .operand-count .ensures in
     let cells : Cells = cellsOf (a .state .now) (a .w) (a .r .now) in
     let x : ℕ = c .before .reason .given .0 .0 in
-    let f : read cells (c .before .before .before .before .operand-at .result) ≡ trap x = reading-trap _ x
-    (sym (rw (c .before .before .before .before .before .before .before .before .before .before .before .block-field .ensures) at
-    (c .before .before .before .read-operand .ensures)) ∙ c .before .reason .given .1) in
-    let e : read cells (operandAt (a .r .now) (l .k)) ≡ trap x = rw (c .before .before .before .before .operand-at .ensures) at f in
+    let e : read cells (operandAt (a .r .now) (l .k)) ≡ trap x = reading-trap _ x
+    (sym (rw (c .before .before .before .before .before .before .before .before .before .before .block-field .ensures) at
+    (c .before .before .before .read-place .ensures)) ∙ c .before .reason .given .1) in
     let one : x ≡ absentRegisterCode = read-reason cells (operandAt (a .r .now) (l .k)) x e in
-    let all = reads-trap cells (a .r .now) (c .before .before .before .before .before .before .before .before .wide .result) (l .k)
+    let all = reads-trap cells (a .r .now) (c .before .before .before .before .before .before .before .wide .result) (l .k)
     (l .values) (l .inv .1) (omega arith) x e in
     record {
       few = s .pre .1 .few;
@@ -98,23 +85,21 @@ returns c =
 
 loop-again : tie.Need-loop-again Inv-loop μ-loop
 loop-again c =
-    let s = c .before .before .before .before .before .before .before .before .before .before .before .before .before .before in
+    let s = c .before .before .before .before .before .before .before .before .before .before .before .before .before in
     let a = s .args in
-    let l = c .before .before .before .before .before .before .before .loop in
-    let n = c .before .before .before .before .before .before .before .before .wide .result in
+    let l = c .before .before .before .before .before .before .loop in
+    let n = c .before .before .before .before .before .before .before .wide .result in
     let few : n ≤ operandCount = omega (
       arith,
-      c .before .before .before .before .before .before .before .before .wide .ensures .0,
-      c
-          .before .before .before .before .before .before .before .before .before .operand-count .ensures,
+      c .before .before .before .before .before .before .before .wide .ensures .0,
+      c .before .before .before .before .before .before .before .before .operand-count .ensures,
       s .pre .1 .few,
     ) in
     let cells : Cells = cellsOf (a .state .now) (a .w) (a .r .now) in
     let v : ℕ = c .before .v .given .0 .0 in
-    let f : read cells (c .before .before .before .before .operand-at .result) ≡ got v = reading-value _ v
-    (sym (rw (c .before .before .before .before .before .before .before .before .before .before .before .block-field .ensures) at
-    (c .before .before .before .read-operand .ensures)) ∙ c .before .v .given .1) in
-    let e : read cells (operandAt (a .r .now) (l .k)) ≡ got v = rw (c .before .before .before .before .operand-at .ensures) at f in
+    let e : read cells (operandAt (a .r .now) (l .k)) ≡ got v = reading-value _ v
+    (sym (rw (c .before .before .before .before .before .before .before .before .before .before .block-field .ensures) at
+    (c .before .before .before .read-place .ensures)) ∙ c .before .v .given .1) in
     let h : l .k < length (l .values) = omega (arith, l .inv .0) in (
       length-set (l .values) (l .k) v ∙ l .inv .0,
       reads-more cells (a .r .now) n (l .k) (l .values) (l .inv .1) (omega arith) v e h,
@@ -150,8 +135,7 @@ read-data-spec =
     operand-count-requires
     (λ c κs. search needs)
     loop-holds
-    operand-at-requires
-    read-operand-requires
+    read-place-requires
     (λ c. search needs)
     (λ c. omega arith)
     element-write-values
