@@ -1,6 +1,8 @@
-/* Times the proved engine against the plain one: the same work, in one run, taken turn about, the
- * best of many rounds. Run is timed by the event, the other calls by the call. The buffers are in
- * the processor's caches, and nothing is cleared between calls.
+/* Times the proved engine against the plain one: the same work, in one run, taken turn about. The
+ * times are the best of many rounds; the ratio is the median of the rounds' own ratios, so that a
+ * machine that slows down for a while slows down both of its numbers. Run is timed by the event, the
+ * other calls by the call. The buffers are in the processor's caches, and nothing is cleared between
+ * calls.
  *
  * Use: bench [FOLDER]    a folder for the plots */
 #define _POSIX_C_SOURCE 199309L
@@ -68,31 +70,40 @@ static uint32_t expected_return(const struct bench_row *row)
     return expected;
 }
 
-static struct bench_point time_row(const struct bench_row *row)
+static int by_size(const void *a, const void *b)
 {
+    double x = *(const double *)a, y = *(const double *)b;
+    return (x > y) - (x < y);
+}
+
+/* The best times of a row, and the median of its rounds' ratios. */
+static struct bench_point time_row(const struct bench_row *row, double *ratio)
+{
+    static double ratios[ROUNDS];
     uint32_t expected = expected_return(row);
-    size_t calls = calls_a_round(row, expected);
+    size_t calls = calls_a_round(row, expected), rounds = 0;
     double plex_best = 1e300, plain_best = 1e300, begun = now_ns();
-    for (int round = 0; round < ROUNDS; round++) {
+    while (rounds < ROUNDS && (rounds < FEWEST_ROUNDS || now_ns() - begun < ROW_NS)) {
         double plex_ns = time_calls(row->plex_call, calls, expected);
         double plain_ns = time_calls(row->plain_call, calls, expected);
         plex_best = plex_ns < plex_best ? plex_ns : plex_best;
         plain_best = plain_ns < plain_best ? plain_ns : plain_best;
-        if (round >= FEWEST_ROUNDS && now_ns() - begun > ROW_NS)
-            break;
+        ratios[rounds++] = plex_ns / plain_ns;
     }
+    qsort(ratios, rounds, sizeof ratios[0], by_size);
+    *ratio = ratios[rounds / 2];
     double units = row->events == 0 ? 1 : (double)row->events;
     return (struct bench_point){row->events == 0 ? row->records : row->events, plex_best / units, plain_best / units};
 }
 
-static void print_row(const struct bench_row *row, const struct bench_point *best)
+static void print_row(const struct bench_row *row, const struct bench_point *best, double ratio)
 {
     printf("%-24s", row->name);
     if (row->events == 0)
         printf(" %8s", "");
     else
         printf(" %8zu", row->events);
-    printf(" %12.1f %12.1f %12.2f\n", best->plex_ns, best->plain_ns, best->plex_ns / best->plain_ns);
+    printf(" %12.1f %12.1f %12.2f\n", best->plex_ns, best->plain_ns, ratio);
     fflush(stdout);
 }
 
@@ -113,8 +124,9 @@ int main(int argc, char **argv)
     printf("%-24s %8s %12s %12s %12s\n", "row", "events", "plex ns", "plain ns", "plex/plain");
     for (size_t i = 0; i < bench_row_count; i++) {
         const struct bench_row *row = &bench_rows[i];
-        struct bench_point best = time_row(row);
-        print_row(row, &best);
+        double ratio;
+        struct bench_point best = time_row(row, &ratio);
+        print_row(row, &best, ratio);
         points[row->plot][counts[row->plot]++] = best;
     }
     printf("Run is timed by the event, with all tests that a call begins with; the others by the "

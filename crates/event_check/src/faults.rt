@@ -1,7 +1,7 @@
 // The refusals 7 to 9, and the whole list of a Run's.
 use crate::event::first_bad_event;
-use image_check::faults::first_of;
-use image_check::faults::refuse;
+use refusals::first_of;
+use refusals::refuse;
 use rules::codes::BAD_ANSWERS_LENGTH;
 use rules::codes::BAD_EVENT;
 use rules::codes::BAD_EVENTS_LENGTH;

@@ -1,46 +1,17 @@
--- The laws of lists of refusals, and of a refusal that does not apply.
-use mathlib.Core.Path.{_≡_, refl}
-use mathlib.Core.Bool.{Bool, true, false, cond}
-use mathlib.Core.List.{List, [], _∷_, _++_}
-use Prim.Native.Nat.{ℕ, zero, suc}
+-- Refusals that do not apply.
+use mathlib.Core.Path.{_≡_}
+use mathlib.Core.Bool.{true}
+use mathlib.Core.List.{List}
+use Prim.Native.Nat.{ℕ}
 use native.Mathlib.Omega.{arith}
 use lib.Dec.{eqb}
 use lib.ListN.{length}
-use borrow.Author.Tests.{eqb-true, eq-eqb, ne-eqb}
+use borrow.Author.Tests.{eqb-true}
 use Rattle.rules.specs.Sizes.{blockCount, tableSize}
 use Rattle.rules.specs.Bytes.{allFrom}
-use Rattle.rules.specs.Check.{rowOk, firstOf, tableLengthFault, tableFault}
+use Rattle.rules.specs.Check.{rowOk, tableLengthFault, tableFault}
 use Rattle.laws.specs.Faults.{refusal-zero}
 use Rattle.fields.specs.Runs.{none-bad}
-
--- ---- the first refusal of a list
-
--- it applies, or the rest decides
-pub found : (x : ℕ) (xs : List ℕ) → (x ≡ 0 → ⊥) → firstOf (x ∷ xs) ≡ x
-unfolding firstOf
-found x xs h = rw (ne-eqb x 0 h)
-
-pub passed : (x : ℕ) (xs : List ℕ) → x ≡ 0 → firstOf (x ∷ xs) ≡ firstOf xs
-unfolding firstOf
-passed x xs h = rw (eq-eqb x 0 h)
-
-pub last : (x : ℕ) → firstOf (x ∷ []) ≡ x
-unfolding firstOf
-last zero = refl
-last (suc x) = rw (ne-eqb (suc x) 0 (λ e. omega arith))
-
--- the refusals of one list, and after them those of another
-pub then : (xs ys : List ℕ) → firstOf (xs ++ ys) ≡ cond (eqb (firstOf xs) 0) (firstOf ys) (firstOf xs)
-unfolding firstOf
-then [] ys = refl
-then (x ∷ xs) ys = go (eqb x 0) refl (then xs ys)
-  where
-    go : (t : Bool) → eqb x 0 ≡ t → firstOf (xs ++ ys) ≡ cond (eqb (firstOf xs) 0) (firstOf ys) (firstOf xs)
-        → cond t (firstOf (xs ++ ys)) x ≡ cond (eqb (cond t (firstOf xs) x) 0) (firstOf ys) (cond t (firstOf xs) x)
-    go true e r = r
-    go false e r = rw e
-
--- ---- a refusal that does not apply
 
 pub table-length : (table : List ℕ) → tableLengthFault table ≡ 0 → length table ≡ tableSize
 unfolding tableLengthFault

@@ -1,8 +1,8 @@
 // The calls that a host makes, on byte slices and numbers. Each returns one number: 0, or 65,536 × number + place of the first refusal.
-use engine::run::run;
+use engine::run;
 use event_check::faults::run_fault;
 use fresh_state::fresh;
-use image_check::faults::image_fault;
+use image_check::image_fault;
 use rules::sorts::thread_of;
 use state_check::faults::fresh_fault;
 use state_check::faults::walk_fault;

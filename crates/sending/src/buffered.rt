@@ -3,7 +3,7 @@ use ending::trapped;
 use image::record_fields::label_a;
 use image::record_fields::label_b;
 use image::record_fields::operand_count;
-use moves::onward::go_on;
+use onward::go_on;
 use operands::read_data;
 use pending_signals::pending;
 use pending_signals::push;

@@ -10,7 +10,7 @@ use Rattle.rules.specs.Sizes.{stateSize}
 use Rattle.rules.specs.Check.{firstOf, imageFaults}
 use Rattle.rules.specs.Calls.{stateLengthFault, stateFault}
 use Rattle.laws.specs.Faults.{refusal-zero}
-use Rattle.image_check.specs.Faults.{then}
+use Rattle.refusals.specs.FirstOf.{then}
 
 -- numbers 1 to 6
 abbrev pub machineFaults : List ℕ → List ℕ → List ℕ → List ℕ

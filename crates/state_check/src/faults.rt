@@ -1,9 +1,9 @@
 // The refusals 5, 6 and 10 to 12: of the state, the initial words, and what the walk is handed; and the whole lists of Fresh's and of
 // the walk's.
 use crate::form::well_formed;
-use image_check::faults::first_of;
-use image_check::faults::image_fault;
-use image_check::faults::refuse;
+use image_check::image_fault;
+use refusals::first_of;
+use refusals::refuse;
 use rules::codes::BAD_MET_LENGTH;
 use rules::codes::BAD_STATE;
 use rules::codes::BAD_STATE_LENGTH;

@@ -8,7 +8,7 @@ use rules::layout::TREE_COUNT_PLACE;
 use rules::layout::TREE_SIZE;
 use rules::layout::TREES_PLACE;
 use rules::limits::Tree;
-use thread_check::places::threads_good;
+use thread_check::threads_good;
 ghost use mathlib.Core.Path.{_≡_};
 ghost use lib.ListN.{length};
 ghost use Rattle.rules.specs.Sizes.{stateSize};

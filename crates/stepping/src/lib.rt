@@ -1,14 +1,12 @@
 // A step of a thread: an idle one starts a job, a running one carries out the statement at its label.
 use assigning::assign;
+use branching::branch;
 use decoding::statement_of;
 use ending::leave;
 use entering::call;
 use entering::send_direct;
 use image::records::record_at;
-use moves::branch::branch;
-use moves::data::give_back;
-use moves::data::transfer;
-use moves::onward::skip;
+use onward::skip;
 use rules::answer::Answer;
 use rules::sorts::Thread;
 use rules::statement::Statement;
@@ -16,6 +14,8 @@ use sending::buffered::send_buffered;
 use starting::start;
 use thread_records::read_thread;
 use threads::thread::ThreadState;
+use transfers::give_back;
+use transfers::transfer;
 ghost use Prim.Native.Nat.{_<_};
 ghost use Rattle.rules.specs.Sizes.{threadCount};
 ghost use Rattle.step_ready.specs.Ready.{Ready, Stepped};

@@ -1,3 +1,109 @@
-// What a call tests of a thread record of the lent state: its bytes, and the labels of a running thread.
-pub mod places;
-pub mod registers;
+// The labels of a running thread: below n, the lock of the block held, the block CMX or the thread's own.
+use block_table::kind_at;
+use block_table::lock_at;
+use block_table::thread_at;
+use fields::read::all_zero;
+use fields::read::get8;
+use fields::read::get16;
+use image::records::block_at;
+use image::records::index_of;
+use lock_sets::held::number_held;
+use register_check::running_tidy;
+use rules::codes::CMX;
+use rules::layout::LOCKS_PLACE;
+use rules::layout::RETURN_COUNT_PLACE;
+use rules::layout::RETURNS_PLACE;
+use rules::layout::THREAD_SIZE;
+use rules::layout::THREADS_PLACE;
+use rules::sorts::Label;
+use rules::sorts::Lock;
+use rules::sorts::Thread;
+use rules::sorts::label_of;
+use rules::sorts::lock_number;
+use rules::sorts::same_thread;
+use rules::sorts::thread_of;
+ghost use mathlib.Core.Path.{_≡_};
+ghost use Prim.Native.Nat.{_+_, _<_, _≤_};
+ghost use lib.ListN.{length, getD, drop};
+ghost use Rattle.rules.specs.Sizes.{threadCount, blockCount, returnCount, returnCountPlace, threadSize, stateSize};
+ghost use Rattle.rules.specs.Bytes.{has, allFrom};
+ghost use Rattle.rules.specs.Image.{labels};
+ghost use Rattle.rules.specs.WellFormed.{placeOk};
+ghost use Rattle.laws.specs.Passed.{Passed};
+ghost use Rattle.thread_check.specs.Places.{placesOk, threadGood, threadAtGood};
+
+// Whether a lock is in a set.
+pub fn holds(locks: u16, l: Lock) -> bool
+    requires { ⌜ l .0 < blockCount ⌝ }
+    ensures { λ r. ⌜ r ≡ has (l .0) locks ⌝ }
+{
+    (locks >> lock_number(l)) % 2 == 1
+}
+
+pub fn place_ok(image: &[u8], n: usize, table: &[u8], t: Thread, locks: u16, l: Label) -> bool
+    requires { ⌜ Passed (now image) (now table) × (n ≡ labels (now image)) ⌝ }
+    ensures { λ r. ⌜ r ≡ placeOk (now (image .entry)) (now (table .entry)) (t .0) locks (l .0) ⌝ }
+{
+    if n <= index_of(l) {
+        return false;
+    }
+    let b = block_at(image, l);
+    let own = same_thread(thread_at(table, b), t);
+    holds(locks, lock_at(table, b)) & ((kind_at(table, b) == CMX) | own)
+}
+
+// The label and the return labels of a thread record.
+pub fn places_ok(image: &[u8], n: usize, table: &[u8], t: Thread, s: &[u8], at: usize) -> bool
+    requires { ⌜ Passed (now image) (now table) × (n ≡ labels (now image)) × (at + threadSize ≤ length (now s))
+        × (getD (now s) (at + returnCountPlace) 0 ≤ returnCount) ⌝ }
+    ensures { λ r. ⌜ r ≡ placesOk (now (image .entry)) (now (table .entry)) (t .0) (drop at (now (s .entry))) ⌝ }
+{
+    let locks = get16(s, at + LOCKS_PLACE);
+    let returns = get8(s, at + RETURN_COUNT_PLACE);
+    let mut ok = place_ok(image, n, table, t, locks, label_of(get16(s, at)));
+    let mut k = 0;
+    while k < returns {
+        let l = label_of(get16(s, at + RETURNS_PLACE + 2 * k));
+        ok = ok & place_ok(image, n, table, t, locks, l);
+        k += 1;
+    }
+    ok
+}
+
+// A thread record: tidy bytes, and a thread that is well formed. A running thread holds a lock, that of its label's block.
+pub fn thread_good(image: &[u8], n: usize, table: &[u8], t: Thread, s: &[u8], at: usize) -> bool
+    requires { ⌜ Passed (now image) (now table) × (n ≡ labels (now image)) × (at + threadSize ≤ length (now s)) ⌝ }
+    ensures { λ r. ⌜ r ≡ threadGood (now (image .entry)) (now (table .entry)) (t .0) (drop at (now (s .entry))) ⌝ }
+{
+    if get16(s, at) == Label::IDLE {
+        return all_zero(s, at + LOCKS_PLACE, THREAD_SIZE - LOCKS_PLACE);
+    }
+    if number_held(get16(s, at + LOCKS_PLACE)) == 0 {
+        return false;
+    }
+    if !running_tidy(s, at) {
+        return false;
+    }
+    places_ok(image, n, table, t, s, at)
+}
+
+pub fn threads_good(image: &[u8], n: usize, table: &[u8], state: &[u8]) -> bool
+    requires { ⌜ Passed (now image) (now table) × (n ≡ labels (now image)) × (length (now state) ≡ stateSize) ⌝ }
+    ensures { λ r. ⌜ r ≡ allFrom (threadAtGood (now (image .entry)) (now (table .entry)) (now (state .entry))) 0 threadCount ⌝ }
+{
+    let mut ok = true;
+    let mut t = 0;
+    while t < Thread::COUNT {
+        ok = ok
+            & thread_good(
+                image,
+                n,
+                table,
+                thread_of(t as u8),
+                state,
+                THREADS_PLACE + THREAD_SIZE * t,
+            );
+        t += 1;
+    }
+    ok
+}

@@ -11,7 +11,8 @@ read-operand-requires-2 c κs = (c .before .before .pre .0, c .before .before .p
 read-operand-requires-3 : tie.Need-read-operand-requires-3
 unfolding operandOf
 read-operand-requires-3 c κs =
-    (c .before .before .pre .0, c .before .before .pre .1, simp (ne-eqb _ 1 (c .match .rest .0 .1), ne-eqb _ 2 (c .match .rest .1)) at (c .before .before .pre .2))
+    let p = c .before .before .pre in
+    (p .0, p .1, simp (ne-eqb _ 1 (c .match .rest .0 .1), ne-eqb _ 2 (c .match .rest .1)) at (p .2))
 
 returns : tie.Need-returns
 unfolding operandOf

@@ -3,7 +3,7 @@ use mathlib.Core.List.{[], _∷_}
 use borrow.Author.Needs.{needs}
 use denote.Ref.{now}
 use Rattle.rules.specs.Calls.{eventsLengthFault, eventFault, answersLengthFault}
-use Rattle.image_check.specs.Faults.{found, passed}
+use Rattle.refusals.specs.FirstOf.{found, passed}
 use Rattle.event_check.proofs.faults.events_fault.Statement.{statement}
 use Rattle.event_check.proofs.faults.events_fault.Tie as tie
 

@@ -5,7 +5,7 @@ use borrow.Author.Needs.{needs}
 use denote.Ref.{now}
 use Rattle.rules.specs.Check.{firstOf, imageFaults}
 use Rattle.rules.specs.Calls.{stateLengthFault, stateFault}
-use Rattle.image_check.specs.Faults.{found, passed, last}
+use Rattle.refusals.specs.FirstOf.{found, passed, last}
 use Rattle.state_check.specs.Faults.{state-length, before, after}
 use Rattle.state_check.proofs.faults.machine_fault.Statement.{statement}
 use Rattle.state_check.proofs.faults.machine_fault.Tie as tie

@@ -1,0 +1,54 @@
+-- What an IF comes to, where a running thread comes to it.
+use mathlib.Core.Path.{_≡_, sym, ap, _∙_, subst}
+use mathlib.Core.Bool.{Bool, true, false, cond}
+use mathlib.Core.List.{List, [], _∷_}
+use Prim.Native.Nat.{ℕ, _<_}
+use Rattle.rules.specs.Image.{recordAt, labelA, labelB}
+use Rattle.rules.specs.Statements.{statementOf, conditionOf}
+use Rattle.rules.specs.Effects.{got, readAll, holds}
+use Rattle.rules.specs.Machine.{Machine, running}
+use Rattle.rules.specs.Encoding.{machineFrom}
+use Rattle.rules.specs.declared.answer.Answer.{Answer}
+use Rattle.rules.specs.declared.answer.Answer.the-variants.{Moved}
+use Rattle.rules.specs.declared.statement.Condition.{Condition}
+use Rattle.rules.specs.declared.statement.Statement.the-variants.{If}
+use Rattle.encoding.specs.Encoded.{Encodes}
+use Rattle.step_laws.specs.Statements as law
+use Rattle.threads.specs.Threads.{jobOf}
+use Rattle.threads.specs.declared.thread.ThreadState.{ThreadState}
+use Rattle.operands.specs.Legal.{Fits}
+use Rattle.operands.specs.Cells.{cellsOf}
+use Rattle.operands.specs.Statements.{tests, tests-left, tests-right}
+use Rattle.step_ready.specs.Ready.{Stepped, done}
+use Rattle.onward.specs.Onward.{movedTo}
+use Rattle.step_ready.specs.At.{At, tree, statement-here, reads-here}
+
+-- both choices are below a limit
+pub choice-below : (test : Bool) {x y n : ℕ} → x < n → y < n → cond test x y < n
+choice-below true h k = h
+choice-below false h k = k
+
+module _ {image table b : List ℕ} {t : ℕ} {w : ThreadState} {r : List ℕ} (h : At image table b t w r) where
+  abbrev m : Machine
+  m = machineFrom b
+
+  abbrev here : List ℕ
+  here = recordAt image (w .label .0)
+
+  -- the operands of a condition are within limits
+  pub condition-fits : (c : Condition) → statementOf r ≡ If c → Fits (c .left) × Fits (c .right)
+  unfolding conditionOf
+  condition-fits c e =
+      let k = sym (tests (h .parts) c e .1) in
+      let left = subst (λ (q : Condition). Fits (q .left)) k (tests-left (h .parts) c e) in
+      let right = subst (λ (q : Condition). Fits (q .right)) k (tests-right (h .parts) c e) in
+      (left, right)
+
+  pub branched : (c : Condition) (x y : ℕ) {l : ℕ} {b′ : List ℕ} {a : Answer} → statementOf r ≡ If c
+      → readAll (cellsOf b w r) (c .left ∷ c .right ∷ []) ≡ got (x ∷ y ∷ []) → l ≡ cond (holds (c .relation) x y) (labelA r) (labelB r)
+      → a ≡ Moved → Encodes b′ (movedTo h l) → Stepped image table b t b′ a
+  branched c x y e g q f k =
+      let to = q ∙ ap (λ (z : List ℕ). cond (holds (c .relation) x y) (labelA z) (labelB z)) (h .here) in
+      done (movedTo h (cond (holds (c .relation) x y) (labelA here) (labelB here))) Moved
+      (law.branches image table m t (w .locks) (jobOf w) (tree h .0) (h .runs) (tree h .1) (x ∷ y ∷ []) c (statement-here h (If c) e)
+      (reads-here h (If c) g)) f (rw to at k)

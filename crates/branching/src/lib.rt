@@ -1,0 +1,63 @@
+// IF: on to A if the relation holds, else to B.
+use ending::trapped;
+use image::record_fields::label_a;
+use image::record_fields::label_b;
+use onward::go_on;
+use operands::read_pair;
+use rules::answer::Answer;
+use rules::sorts::Label;
+use rules::sorts::Thread;
+use rules::statement::Condition;
+use rules::statement::Relation;
+use threads::thread::ThreadState;
+ghost use mathlib.Core.Path.{_≡_};
+ghost use mathlib.Core.Bool.{cond};
+ghost use lib.ListN.{length};
+ghost use Rattle.rules.specs.Sorts.{label};
+ghost use Rattle.rules.specs.Sizes.{recordSize};
+ghost use Rattle.rules.specs.Image.{labelA, labelB};
+ghost use Rattle.rules.specs.Effects.{holds};
+ghost use Rattle.rules.specs.Statements.{statementOf};
+ghost use Rattle.rules.specs.declared.statement.Statement.the-variants.{If};
+ghost use Rattle.step_ready.specs.Ready.{Stepped};
+ghost use Rattle.step_ready.specs.At.{At};
+
+pub fn relation_holds(relation: Relation, p: u16, q: u16) -> bool
+    ensures { λ z. ⌜ z ≡ holds relation p q ⌝ }
+{
+    match relation {
+        Relation::Equal => p == q,
+        Relation::Less => p < q,
+    }
+}
+
+// A where the test holds, else B.
+fn label_by(r: &[u8], test: bool) -> Label
+    requires { ⌜ length (now r) ≡ recordSize ⌝ }
+    ensures { λ l. ⌜ l ≡ label (cond test (labelA (now (r .entry))) (labelB (now (r .entry)))) ⌝ }
+{
+    if test { label_a(r) } else { label_b(r) }
+}
+
+pub fn branch(
+    image: &[u8],
+    table: &[u8],
+    state: &mut [u8],
+    t: Thread,
+    w: ThreadState,
+    r: &[u8],
+    c: Condition,
+) -> Answer
+    requires { ⌜ At (now image) (now table) (now state) (t .0) w (now r) × (statementOf (now r) ≡ If c) ⌝ }
+    ensures { λ a. ⌜ Stepped (now (image .entry)) (now (table .entry)) (now (state .entry)) (t .0) (now (state .exit)) a ⌝ }
+{
+    let left = c.left;
+    let right = c.right;
+    let pair = read_pair(state, w, r, left, right);
+    if pair.trap != 0 {
+        return trapped(image, table, state, t, w, pair.trap);
+    }
+    let relation = c.relation;
+    let test = relation_holds(relation, pair.left, pair.right);
+    go_on(state, t, w, label_by(r, test))
+}
