@@ -1,41 +1,33 @@
--- Whom a thread waits for, by the lock that its step asks for.
-use mathlib.Core.Path.{_≡_, refl, ap, _∙_, subst, sym}
+-- Whom a thread waits for, by what its step comes to.
+use mathlib.Core.Path.{_≡_, refl, ap, _∙_, subst}
 use mathlib.Core.Bool.{Bool, true, false, cond}
-use mathlib.Core.Option.{Option, none, some}
+use mathlib.Core.Option.{Option, none, some, Option·map}
 use mathlib.Core.List.{List, [], _∷_}
-use Prim.Native.Nat.{ℕ, _<_}
+use Prim.Native.Nat.{ℕ}
 use lib.Dec.{eqb}
 use borrow.Author.Tests.{eqb-true}
-use lib.ListN.{length}
-use Rattle.rules.specs.Sorts
-use Rattle.rules.specs.Sizes.{lockCount, threadCount}
+use lib.ListN.{set}
+use Rattle.rules.specs.Sorts.{thread}
 use Rattle.rules.specs.Codes.{sendDirectCode, callCode}
 use Rattle.rules.specs.Image.{opcode, operator, recordAt, labelA, labelB, Row, rowAt}
 use Rattle.rules.specs.Statements.{operationAt, Other, others, otherIn, otherAt, otherOr, statementBy, statementOf, dataOf, roleA, roleB}
-use Rattle.rules.specs.Machine.{Signal, Job, ThreadState, Machine, idle, running, threadAt, first}
+use Rattle.rules.specs.Machine.{Signal, Job, Machine, idle, running, threadAt, first}
 use Rattle.rules.specs.Encoding.{machineFrom}
 use Rattle.rules.specs.Events.{step}
 use Rattle.rules.specs.Effects.{Got, trap, got, Next, onA, onB, intoA, callA, back, Going, Outcome, ends, goes, outcome}
-use Rattle.rules.specs.Steps.{Rules, Reply, Effect, traps, exits, moves, rulesBy, blockAt, steer, resolve, view, actBy, react}
+use Rattle.rules.specs.Steps.{Rules, Effect, traps, exits, moves, rulesBy, blockAt, steer, resolve, view, actBy, react}
 use Rattle.rules.specs.Walk.{asked, holder, awaits}
-use Rattle.rules.specs.declared.sorts.Lock as sorts
 use Rattle.rules.specs.declared.statement.Role.{Role}
 use Rattle.rules.specs.declared.statement.Role.the-variants.{Unused, Inner, Direct, Local, Buffered}
-use Rattle.rules.specs.declared.sorts.Thread as sorts-thread
 use Rattle.rules.specs.declared.statement.Operation.{Operation}
 use Rattle.rules.specs.declared.statement.Statement.{Statement}
 use Rattle.rules.specs.declared.statement.Statement.the-variants.{SendDirect, Call}
 use Rattle.rules.specs.declared.answer.Answer.{Answer}
 use Rattle.laws.specs.Roles.{Leads, Refers, refers}
-use Rattle.laws.specs.Logic.{never}
 use Rattle.step_laws.specs.Events.{reply, no-tree}
 use Rattle.step_laws.specs.Running.{effect, traps-by, exits-by, moves-by}
 use Rattle.threads.specs.Threads.{jobOf}
-use Rattle.threads.specs.declared.thread.ThreadState as State
-use Rattle.state.specs.Locks.{holderOf, holder-held}
-use Rattle.state.specs.declared.locks.Holder.{Holder}
-use Rattle.state.specs.declared.locks.Holder.the-variants.{Held, Free}
-use Rattle.walk_laws.specs.Waits.{awaits-inside}
+use Rattle.threads.specs.declared.thread.ThreadState.{ThreadState}
 use Rattle.step_ready.specs.Ready.{Ready}
 use Rattle.step_ready.specs.At.{At, tree}
 use Rattle.passage.specs.Enters.{Passes, Enters}
@@ -44,48 +36,39 @@ use Rattle.passage.specs.declared.Passage.{Passage}
 use Rattle.passage.specs.declared.Passage.the-variants.{Trap, Wait, Go}
 use Rattle.starting.specs.declared.First.{First}
 use Rattle.starting.specs.declared.First.the-variants as found
-use Rattle.awaiting.specs.declared.Wanted.{Wanted}
-use Rattle.awaiting.specs.declared.Wanted.the-variants.{Lock, Nothing}
 use Rattle.awaiting.specs.declared.Waits.{Waits}
 use Rattle.awaiting.specs.declared.Waits.the-variants.{For, Nobody}
 
--- the lock that a passage waits for
-abbrev pub lockOf : Passage → Wanted
-lockOf (Trap k) = Nothing
-lockOf (Wait l) = Lock l
-lockOf (Go l) = Nothing
-
--- and the first signal of an idle thread
-abbrev pub firstLock : First → Wanted
-firstLock found.Nothing = Nothing
-firstLock (found.Wait l) = Lock l
-firstLock (found.Go i l) = Nothing
-
--- the lock that the answer to a step of thread t says is waited for
-abbrev pub waitedFor : List ℕ → List ℕ → Machine → ℕ → Option ℕ
-waitedFor image table s t = asked (react (rulesBy image table) s (step t) .answer)
-
-abbrev pub Wants : List ℕ → List ℕ → Machine → ℕ → Wanted → Type 0
-Wants image table s t (Lock l) = (l .0 < lockCount) × (waitedFor image table s t ≡ some (l .0))
-Wants image table s t Nothing = waitedFor image table s t ≡ none
-
+-- whom a thread waits for, as the code says it
 abbrev pub waitsOf : Option ℕ → Waits
 waitsOf none = Nobody
-waitsOf (some u) = For (Sorts.thread u)
+waitsOf (some u) = For (thread u)
 
-answered : {r : Reply} (s : Machine) (a : Answer) → r ≡ reply s a → asked (r .answer) ≡ asked a
-answered s a e = ap (λ (q : Reply). asked (q .answer)) e
+-- whom thread t waits for, by the law
+abbrev pub awaitedBy : List ℕ → List ℕ → List ℕ → ℕ → Waits
+awaitedBy image table b t = waitsOf (awaits (rulesBy image table) (machineFrom b) t)
+
+-- it is told by the answer to its next step
+by-answer : (R : Rules) (s : Machine) (t : ℕ) {m : Machine} {a : Answer} → react R s (step t) ≡ reply m a
+    → waitsOf (Option·map (λ l. holder l (set (s .threads) t idle)) (asked a)) ≡ waitsOf (awaits R s t)
+unfolding awaits
+by-answer R s t e = rw e
 
 -- ---- direct SEND and CALL
 
-pub wants-passage : {image table b : List ℕ} {t : ℕ} {w : State.ThreadState} {r returns vs : List ℕ} {p : Passage}
-    → Enters image table b t w r returns vs p → Wants image table (machineFrom b) t (lockOf p)
-wants-passage {image} {table} {b} {t} {w} {p = p} e = case _ p (e .passes)
+abbrev pub passageWaits : Passage → Waits
+passageWaits (Trap k) = Nobody
+passageWaits (Wait l u) = For u
+passageWaits (Go l) = Nobody
+
+pub waits-passage : {image table b : List ℕ} {t : ℕ} {w : ThreadState} {r returns vs : List ℕ} {p : Passage}
+    → Enters image table b t w r returns vs p → passageWaits p ≡ awaitedBy image table b t
+waits-passage {image} {table} {b} {t} {w} {p = p} e = case _ p (e .passes)
   where
-    case : (k : Job) (p : Passage) → Passes image table (machineFrom b) t (w .locks) k p → Wants image table (machineFrom b) t (lockOf p)
-    case k (Trap x) h = answered _ _ h
-    case k (Wait l) h = (h .0, answered _ _ (h .1))
-    case k (Go l) h = answered _ _ (h .1)
+    case : (k : Job) (p : Passage) → Passes image table (machineFrom b) t (w .locks) k p → passageWaits p ≡ awaitedBy image table b t
+    case k (Trap x) h = by-answer _ _ _ h
+    case k (Wait l u) h = ap For (h .1) ∙ by-answer _ _ _ (h .0)
+    case k (Go l) h = by-answer _ _ _ (h .1)
 
 -- ---- any other statement asks for no lock
 
@@ -170,52 +153,33 @@ quiet-act image table t j words pending h =
 
 module _ (R : Rules) (s : Machine) (t l : ℕ) (j : Job) (p : List Signal) (runs : threadAt s t ≡ running l j)
     (own : first t (s .trees) ≡ some p) where
-  quiet-asks : Quiet (effect R s t l j p runs own) → asked (react R s (step t) .answer) ≡ none
-  quiet-asks h = case (effect R s t l j p runs own) refl h
+  quiet-waits : Quiet (effect R s t l j p runs own) → Nobody ≡ waitsOf (awaits R s t)
+  quiet-waits h = case (effect R s t l j p runs own) refl h
     where
-      case : (e : Effect) → effect R s t l j p runs own ≡ e → Quiet e → asked (react R s (step t) .answer) ≡ none
-      case (traps r) e q = answered _ _ (traps-by R s t l j p runs own r e)
-      case exits e q = answered _ _ (exits-by R s t l j p runs own e)
-      case (moves k ws g none) e q = answered _ _ (moves-by R s t l j p runs own k ws g e)
+      case : (e : Effect) → effect R s t l j p runs own ≡ e → Quiet e → Nobody ≡ waitsOf (awaits R s t)
+      case (traps r) e q = by-answer R s t (traps-by R s t l j p runs own r e)
+      case exits e q = by-answer R s t (exits-by R s t l j p runs own e)
+      case (moves k ws g none) e q = by-answer R s t (moves-by R s t l j p runs own k ws g e)
       case (moves k ws g (some b)) e q = absurd q
 
-pub wants-nothing : {image table b : List ℕ} {t : ℕ} {w : State.ThreadState} {r : List ℕ} → At image table b t w r
-    → Lockless (roleA (statementOf r)) → Wants image table (machineFrom b) t Nothing
-wants-nothing {image} {table} {b} {t} {w} {r} h q =
-    quiet-asks (rulesBy image table) (machineFrom b) t (w .locks) (jobOf w) (tree h .0) (h .runs) (tree h .1)
+pub waits-nobody : {image table b : List ℕ} {t : ℕ} {w : ThreadState} {r : List ℕ} → At image table b t w r
+    → Lockless (roleA (statementOf r)) → Nobody ≡ awaitedBy image table b t
+waits-nobody {image} {table} {b} {t} {w} {r} h q =
+    quiet-waits (rulesBy image table) (machineFrom b) t (w .locks) (jobOf w) (tree h .0) (h .runs) (tree h .1)
     (quiet-act image table t (jobOf w) _ _ (subst (λ (x : List ℕ). Lockless (roleA (statementOf x))) (h .here) q))
 
 -- ---- the start of a job
 
-pub wants-first : {image table b : List ℕ} (h : Ready image table b) (t : ℕ) → threadAt (machineFrom b) t ≡ idle → (f : First)
-    → FirstOf image table (machineFrom b) t f → Wants image table (machineFrom b) t (firstLock f)
-wants-first {image} {table} {b} h t rests found.Nothing k = answered _ _ (no-tree (rulesBy image table) (machineFrom b) t rests k)
-wants-first h t rests (found.Wait l) k = (k .1 .small, answered _ _ (start-waiting h t rests (k .1) (k .2)))
-wants-first h t rests (found.Go i l) k = answered _ _ (start-running h t rests (k .0) (k .1))
+abbrev firstWaits : First → Waits
+firstWaits found.Nothing = Nobody
+firstWaits (found.Wait l u) = For u
+firstWaits (found.Go i l) = Nobody
 
--- ---- the holder
-
-module _ (image table : List ℕ) (s : Machine) (t : ℕ) where
-  pub awaits-none : Wants image table s t Nothing → Nobody ≡ waitsOf (awaits (rulesBy image table) s t)
-  unfolding awaits
-  awaits-none h = rw h refl
-
-  module _ (l : sorts.Lock) (h : Wants image table s t (Lock l)) (sized : length (s .threads) ≡ threadCount) where
-    awaits-some : awaits (rulesBy image table) s t ≡ some (holder (l .0) (s .threads))
-    unfolding awaits
-    awaits-some = rw (h .1) refl
-
-    holder-is : holderOf (holder (l .0) (s .threads)) ≡ Held (Sorts.thread (holder (l .0) (s .threads)))
-    holder-is = sym (holder-held _ (awaits-inside (rulesBy image table) s sized t _ awaits-some))
-
-    pub awaits-holder : (x : Holder) (u : sorts-thread.Thread) → x ≡ holderOf (holder (l .0) (s .threads)) → x ≡ Held u
-        → For u ≡ waitsOf (awaits (rulesBy image table) s t)
-    awaits-holder x u e f =
-        let g : Held u ≡ Held (Sorts.thread (holder (l .0) (s .threads))) = sym f ∙ e ∙ holder-is in
-        let n : u ≡ Sorts.thread (holder (l .0) (s .threads)) = cc in
-        ap For n ∙ ap waitsOf (sym awaits-some)
-
-    -- a lock that is waited for is held
-    pub awaits-free : (x : Holder) → x ≡ holderOf (holder (l .0) (s .threads)) → x ≡ Free
-        → Nobody ≡ waitsOf (awaits (rulesBy image table) s t)
-    awaits-free x e f = let g : Free ≡ Held (Sorts.thread (holder (l .0) (s .threads))) = sym f ∙ e ∙ holder-is in never (cc)
+pub waits-first : {image table b : List ℕ} (h : Ready image table b) (t : ℕ) → threadAt (machineFrom b) t ≡ idle → {f : First}
+    → FirstOf image table (machineFrom b) t f → (g : First) → f ≡ g → firstWaits g ≡ awaitedBy image table b t
+waits-first {image} {table} {b} h t rests k g e = case g (subst (FirstOf image table (machineFrom b) t) e k)
+  where
+    case : (g : First) → FirstOf image table (machineFrom b) t g → firstWaits g ≡ awaitedBy image table b t
+    case found.Nothing k = by-answer _ _ t (no-tree (rulesBy image table) (machineFrom b) t rests k)
+    case (found.Wait l u) k = ap For (k .2 .1) ∙ by-answer _ _ t (start-waiting h t rests (k .1) (k .2 .0))
+    case (found.Go i l) k = by-answer _ _ t (start-running h t rests (k .0) (k .1))

@@ -10,6 +10,7 @@ use Rattle.rules.specs.Machine.{fill, job}
 use Rattle.rules.specs.Encoding.{machineFrom}
 use Rattle.rules.specs.Steps.{rulesBy, finished}
 use Rattle.rules.specs.declared.sorts.Lock.{Lock}
+use Rattle.rules.specs.declared.sorts.Thread.{Thread}
 use Rattle.rules.specs.declared.answer.Answer.{Answer}
 use Rattle.rules.specs.declared.answer.Answer.the-variants.{Waiting, Moved, Trapped}
 use Rattle.encoding.specs.Encoded.{Canonical, Encodes}
@@ -41,8 +42,8 @@ module _ {image table b : List ℕ} {t : ℕ} {w : ThreadState} {r returns vs : 
       → Stepped image table b t b′ a
   trap-stepped x f g z = done (finished (rulesBy image table) t (machineFrom b)) (Trapped x) (passes-as (Trap x) f) g z
 
-  pub wait-stepped : (l : Lock) → p ≡ Wait l → Stepped image table b t b (Waiting l)
-  wait-stepped l f = done (machineFrom b) (Waiting l) (passes-as (Wait l) f .1) refl (h .ready .canonical)
+  pub wait-stepped : (l : Lock) (u : Thread) → p ≡ Wait l u → Stepped image table b t b (Waiting l)
+  wait-stepped l u f = done (machineFrom b) (Waiting l) (passes-as (Wait l u) f .0) refl (h .ready .canonical)
 
   pub can-enter : (l : Lock) → p ≡ Go l → labelA r < labels image → CanEnter w r vs
   can-enter l f k = record {

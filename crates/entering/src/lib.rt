@@ -62,7 +62,7 @@ fn send_by(
 {
     match p {
         Passage::Trap(reason) => trapped(image, table, state, t, w, reason),
-        Passage::Wait(lock) => Answer::Waiting(lock),
+        Passage::Wait(lock, _) => Answer::Waiting(lock),
         Passage::Go(lock) => {
             write_holding(state, t, sent(w, r, values), lock);
             Answer::Moved
@@ -87,7 +87,7 @@ fn call_by(
 {
     match p {
         Passage::Trap(reason) => trapped(image, table, state, t, w, reason),
-        Passage::Wait(lock) => Answer::Waiting(lock),
+        Passage::Wait(lock, _) => Answer::Waiting(lock),
         Passage::Go(lock) => {
             write_holding(state, t, called(w, r, values), lock);
             Answer::Moved

@@ -10,8 +10,8 @@ use lib.Bits.{bitOr}
 use lib.Dec.{eqb, leb}
 use lib.ListN.{length, take, set, replicate, length-append}
 use borrow.Author.Tests.{ne-eqb}
-use Rattle.rules.specs.Sorts.{lock}
-use Rattle.rules.specs.Sizes.{lockCount, returnCount, operandCount}
+use Rattle.rules.specs.Sorts.{lock, thread}
+use Rattle.rules.specs.Sizes.{lockCount, threadCount, returnCount, operandCount}
 use Rattle.rules.specs.Codes.{returnsFullCode, foreignFdBlockCode}
 use Rattle.rules.specs.Image.{labels, recordAt, labelA, labelB, operands, Row, rowAt}
 use Rattle.rules.specs.Statements.{statementOf, dataOf}
@@ -20,6 +20,7 @@ use Rattle.rules.specs.Machine.{Signal, Job, Machine, idle, running, threadAt, 
 use Rattle.rules.specs.Encoding.{machineFrom}
 use Rattle.rules.specs.Events.{step}
 use Rattle.rules.specs.Steps.{Reply, rulesBy, blockAt, alien, held, finished, react}
+use Rattle.rules.specs.Walk.{holder}
 use Rattle.rules.specs.declared.sorts.Lock.{Lock}
 use Rattle.rules.specs.declared.answer.Answer.the-variants.{Waiting, Moved, Trapped}
 use Rattle.rules.specs.declared.statement.Statement.the-variants.{SendDirect, Call}
@@ -29,18 +30,22 @@ use Rattle.step_laws.specs.Events.{reply}
 use Rattle.step_laws.specs.Statements.{unread, send-alien, send-waits, send-enters, call-deep, call-alien, call-waits, call-enters}
 use Rattle.threads.specs.Threads.{jobOf, returnsOf, ZerosAfter}
 use Rattle.threads.specs.declared.thread.ThreadState.{ThreadState}
+use Rattle.state.specs.Locks.{Found, found}
+use Rattle.state.specs.declared.locks.Holder.{Holder}
+use Rattle.state.specs.declared.locks.Holder.the-variants.{Held, Free}
 use Rattle.operands.specs.Readings.{Reads}
 use Rattle.operands.specs.Cells.{cellsOf}
 use Rattle.operands.specs.Gathered.{zeros-stay}
 use Rattle.step_ready.specs.At.{At, tree, label-A, depth-is}
-use Rattle.passage.specs.Passages.{passageTo, callTrap, go-clear, call-clear}
+use Rattle.passage.specs.Passages.{callTrap, unlessAlien, byHolder, otherHolder, passageTo, go-clear, call-clear}
 use Rattle.passage.specs.declared.Passage.{Passage}
 use Rattle.passage.specs.declared.Passage.the-variants.{Trap, Wait, Go}
 
 -- what the reply to a step of thread t is, by its passage: the thread goes in with the job k
 abbrev pub Passes : List ℕ → List ℕ → Machine → ℕ → ℕ → Job → Passage → Type 0
 Passes image table s t locks k (Trap x) = react (rulesBy image table) s (step t) ≡ reply (finished (rulesBy image table) t s) (Trapped x)
-Passes image table s t locks k (Wait l) = (l .0 < lockCount) × (react (rulesBy image table) s (step t) ≡ reply s (Waiting l))
+Passes image table s t locks k (Wait l u) =
+    (react (rulesBy image table) s (step t) ≡ reply s (Waiting l)) × (u ≡ thread (holder (l .0) (set (s .threads) t idle)))
 Passes image table s t locks k (Go l) =
     (l .0 < lockCount) × (react (rulesBy image table) s (step t) ≡ reply (withThread s t (running (bitOr locks (2 ^ l .0)) k)) Moved)
 
@@ -64,25 +69,24 @@ module _ (image table : List ℕ) (s : Machine) (t locks : ℕ) (k : Job) (row :
   trapped-before x n e = rw (ne-eqb x 0 n) e
 
   -- none did
-  none-before : row .lock < lockCount
+  none-before : length (s .threads) ≡ threadCount → row .lock < lockCount
       → (alien row t ≡ true → stepped ≡ reply (finished (rulesBy image table) t s) (Trapped foreignFdBlockCode))
       → (alien row t ≡ false → taken ≡ true → stepped ≡ reply s (Waiting (lock (row .lock))))
       → (alien row t ≡ false → taken ≡ false → stepped ≡ reply (withThread s t (running (bitOr locks (2 ^ row .lock)) k)) Moved)
       → Passes image table s t locks k (passageTo s row t 0)
   unfolding passageTo
-  none-before inside f g h = case (alien row t) taken f g h
+  none-before sized inside f g h = case (alien row t) (otherHolder s row t) refl (found s sized (row .lock) t)
     where
-      case : (a b : Bool) → (a ≡ true → stepped ≡ reply (finished (rulesBy image table) t s) (Trapped foreignFdBlockCode))
-          → (a ≡ false → b ≡ true → stepped ≡ reply s (Waiting (lock (row .lock))))
-          → (a ≡ false → b ≡ false → stepped ≡ reply (withThread s t (running (bitOr locks (2 ^ row .lock)) k)) Moved)
-          → Passes image table s t locks k (cond a (Trap foreignFdBlockCode) (cond b (Wait (lock (row .lock))) (Go (lock (row .lock)))))
-      case true b f g h = f refl
-      case false true f g h = (inside, g refl refl)
-      case false false f g h = (inside, h refl refl)
+      case : (a : Bool) (x : Holder) → alien row t ≡ a → Found (row .lock) (set (s .threads) t idle) x
+          → Passes image table s t locks k (unlessAlien a (byHolder x (lock (row .lock))))
+      case true x e q = f e
+      case false (Held u) e q = (g e (q .0), q .1)
+      case false Free e q = (inside, h e q)
 
 -- the record at the label of a running thread, and the data that it reads
 module _ (image table b : List ℕ) (t : ℕ) (w : ThreadState) (p : List Signal)
-    (runs : threadAt (machineFrom b) t ≡ running (w .locks) (jobOf w)) (own : first t (machineFrom b .trees) ≡ some p) where
+    (runs : threadAt (machineFrom b) t ≡ running (w .locks) (jobOf w)) (own : first t (machineFrom b .trees) ≡ some p)
+    (sized : length (machineFrom b .threads) ≡ threadCount) where
   abbrev r : List ℕ
   r = recordAt image (w .label .0)
 
@@ -100,7 +104,8 @@ module _ (image table b : List ℕ) (t : ℕ) (w : ThreadState) (p : List Signal
         case : Dec (x ≡ 0) → Passes image table (machineFrom b) t (w .locks) (job (labelA r) (returnsOf w) (fill (take n vs)))
             (passageTo (machineFrom b) into t x)
         case (yes z) =
-            rw z (none-before image table (machineFrom b) t (w .locks) (job (labelA r) (returnsOf w) (fill (take n vs))) into inside
+            rw z (none-before image table (machineFrom b) t (w .locks) (job (labelA r) (returnsOf w) (fill (take n vs))) into
+            sized inside
             (send-alien image table (machineFrom b) t (w .locks) (jobOf w) p runs own (take n vs) e (g .values z))
             (send-waits image table (machineFrom b) t (w .locks) (jobOf w) p runs own (take n vs) e (g .values z))
             (send-enters image table (machineFrom b) t (w .locks) (jobOf w) p runs own (take n vs) e (g .values z)))
@@ -120,7 +125,7 @@ module _ (image table b : List ℕ) (t : ℕ) (w : ThreadState) (p : List Signal
             rw (z, f) (trapped-before image table (machineFrom b) t (w .locks) _ into returnsFullCode (λ q. omega arith)
             (call-deep image table (machineFrom b) t (w .locks) (jobOf w) p runs own (take n vs) e (g .values z) (rw deep f)))
         case (yes z) false f =
-            rw (z, f) (none-before image table (machineFrom b) t (w .locks) _ into inside
+            rw (z, f) (none-before image table (machineFrom b) t (w .locks) _ into sized inside
             (call-alien image table (machineFrom b) t (w .locks) (jobOf w) p runs own (take n vs) e (g .values z) (rw deep f))
             (call-waits image table (machineFrom b) t (w .locks) (jobOf w) p runs own (take n vs) e (g .values z) (rw deep f))
             (call-enters image table (machineFrom b) t (w .locks) (jobOf w) p runs own (take n vs) e (g .values z) (rw deep f)))
@@ -139,6 +144,9 @@ module _ {image table b : List ℕ} {t : ℕ} {w : ThreadState} {r : List ℕ} (
   lock-inside : (q : List ℕ) → labelA q < labels image → rowAt table (blockAt image (labelA q)) .lock < lockCount
   lock-inside q l = lock-below image table (passed image table [] (h .ready .checked) .0) (labelA q) l
 
+  eight : length (machineFrom b .threads) ≡ threadCount
+  eight = h .ready .canonical .sized .threads
+
   module _ {x : ℕ} {vs : List ℕ} (g : Reads (readAll (cellsOf b w r) (dataOf r)) x (operands r) (replicate operandCount 0) vs)
       (q : Passage) where
     pub send-enters-as : statementOf r ≡ SendDirect → q ≡ passageTo (machineFrom b) (rowAt table (blockAt image (labelA r))) t x
@@ -154,7 +162,7 @@ module _ {image table b : List ℕ} {t : ℕ} {w : ThreadState} {r : List ℕ} (
             → rowAt table (blockAt image (labelA q)) .lock < lockCount
             → Passes image table (machineFrom b) t (w .locks) (job (labelA q) (returnsOf w) (fill (take (operands q) vs)))
             (passageTo (machineFrom b) (rowAt table (blockAt image (labelA q))) t x)
-        go q i = rw i (λ g e l. send-by image table b t w (tree h .0) (h .runs) (tree h .1) g l e)
+        go q i = rw i (λ g e l. send-by image table b t w (tree h .0) (h .runs) (tree h .1) eight g l e)
 
     pub call-enters-as : statementOf r ≡ Call
         → q ≡ passageTo (machineFrom b) (rowAt table (blockAt image (labelA r))) t (callTrap x (w .depth))
@@ -173,4 +181,4 @@ module _ {image table b : List ℕ} {t : ℕ} {w : ThreadState} {r : List ℕ} (
             → rowAt table (blockAt image (labelA q)) .lock < lockCount
             → Passes image table (machineFrom b) t (w .locks) (job (labelA q) (returnsOf w ++ labelB q ∷ []) (fill (take (operands q) vs)))
             (passageTo (machineFrom b) (rowAt table (blockAt image (labelA q))) t (callTrap x (w .depth)))
-        go q i = rw i (λ g e l. call-by image table b t w (tree h .0) (h .runs) (tree h .1) g l (depth-is h) e)
+        go q i = rw i (λ g e l. call-by image table b t w (tree h .0) (h .runs) (tree h .1) eight g l (depth-is h) e)

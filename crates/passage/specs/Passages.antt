@@ -10,9 +10,13 @@ use Rattle.rules.specs.Sizes.{returnCount}
 use Rattle.rules.specs.Codes.{returnsFullCode, foreignFdBlockCode}
 use Rattle.rules.specs.Image.{Row}
 use Rattle.rules.specs.Machine.{Machine, idle}
-use Rattle.rules.specs.Steps.{alien, held}
+use Rattle.rules.specs.Steps.{alien}
+use Rattle.rules.specs.Walk.{holder}
 use Rattle.rules.specs.declared.sorts.Lock.{Lock}
 use Rattle.laws.specs.Logic.{never}
+use Rattle.state.specs.Locks.{holderOf}
+use Rattle.state.specs.declared.locks.Holder.{Holder}
+use Rattle.state.specs.declared.locks.Holder.the-variants.{Held, Free}
 use Rattle.passage.specs.declared.Passage.{Passage}
 use Rattle.passage.specs.declared.Passage.the-variants.{Trap, Wait, Go}
 
@@ -20,22 +24,28 @@ use Rattle.passage.specs.declared.Passage.the-variants.{Trap, Wait, Go}
 unfoldable pub callTrap : ℕ → ℕ → ℕ
 callTrap unread depth = cond (eqb unread 0) (cond (leb returnCount depth) returnsFullCode 0) unread
 
--- by whether another thread holds the lock
-abbrev byLock : Bool → Lock → Passage
-byLock h l = cond h (Wait l) (Go l)
+-- an FD block of another thread is a trap whatever its lock would come to
+abbrev pub unlessAlien : Bool → Passage → Passage
+unlessAlien a p = cond a (Trap foreignFdBlockCode) p
+
+-- by the other thread that holds the lock, if there is one
+abbrev pub byHolder : Holder → Lock → Passage
+byHolder (Held u) l = Wait l u
+byHolder Free l = Go l
+
+abbrev pub otherHolder : Machine → Row → ℕ → Holder
+otherHolder s row t = holderOf (holder (row .lock) (set (s .threads) t idle))
 
 -- an earlier trap, an FD block of another thread, or the block's lock
 unfoldable pub passageTo : Machine → Row → ℕ → ℕ → Passage
 passageTo s row t earlier =
-    cond (eqb earlier 0) (cond (alien row t) (Trap foreignFdBlockCode)
-    (byLock (held (row .lock) (set (s .threads) t idle)) (lock (row .lock)))) (Trap earlier)
+    cond (eqb earlier 0) (unlessAlien (alien row t) (byHolder (otherHolder s row t) (lock (row .lock)))) (Trap earlier)
 
 -- no earlier trap
-pub passage-on : (s : Machine) (row : Row) (t x : ℕ) → x ≡ 0 → (a h : Bool) → alien row t ≡ a
-    → held (row .lock) (set (s .threads) t idle) ≡ h
-    → passageTo s row t x ≡ cond a (Trap foreignFdBlockCode) (byLock h (lock (row .lock)))
+pub passage-on : (s : Machine) (row : Row) (t x : ℕ) → x ≡ 0 → {a : Bool} {h : Holder} {l : Lock} → a ≡ alien row t
+    → h ≡ otherHolder s row t → l ≡ lock (row .lock) → unlessAlien a (byHolder h l) ≡ passageTo s row t x
 unfolding passageTo
-passage-on s row t x z a h e f = rw (z, e, f)
+passage-on s row t x z a h l = rw (z, a, h, l)
 
 -- a thread that goes in met no trap
 pub go-clear : (s : Machine) (row : Row) (t x : ℕ) (l : Lock) → passageTo s row t x ≡ Go l → x ≡ 0
@@ -43,8 +53,7 @@ unfolding passageTo
 go-clear s row t x l e = case (eqb x 0) refl e
   where
     case : (z : Bool) → eqb x 0 ≡ z
-        → cond z (cond (alien row t) (Trap foreignFdBlockCode) (byLock (held (row .lock) (set (s .threads) t idle)) (lock (row .lock))))
-        (Trap x) ≡ Go l → x ≡ 0
+        → cond z (unlessAlien (alien row t) (byHolder (otherHolder s row t) (lock (row .lock)))) (Trap x) ≡ Go l → x ≡ 0
     case true z e = eqb-true x 0 z
     case false z e = never (cc)
 

@@ -13,7 +13,8 @@ use rules::sorts::Label;
 use rules::sorts::Lock;
 use rules::sorts::Thread;
 use rules::sorts::same_thread;
-use state::locks::held_by_other;
+use state::locks::Holder;
+use state::locks::other_holder;
 use threads::thread::ThreadState;
 ghost use mathlib.Core.Path.{_≡_};
 ghost use mathlib.Core.List.{[], _∷_, _++_};
@@ -29,13 +30,13 @@ ghost use Rattle.rules.specs.Steps.{alien, blockAt};
 ghost use Rattle.encoding.specs.Encoded.{Canonical};
 ghost use Rattle.threads.specs.Threads.{returnsOf};
 ghost use Rattle.step_ready.specs.At.{At};
-ghost use Rattle.passage.specs.Passages.{passageTo, callTrap};
+ghost use Rattle.passage.specs.Passages.{callTrap, unlessAlien, passageTo};
 ghost use Rattle.passage.specs.Enters.{Enters};
 
-// A trap with its reason, a lock that another thread holds, or a lock that the step takes.
+// A trap with its reason, a lock with the other thread that holds it, or a lock that the step takes.
 pub enum Passage {
     Trap(u8),
-    Wait(Lock),
+    Wait(Lock, Thread),
     Go(Lock),
 }
 
@@ -60,8 +61,17 @@ fn is_alien(table: &[u8], t: Thread, block: Block) -> bool
     (kind_at(table, block) == FD) & !same_thread(thread_at(table, block), t)
 }
 
-// The passage of thread t into the block of a label, where no earlier test made a trap (0): an FD block of another thread is a trap
-// whoever holds its lock.
+// An FD block of another thread is a trap whatever its lock would come to.
+fn unless_alien(alien: bool, p: Passage) -> Passage
+    ensures { λ r. ⌜ r ≡ unlessAlien alien p ⌝ }
+{
+    if alien {
+        return Passage::Trap(FOREIGN_FD_BLOCK);
+    }
+    p
+}
+
+// The passage of thread t into the block of a label, where no earlier test made a trap (0).
 fn passage_to(
     image: &[u8],
     table: &[u8],
@@ -79,14 +89,11 @@ fn passage_to(
     }
     let block = block_at(image, to);
     let lock = lock_at(table, block);
-    let held = held_by_other(state, lock, t);
-    if is_alien(table, t, block) {
-        return Passage::Trap(FOREIGN_FD_BLOCK);
+    let alien = is_alien(table, t, block);
+    match other_holder(state, lock, t) {
+        Holder::Held(u) => unless_alien(alien, Passage::Wait(lock, u)),
+        Holder::Free => unless_alien(alien, Passage::Go(lock)),
     }
-    if held {
-        return Passage::Wait(lock);
-    }
-    Passage::Go(lock)
 }
 
 // The passage of a direct SEND, and the values that it reads.

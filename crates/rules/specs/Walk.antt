@@ -6,10 +6,10 @@ use mathlib.Core.Path.{_≡_}
 use mathlib.Core.List.{List, [], _∷_, _++_, List·Memᴰ, List·Memᴰ·head, List·Memᴰ·tail, List·Memᴰ·not-nil, List·Memᴰ·cases-cons}
 use Prim.Native.Nat.{ℕ, zero, suc, _+_, _-_}
 use native.Mathlib.Decide.{ℕ-discrete}
-use lib.ListN.{length, replicate}
+use lib.ListN.{length, replicate, set}
 use Rattle.rules.specs.Sizes.{threadCount}
 use Rattle.rules.specs.Bytes.{has}
-use Rattle.rules.specs.Machine.{ThreadState, Machine, locksOf}
+use Rattle.rules.specs.Machine.{ThreadState, idle, Machine, locksOf}
 use Rattle.rules.specs.Events.{Event, step}
 use Rattle.rules.specs.Steps.{Rules, react}
 use Rattle.rules.specs.declared.answer.Answer.{Answer}
@@ -78,9 +78,9 @@ holder l [] = 0
 holder l (w ∷ ws) = cond (has l (locksOf w)) 0 (suc (holder l ws))
 
 module _ (R : Rules) where
-  -- a thread waits for the holder if its next step would get code 4
+  -- a thread waits for the holder if its next step would get code 4: the holder is then another thread
   unfoldable pub awaits : Machine → ℕ → Option ℕ
-  awaits s t = Option·map (λ l. holder l (s .threads)) (asked (react R s (nextTurn s t) .answer))
+  awaits s t = Option·map (λ l. holder l (set (s .threads) t idle)) (asked (react R s (nextTurn s t) .answer))
 
   unfoldable pub walkFrom : Machine → ℕ → Walk
   walkFrom s t = walk (awaits s) threadCount t

@@ -17,7 +17,9 @@ use Rattle.rules.specs.Encoding.{noSignal, machineFrom}
 use Rattle.rules.specs.WellFormed.{homed, homedAs}
 use Rattle.rules.specs.Events.{step}
 use Rattle.rules.specs.Steps.{rulesBy, blockAt, begin, held}
+use Rattle.rules.specs.Walk.{holder}
 use Rattle.rules.specs.declared.sorts.Lock.{Lock}
+use Rattle.rules.specs.declared.sorts.Thread.{Thread}
 use Rattle.rules.specs.declared.answer.Answer.the-variants.{NoWork, Waiting, Started}
 use Rattle.fields.specs.Each.{Each}
 use Rattle.encoding.specs.Encoded.{Encodes, Canonical, encoded-machine, encoded-canonical}
@@ -31,6 +33,9 @@ use Rattle.step_laws.specs.Events.{reply, no-tree, start-waits, start-runs}
 use Rattle.image.specs.Records.{labels-small}
 use Rattle.threads.specs.Threads.{Idle, Runs}
 use Rattle.threads.specs.declared.thread.ThreadState.{ThreadState}
+use Rattle.state.specs.Locks.{holderOf, Found, found}
+use Rattle.state.specs.declared.locks.Holder.{Holder}
+use Rattle.state.specs.declared.locks.Holder.the-variants.{Held, Free}
 use Rattle.pending_signals.specs.Canon.{pendingAt}
 use Rattle.pending_signals.specs.Changes.{taken}
 use Rattle.step_ready.specs.Ready.{Ready, Recorded, replyTo, Stepped, done, says}
@@ -53,8 +58,12 @@ pub record FirstIs (image table : List ℕ) (s : Machine) (t i : ℕ) (l : Lock)
 
 abbrev pub FirstOf : List ℕ → List ℕ → Machine → ℕ → First → Type 0
 FirstOf image table s t Nothing = first t (s .trees) ≡ none
-FirstOf image table s t (Wait l) = (i : ℕ) × FirstIs image table s t i l × (held (l .0) (set (s .threads) t idle) ≡ true)
-FirstOf image table s t (Go i l) = FirstIs image table s t i l × (held (l .0) (set (s .threads) t idle) ≡ false)
+FirstOf image table s t (Wait l u) = (i : ℕ) × FirstIs image table s t i l × Found (l .0) (set (s .threads) t idle) (Held u)
+FirstOf image table s t (Go i l) = FirstIs image table s t i l × Found (l .0) (set (s .threads) t idle) Free
+
+abbrev pub firstBy : ℕ → Lock → Holder → First
+firstBy i l (Held u) = Wait l u
+firstBy i l Free = Go i l
 
 -- an idle thread, which is w, can take the oldest signal of tree i of the bytes b
 pub record CanTake (b : List ℕ) (w : ThreadState) (i : ℕ) : Type 0 where
@@ -119,6 +128,15 @@ module _ {image table b : List ℕ} (h : Ready image table b) (t : ℕ) (rests :
             rw f (lock-below image table (passed image table [] (h .checked) .0) _ (oldest-below h i k some));
       }
 
+  -- by the other thread that holds the lock, if there is one
+  pub first-by : {i : ℕ} {l : Lock} → FirstIs image table s t i l → (x : Holder)
+      → x ≡ holderOf (holder (l .0) (set (s .threads) t idle)) → FirstOf image table s t (firstBy i l x)
+  first-by {i} {l} k x e = case x (subst (Found (l .0) (set (s .threads) t idle)) (sym e) (found s (h .canonical .sized .threads) (l .0) t))
+    where
+      case : (x : Holder) → Found (l .0) (set (s .threads) t idle) x → FirstOf image table s t (firstBy i l x)
+      case (Held u) q = (i, k, q)
+      case Free q = (k, q)
+
   -- ---- what its step comes to
 
   module _ {i : ℕ} {l : Lock} (k : FirstIs image table s t i l) where
@@ -145,8 +163,8 @@ module _ {image table b : List ℕ} (h : Ready image table b) (t : ℕ) (rests :
     pub rests-on : f ≡ Nothing → Stepped image table b t b NoWork
     rests-on e = done s NoWork (no-tree (rulesBy image table) s t rests (found-as Nothing e)) refl (h .canonical)
 
-    pub waits-on : (l : Lock) → f ≡ Wait l → Stepped image table b t b (Waiting l)
-    waits-on l e = let q = found-as (Wait l) e in done s (Waiting l) (start-waiting (q .1) (q .2)) refl (h .canonical)
+    pub waits-on : (l : Lock) (u : Thread) → f ≡ Wait l u → Stepped image table b t b (Waiting l)
+    waits-on l u e = let q = found-as (Wait l u) e in done s (Waiting l) (start-waiting (q .1) (q .2 .0)) refl (h .canonical)
 
     pub begins-on : (i : ℕ) (l : Lock) {b′ : List ℕ} → f ≡ Go i l → Encodes b′ (begun s t i l) → Stepped image table b t b′ Started
     begins-on i l e z = let q = found-as (Go i l) e in done (begun s t i l) Started (start-running (q .0) (q .1)) refl z

@@ -9,7 +9,8 @@ use rules::answer::Answer;
 use rules::sorts::Lock;
 use rules::sorts::Thread;
 use signal_records::Signal;
-use state::locks::held_by_other;
+use state::locks::Holder;
+use state::locks::other_holder;
 use threads::thread::ThreadState;
 use trees::list::first_tree;
 use trees::list::tree_count;
@@ -24,11 +25,11 @@ ghost use Rattle.threads.specs.Threads.{Runs};
 ghost use Rattle.step_ready.specs.Ready.{Ready, Recorded, Stepped};
 ghost use Rattle.starting.specs.Starting.{FirstOf, oldestAt, CanTake, CanBegin, begun};
 
-// The oldest signal of an idle thread's first tree: there is no tree, another thread holds the lock that the signal asks for, or the
-// tree, by its place in the list, with that lock.
+// The oldest signal of an idle thread's first tree: there is no tree; the lock that the signal asks for, with the other thread that holds
+// it; or the tree, by its place in the list, with that lock.
 pub enum First {
     Nothing,
-    Wait(Lock),
+    Wait(Lock, Thread),
     Go(usize, Lock),
 }
 
@@ -42,10 +43,10 @@ pub fn first_signal(image: &[u8], table: &[u8], state: &[u8], t: Thread) -> Firs
         return First::Nothing;
     }
     let lock = lock_at(table, block_at(image, oldest_label(state, i)));
-    if held_by_other(state, lock, t) {
-        return First::Wait(lock);
+    match other_holder(state, lock, t) {
+        Holder::Held(u) => First::Wait(lock, u),
+        Holder::Free => First::Go(i, lock),
     }
-    First::Go(i, lock)
 }
 
 // The thread that the oldest signal of tree i makes of w, which is idle: it takes the signal's label, and the values fill registers 0
@@ -76,7 +77,7 @@ pub fn start(image: &[u8], table: &[u8], state: &mut [u8], t: Thread, w: ThreadS
 {
     match first_signal(image, table, state, t) {
         First::Nothing => Answer::NoWork,
-        First::Wait(lock) => Answer::Waiting(lock),
+        First::Wait(lock, _) => Answer::Waiting(lock),
         First::Go(i, lock) => {
             begin_job(state, t, w, i, lock);
             Answer::Started

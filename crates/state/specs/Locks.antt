@@ -7,7 +7,7 @@ use native.Mathlib.Decide.{ℕ-discrete}
 use native.Mathlib.Omega.{arith}
 use lib.Dec.{eqb, ltb, leb·suc-suc}
 use lib.ListN.{length, getD, drop, set, length-set}
-use lib.Seq.{drop-drop, getD-set-same, getD-set-other, set-out}
+use lib.Seq.{drop-drop, getD-set-same, getD-set-other}
 use borrow.Author.Tests.{eq-eqb, ne-eqb, lt-ltb, le-ltb}
 use Rattle.rules.specs.Sorts.{thread}
 use Rattle.rules.specs.Sizes.{threadCount, locksPlace}
@@ -35,19 +35,6 @@ holder-held n h = rw (lt-ltb n threadCount h)
 pub holder-free : (n : ℕ) → threadCount ≤ n → Free ≡ holderOf n
 unfolding holderOf
 holder-free n h = rw (le-ltb n threadCount h)
-
--- a holder is told from none by the number
-unfoldable pub isHeld : Holder → Bool
-isHeld (Held t) = true
-isHeld Free = false
-
-is-held : (n : ℕ) → isHeld (holderOf n) ≡ ltb n threadCount
-unfolding holderOf isHeld
-is-held n = go (ltb n threadCount)
-  where
-    go : (b : Bool) → isHeld (cond b (Held (thread n)) Free) ≡ b
-    go true = refl
-    go false = refl
 
 -- thread i is the one left out, or does not hold the lock
 unfoldable pub passes : List ℕ → ℕ → ℕ → ℕ → Bool
@@ -94,10 +81,6 @@ module _ (b : List ℕ) (s : Machine) (z : Encodes b s) where
       go j h (yes e) = rw (eq-eqb j out e, e, getD-set-same (s .threads) out idle idle (omega (arith, z .sized .threads)), has-none l)
       go j h (no e) = rw (ne-eqb j out e, locks-are j h, getD-set-other (s .threads) out j idle idle e)
 
-  -- no thread is left out
-  pub all-threads : set (s .threads) threadCount idle ≡ s .threads
-  all-threads = set-out (s .threads) threadCount idle (omega (arith, z .sized .threads))
-
 -- a lock is held where there is a holder
 held-is : (l : ℕ) (ws : List ThreadState) → held l ws ≡ ltb (holder l ws) (length ws)
 unfolding held holder
@@ -108,9 +91,20 @@ held-is l (w ∷ ws) = go (has l (locksOf w)) (held-is l ws)
     go true ih = sym (lt-ltb 0 (suc (length ws)) (omega arith))
     go false ih = ih ∙ sym (leb·suc-suc (suc (holder l ws)) (length ws))
 
--- and a thread other than t holds it where the search, t left out, finds one
-pub held-found : (b : List ℕ) (s : Machine) → Encodes b s → (l t : ℕ) {r : Holder} → r ≡ holderOf (holder l (set (s .threads) t idle))
-    → isHeld r ≡ held l (set (s .threads) t idle)
-held-found b s z l t e =
-    let n : length (set (s .threads) t idle) ≡ threadCount = length-set (s .threads) t idle ∙ z .sized .threads in
-    ap isHeld e ∙ is-held (holder l (set (s .threads) t idle)) ∙ sym (held-is l (set (s .threads) t idle) ∙ rw n)
+-- what a search among the threads ws finds: the lock is held, and by whom, or it is not
+abbrev pub Found : ℕ → List ThreadState → Holder → Type 0
+Found l ws (Held u) = (held l ws ≡ true) × (u ≡ thread (holder l ws))
+Found l ws Free = held l ws ≡ false
+
+-- it is so of the threads but t
+pub found : (s : Machine) → length (s .threads) ≡ threadCount → (l t : ℕ)
+    → Found l (set (s .threads) t idle) (holderOf (holder l (set (s .threads) t idle)))
+unfolding holderOf
+found s n l t =
+    let m : length (set (s .threads) t idle) ≡ threadCount = length-set (s .threads) t idle ∙ n in
+    go (ltb (holder l (set (s .threads) t idle)) threadCount) (held-is l (set (s .threads) t idle) ∙ rw m)
+  where
+    go : (b : Bool) → held l (set (s .threads) t idle) ≡ b
+        → Found l (set (s .threads) t idle) (cond b (Held (thread (holder l (set (s .threads) t idle)))) Free)
+    go true e = (e, refl)
+    go false e = e

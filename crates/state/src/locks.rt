@@ -13,10 +13,8 @@ use rules::sorts::thread_of;
 ghost use mathlib.Core.Path.{_≡_};
 ghost use Prim.Native.Nat.{_<_};
 ghost use lib.ListN.{length, set};
-ghost use Rattle.rules.specs.Sorts.{thread};
 ghost use Rattle.rules.specs.Sizes.{threadCount, lockCount, stateSize};
 ghost use Rattle.rules.specs.Machine.{idle};
-ghost use Rattle.rules.specs.Steps.{held};
 ghost use Rattle.rules.specs.Walk.{holder};
 ghost use Rattle.rules.specs.Encoding.{machineFrom};
 ghost use Rattle.encoding.specs.Encoded.{Canonical};
@@ -26,13 +24,6 @@ ghost use Rattle.state.specs.Locks.{passes, holderOf};
 pub enum Holder {
     Held(Thread),
     Free,
-}
-
-// No thread: the number that follows theirs.
-fn nobody() -> Thread
-    ensures { λ r. ⌜ r ≡ thread threadCount ⌝ }
-{
-    thread_of(Thread::COUNT as u8)
 }
 
 // Whether the search for a holder passes thread t: it is the thread left out, or does not hold the lock.
@@ -50,37 +41,18 @@ fn passed(state: &[u8], lock: Lock, out: Thread, t: Thread) -> bool
     (locks >> lock_number(lock)) % 2 != 1
 }
 
-// The first thread that holds a lock, one left out.
-fn first_holder(state: &[u8], lock: Lock, out: Thread) -> Holder
+// The first thread but t that holds a lock.
+pub fn other_holder(state: &[u8], lock: Lock, t: Thread) -> Holder
     requires { ⌜ Canonical (now state) × (lock .0 < lockCount) ⌝ }
-    ensures { λ r. ⌜ r ≡ holderOf (holder (lock .0) (set (machineFrom (now (state .entry)) .threads) (out .0) idle)) ⌝ }
+    ensures { λ r. ⌜ r ≡ holderOf (holder (lock .0) (set (machineFrom (now (state .entry)) .threads) (t .0) idle)) ⌝ }
 {
     let mut i = 0;
     while i < Thread::COUNT {
-        let t = thread_of(i as u8);
-        if !passed(state, lock, out, t) {
-            return Holder::Held(t);
+        let u = thread_of(i as u8);
+        if !passed(state, lock, t, u) {
+            return Holder::Held(u);
         }
         i += 1;
     }
     Holder::Free
-}
-
-// The first thread that holds a lock.
-pub fn holder_of(state: &[u8], lock: Lock) -> Holder
-    requires { ⌜ Canonical (now state) × (lock .0 < lockCount) ⌝ }
-    ensures { λ r. ⌜ r ≡ holderOf (holder (lock .0) (machineFrom (now (state .entry)) .threads)) ⌝ }
-{
-    first_holder(state, lock, nobody())
-}
-
-// Whether a thread other than t holds a lock.
-pub fn held_by_other(state: &[u8], lock: Lock, t: Thread) -> bool
-    requires { ⌜ Canonical (now state) × (lock .0 < lockCount) ⌝ }
-    ensures { λ r. ⌜ r ≡ held (lock .0) (set (machineFrom (now (state .entry)) .threads) (t .0) idle) ⌝ }
-{
-    match first_holder(state, lock, t) {
-        Holder::Held(_) => true,
-        Holder::Free => false,
-    }
 }

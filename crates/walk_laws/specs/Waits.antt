@@ -1,19 +1,18 @@
--- Whom a thread waits for, read off its plan: nothing need be carried out. Whom it waits for holds the lock that it asks for.
-use mathlib.Core.Path.{_≡_, refl, sym, _∙_, subst}
+-- Whom a thread waits for is another thread, which holds the lock that it asks for.
+use mathlib.Core.Path.{_≡_, refl, sym, _∙_}
 use mathlib.Core.Logic.{_≢_, _⊎_, inl, inr}
 use mathlib.Core.Bool.{Bool, true, false, cond, true≢false}
 use mathlib.Core.Option.{Option, none, some, Option·map}
 use mathlib.Core.List.{List, [], _∷_}
 use Prim.Native.Nat.{ℕ, zero, suc, _<_}
-use native.Mathlib.Decide.{ℕ-discrete}
 use native.Mathlib.Omega.{arith}
-use lib.ListN.{length, getD, set}
+use lib.ListN.{length, getD, set, length-set}
 use lib.Seq.{getD-set-other}
 use Rattle.rules.specs.Sorts
 use Rattle.rules.specs.Sizes.{threadCount}
 use Rattle.rules.specs.Bytes.{has}
 use Rattle.rules.specs.Machine.{Signal, ThreadState, idle, running, Machine, threadAt, locksOf, first}
-use Rattle.rules.specs.Steps.{Rules, Effect, traps, exits, moves, Move, Plan, stay, grow, move, finish, planIdle, planRunning, planStep}
+use Rattle.rules.specs.Steps.{Rules, Effect, traps, exits, moves, Move, planIdle, planRunning, planStep}
 use Rattle.rules.specs.Steps.{plan, held, blocked, attempt, carry, react}
 use Rattle.rules.specs.Walk.{nextTurn, asked, holder, awaits, walkFrom}
 use Rattle.rules.specs.declared.answer.Answer.{Answer}
@@ -72,67 +71,6 @@ module _ (R : Rules) where
       case idle e = unfold react plan planStep in rw e (turned-idle s t _ e refl)
       case (running l j) e = unfold react plan planStep in rw e (turned-running s t _ _ _)
 
--- ---- whom a thread waits for, read off its plan: nothing need be carried out
-
--- the lock that a plan asks for
-abbrev pub wants : Rules → Plan → Option ℕ
-wants R (stay a) = none
-wants R (grow x) = none
-wants R (move t m) = Option·map (R .lock) (m .want)
-wants R (finish t a) = none
-
-module _ (R : Rules) where
-  -- its holder, if a thread other than t has it
-  abbrev pub heldBy : List ThreadState → ℕ → Option ℕ → Option ℕ
-  heldBy ws t none = none
-  heldBy ws t (some l) = cond (held l (set ws t idle)) (some (holder l ws)) none
-
-  -- no plan of a turn says of itself that it waits
-  abbrev Plain : ℕ → Plan → Type 0
-  Plain t (stay a) = asked a ≡ none
-  Plain t (grow x) = ⊥
-  Plain t (move u m) = (u ≡ t) × (asked (m .answer) ≡ none)
-  Plain t (finish u a) = asked a ≡ none
-
-  plain-idle : (t : ℕ) (f : Option (List Signal)) → Plain t (planIdle R t f)
-  unfolding planIdle
-  plain-idle t none = refl
-  plain-idle t (some []) = refl
-  plain-idle t (some (g ∷ p)) = (refl, refl)
-
-  plain-running : (t b : ℕ) (p : List Signal) (e : Effect) → Plain t (planRunning t b p e)
-  unfolding planRunning
-  plain-running t b p (traps r) = refl
-  plain-running t b p exits = refl
-  plain-running t b p (moves j ws o w) = (refl, refl)
-
-  plain : (s : Machine) (t : ℕ) → Plain t (plan R s (nextTurn s t))
-  plain s t = case (threadAt s t) refl
-    where
-      case : (w : ThreadState) → threadAt s t ≡ w → Plain t (plan R s (nextTurn s t))
-      case idle e = unfold plan planStep in rw e (plain-idle t _)
-      case (running l j) e = unfold plan planStep in rw e (plain-running t _ _ _)
-
-  carried : (s : Machine) (t : ℕ) (p : Plan) → Plain t p
-      → Option·map (λ l. holder l (s .threads)) (asked (carry R s p .answer)) ≡ heldBy (s .threads) t (wants R p)
-  unfolding carry attempt blocked
-  carried s t (stay a) h = rw h refl
-  carried s t (grow x) h = absurd h
-  carried s t (move u m) h = rw (h .0) (case (m .want))
-    where
-      free : (b : ℕ) (z : Bool)
-          → Option·map (λ l. holder l (s .threads)) (asked (attempt R t m s (cond z (some (R .lock b)) none) .answer)) ≡ cond z
-          (some (holder (R .lock b) (s .threads))) none
-      free b true = refl
-      free b false = rw (h .1) refl
-
-      case : (w : Option ℕ)
-          → Option·map (λ l. holder l (s .threads)) (asked (attempt R t m s (blocked R t (s .threads) w) .answer)) ≡ heldBy (s .threads) t
-          (Option·map (R .lock) w)
-      case none = rw (h .1) refl
-      case (some b) = free b (held (R .lock b) (set (s .threads) t idle))
-  carried s t (finish u a) h = rw h refl
-
 -- ---- the holder
 
 abbrev pub runs : ThreadState → Bool
@@ -169,46 +107,38 @@ module _ (R : Rules) where
       case (inl e) ih = (0, e)
       case (inr e) ih = (suc (ih e .0), ih e .1)
 
-  -- held by a thread other than t
-  held-other : (l : ℕ) (ws : List ThreadState) (t : ℕ) → held l (set ws t idle) ≡ true
-      → (k : ℕ) × (k ≢ t) × (has l (locksOf (getD ws k idle)) ≡ true)
-  held-other l ws t h = case (held-some l (set ws t idle) h)
-    where
-      case : ((k : ℕ) × (has l (locksOf (getD (set ws t idle) k idle)) ≡ true))
-          → (k : ℕ) × (k ≢ t) × (has l (locksOf (getD ws k idle)) ≡ true)
-      case q = on (ℕ-discrete (q .0) t)
-        where
-          on : Dec (q .0 ≡ t) → (k : ℕ) × (k ≢ t) × (has l (locksOf (getD ws k idle)) ≡ true)
-          on (yes e) = absurd (true≢false (sym (q .1) ∙ rw (e, getD-set-idle ws t) (has-none l)))
-          on (no e) = (q .0, e, rw (getD-set-other ws t (q .0) idle idle e) at (q .1))
-
-  -- a thread waits for another: its next step would be answered 4 with a lock that another thread has, and the one waited for is the
-  -- first that holds it
+  -- a thread waits for another: its next step would be answered 4 with a lock that the other holds
   pub record Awaited (s : Machine) (t u : ℕ) : Type 0 where
     pub lock : ℕ
     pub answer : react R s (nextTurn s t) .answer ≡ Waiting (Sorts.lock lock)
     pub holds : has lock (locksOf (threadAt s u)) ≡ true
     pub inside : u < length (s .threads)
-    pub other : held lock (set (s .threads) t idle) ≡ true
+    pub other : u ≢ t
 
   pub awaited : (s : Machine) (t u : ℕ) → awaits R s t ≡ some u → Awaited s t u
   unfolding awaits
   awaited s t u e = case (react R s (nextTurn s t) .answer) refl (turned R s t) e
     where
       from : (l : ℕ) → react R s (nextTurn s t) .answer ≡ Waiting (Sorts.lock l) → held l (set (s .threads) t idle) ≡ true
-          → Option·map (λ k. holder k (s .threads)) (some l) ≡ some u → Awaited s t u
+          → u ≡ holder l (set (s .threads) t idle) → Awaited s t u
       from l a h q =
-          let k = held-other l (s .threads) t h in
-          let g : u ≡ holder l (s .threads) = cc in
-          let f = holder-holds l (s .threads) (k .0) (k .2) in
-          record { lock = l; answer = a; holds = rw g (f .1); inside = rw g (f .0); other = h }
+          let k = held-some l (set (s .threads) t idle) h in
+          let f = rw (← q) at (holder-holds l (set (s .threads) t idle) (k .0) (k .1)) in
+          let o : u ≢ t = λ z. true≢false (sym (f .1) ∙ rw (z, getD-set-idle (s .threads) t) (has-none l)) in
+          record {
+            lock = l;
+            answer = a;
+            holds = rw (getD-set-other (s .threads) t u idle idle o) at (f .1);
+            inside = rw length-set at (f .0);
+            other = o;
+          }
 
       case : (a : Answer) → react R s (nextTurn s t) .answer ≡ a → Turned R s t a
-          → Option·map (λ k. holder k (s .threads)) (asked a) ≡ some u → Awaited s t u
+          → Option·map (λ l. holder l (set (s .threads) t idle)) (asked a) ≡ some u → Awaited s t u
       case Taken p h q = never (cc)
       case ListFull p h q = never (cc)
       case NoWork p h q = never (cc)
-      case (Waiting l) p h q = from (l .0) p h q
+      case (Waiting l) p h q = from (l .0) p h (cc)
       case Started p h q = never (cc)
       case Moved p h q = never (cc)
       case Exited p h q = never (cc)
@@ -223,16 +153,9 @@ module _ (R : Rules) where
   pub awaits-inside : (s : Machine) → length (s .threads) ≡ threadCount → (t u : ℕ) → awaits R s t ≡ some u → u < threadCount
   awaits-inside s n t u e = let h = awaited s t u e in omega (arith, h .inside)
 
-  -- where no lock is in two sets, it is another thread
-  pub awaits-other : (s : Machine) → ((t u l : ℕ) → t ≢ u → has l (locksOf (threadAt s t)) ≡ true → has l (locksOf (threadAt s u)) ≡ false)
-      → (t u : ℕ) → awaits R s t ≡ some u → u ≢ t
-  awaits-other s apart t u e q =
-      let h = awaited s t u e in
-      let k = held-other (h .lock) (s .threads) t (h .other) in
-      let m : has (h .lock) (locksOf (threadAt s t)) ≡ true =
-      subst (λ (z : ℕ). has (h .lock) (locksOf (threadAt s z)) ≡ true) q (h .holds)
-      in
-      true≢false (sym m ∙ apart (k .0) t (h .lock) (k .1) (k .2))
+  -- nobody waits for itself
+  pub awaits-other : (s : Machine) (t u : ℕ) → awaits R s t ≡ some u → u ≢ t
+  awaits-other s t u e = awaited s t u e .other
 
   -- the walk over any machine of eight threads
   pub walk-right : (s : Machine) (t : ℕ) → length (s .threads) ≡ threadCount → t < threadCount

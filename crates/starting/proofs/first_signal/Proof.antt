@@ -7,7 +7,7 @@ use Rattle.rules.specs.Image.{labels}
 use Rattle.rules.specs.Encoding.{machineFrom}
 use Rattle.encoding.specs.FirstTree.{first-none}
 use Rattle.ending.specs.Home.{oldest-below, block-inside, table-long}
-use Rattle.starting.specs.Starting.{FirstIs, idle-pending, first-is}
+use Rattle.starting.specs.Starting.{FirstIs, idle-pending, first-is, first-by}
 use Rattle.starting.proofs.first_signal.Statement.{statement}
 use Rattle.starting.proofs.first_signal.Tie as tie
 
@@ -27,13 +27,13 @@ below c =
     (idle-pending (s .pre .0) (s .args .t .0) (s .pre .1) (i .result) (i .ensures) (inside c)))
 
 -- the tree, with the lock that its oldest signal asks for
-found : (c : tie.After-lock-at)
+first : (c : tie.After-lock-at)
     → FirstIs (c .before .before .before .before .before .before .before .before .before .args .image .now)
     (c .before .before .before .before .before .before .before .before .before .args .table .now)
     (machineFrom (c .before .before .before .before .before .before .before .before .before .args .state .now))
     (c .before .before .before .before .before .before .before .before .before .args .t .0)
     (c .before .before .before .before .before .first-tree .result) (c .lock-at .result)
-found c =
+first c =
     let s = c .before .before .before .before .before .before .before .before .before in
     let i = c .before .before .before .before .before .first-tree in
     first-is (s .pre .0) (s .args .t .0) (s .pre .1) (i .result) (c .lock-at .result) (i .ensures) (inside (c .before .before))
@@ -62,23 +62,24 @@ lock-at-requires c κs = (
       (c .before .before .before .before .before .before .before .before .pre .0),
 )
 
-held-by-other-requires : tie.Need-held-by-other-requires
-held-by-other-requires c κs = (
+other-holder-requires : tie.Need-other-holder-requires
+other-holder-requires c κs = (
   c .before .before .before .before .before .before .before .before .before .pre .0 .canonical,
-  found c
+  first c
       .small,
 )
 
 returns-2 : tie.Need-returns-2
-returns-2 c = (
-  c .before .before .before .before .before .before .before .first-tree .result,
-  found (c .before .before),
-  sym
-      (c .before .held-by-other .ensures) ∙ c .if2 .taken,
-)
+returns-2 c =
+    let s = c .before .before .before .before .before .before .before .before .before .before .before .before .before in
+    first-by (s .pre .0) (s .args .t .0) (s .pre .1) (first (c .before .before .before .before)) _
+    (sym (c .before .u .given .1) ∙ c .before .before .before .other-holder .ensures)
 
 returns-3 : tie.Need-returns-3
-returns-3 c = (found (c .before .before), sym (c .before .held-by-other .ensures) ∙ c .if2 .left)
+returns-3 c =
+    let s = c .before .before .before .before .before .before .before .before .before .before .before .before in
+    first-by (s .pre .0) (s .args .t .0) (s .pre .1) (first (c .before .before .before)) _
+    (sym (c .enum-told .given .1) ∙ c .before .before .other-holder .ensures)
 
 pub first-signal-spec : {M : Type 1} → statement M
 first-signal-spec =
@@ -90,6 +91,8 @@ first-signal-spec =
     oldest-label-requires
     block-at-requires
     lock-at-requires
-    held-by-other-requires
+    other-holder-requires
+    (λ c. search needs)
+    (λ c. search needs)
     returns-2
     returns-3)

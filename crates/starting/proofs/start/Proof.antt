@@ -17,7 +17,7 @@ returns c =
 returns-2 : tie.Need-returns-2
 returns-2 c =
     let s = c .before .before .before .before .before .before .before .before in
-    waits-on (s .pre .0) (s .args .t .0) (s .pre .3) (c .before .before .before .first-signal .ensures) _ (c .before .lock .given .1)
+    waits-on (s .pre .0) (s .args .t .0) (s .pre .3) (c .before .before .before .first-signal .ensures) _ _ (c .before .lock .given .1)
 
 returns-3 : tie.Need-returns-3
 returns-3 c =

@@ -1,12 +1,12 @@
 use borrow.Author.Needs.{needs}
-use Rattle.awaiting.proofs.lock_wanted.Statement.{statement}
-use Rattle.awaiting.proofs.lock_wanted.Tie as tie
+use Rattle.awaiting.proofs.passage_waits.Statement.{statement}
+use Rattle.awaiting.proofs.passage_waits.Tie as tie
 
 returns-2 : tie.Need-returns-2
 returns-2 c = rw (c .before .p .given .1)
 
-pub lock-wanted-spec : {M : Type 1} → statement M
-lock-wanted-spec =
+pub passage-waits-spec : {M : Type 1} → statement M
+passage-waits-spec =
     tie.close
     (tie.spec
     (λ c. search needs)

@@ -10,14 +10,14 @@ use Rattle.rules.specs.Walk.{holder}
 use Rattle.fields.specs.Tests.{Searching, begin, none, next, here}
 use Rattle.state.specs.declared.locks.Holder.the-variants.{Held}
 use Rattle.state.specs.Locks.{passes, holder-found, holderOf, holder-held, holder-free}
-use Rattle.state.proofs.locks.first_holder.Statement.{statement}
-use Rattle.state.proofs.locks.first_holder.Tie as tie
+use Rattle.state.proofs.locks.other_holder.Statement.{statement}
+use Rattle.state.proofs.locks.other_holder.Tie as tie
 
 abbrev Inv-loop : tie.InvT-loop
-Inv-loop state lock out i₀ i = Searching (passes state (lock .0) (out .0)) threadCount i
+Inv-loop state lock t i₀ i = Searching (passes state (lock .0) (t .0)) threadCount i
 
 abbrev μ-loop : tie.MeasureT-loop
-μ-loop state lock out i₀ i = threadCount - i
+μ-loop state lock t i₀ i = threadCount - i
 
 loop-holds : tie.Need-loop-holds Inv-loop μ-loop
 loop-holds c = begin _ threadCount
@@ -35,9 +35,9 @@ returns c =
     let s = c .before .before .before .before .before .before in
     let l = c .before .before .before .before .loop in
     let e = rw (c .before .before .thread-of .ensures) at (c .before .passed .ensures) in
-    let p : l .i ≡ holder (s .args .lock .0) (set (machineFrom (s .args .state .now) .threads) (s .args .out .0) idle) =
+    let p : l .i ≡ holder (s .args .lock .0) (set (machineFrom (s .args .state .now) .threads) (s .args .t .0) idle) =
     here _ threadCount _ (l .inv) _ (c .before .before .before .loop-test .taken) e (c .if1 .taken)
-    ∙ holder-found _ _ (s .pre .0) (s .args .lock .0) (s .args .out .0) in
+    ∙ holder-found _ _ (s .pre .0) (s .args .lock .0) (s .args .t .0) in
     ap Held (c .before .before .thread-of .ensures) ∙ holder-held (l .i) (c .before .before .before .loop-test .taken) ∙ ap holderOf p
 
 loop-again : tie.Need-loop-again Inv-loop μ-loop
@@ -48,12 +48,12 @@ loop-again c =
 returns-2 : tie.Need-returns-2 Inv-loop μ-loop
 returns-2 c =
     let s = c .before .before .before in
-    let p : c .before .loop .i ≡ holder (s .args .lock .0) (set (machineFrom (s .args .state .now) .threads) (s .args .out .0) idle) =
-    none _ threadCount _ (c .before .loop .inv) (c .loop-test .left) ∙ holder-found _ _ (s .pre .0) (s .args .lock .0) (s .args .out .0) in
+    let p : c .before .loop .i ≡ holder (s .args .lock .0) (set (machineFrom (s .args .state .now) .threads) (s .args .t .0) idle) =
+    none _ threadCount _ (c .before .loop .inv) (c .loop-test .left) ∙ holder-found _ _ (s .pre .0) (s .args .lock .0) (s .args .t .0) in
     holder-free (c .before .loop .i) (omega arith) ∙ ap holderOf p
 
-pub first-holder-spec : {M : Type 1} → statement M
-first-holder-spec =
+pub other-holder-spec : {M : Type 1} → statement M
+other-holder-spec =
     tie.close
     (tie.spec
     Inv-loop

@@ -1,7 +1,8 @@
+use mathlib.Core.Path.{_∙_}
 use borrow.Author.Needs.{needs}
-use Rattle.awaiting.specs.Waiting.{opcode-send, opcode-call, opcode-other, wants-passage, wants-nothing}
-use Rattle.awaiting.proofs.running_lock.Statement.{statement}
-use Rattle.awaiting.proofs.running_lock.Tie as tie
+use Rattle.awaiting.specs.Waiting.{opcode-send, opcode-call, opcode-other, waits-passage, waits-nobody}
+use Rattle.awaiting.proofs.running_waits.Statement.{statement}
+use Rattle.awaiting.proofs.running_waits.Tie as tie
 
 send-passage-requires : tie.Need-send-passage-requires
 send-passage-requires c κs = (
@@ -20,17 +21,17 @@ call-passage-requires c κs = (
 )
 
 returns : tie.Need-returns
-returns c = rw (c .lock-wanted .ensures) (wants-passage (c .before .send-passage .ensures))
+returns c = c .passage-waits .ensures ∙ waits-passage (c .before .send-passage .ensures)
 
 returns-2 : tie.Need-returns-2
-returns-2 c = rw (c .lock-wanted2 .ensures) (wants-passage (c .before .call-passage .ensures))
+returns-2 c = c .passage-waits2 .ensures ∙ waits-passage (c .before .call-passage .ensures)
 
 returns-3 : tie.Need-returns-3
-returns-3 c = wants-nothing (c .before .before .before .before .before .before .pre)
+returns-3 c = waits-nobody (c .before .before .before .before .before .before .pre)
     (opcode-other (c .before .before .before .before .before .before .args .r .now) (c .match .rest .0 .1) (c .match .rest .1))
 
-pub running-lock-spec : {M : Type 1} → statement M
-running-lock-spec =
+pub running-waits-spec : {M : Type 1} → statement M
+running-waits-spec =
     tie.close
     (tie.spec
     (λ c. search needs)
