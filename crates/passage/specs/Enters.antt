@@ -7,7 +7,7 @@ use Prim.Native.Nat.{ℕ, _+_, _≤_, _<_, _^_}
 use native.Mathlib.Decide.{ℕ-discrete}
 use native.Mathlib.Omega.{arith}
 use lib.Bits.{bitOr}
-use lib.Dec.{eqb, leb}
+use lib.Dec.{eqb, leb, ltb}
 use lib.ListN.{length, take, set, replicate, length-append}
 use borrow.Author.Tests.{ne-eqb}
 use Rattle.rules.specs.Sorts.{lock, thread}
@@ -30,14 +30,12 @@ use Rattle.step_laws.specs.Events.{reply}
 use Rattle.step_laws.specs.Statements.{unread, send-alien, send-waits, send-enters, call-deep, call-alien, call-waits, call-enters}
 use Rattle.threads.specs.Threads.{jobOf, returnsOf, ZerosAfter}
 use Rattle.threads.specs.declared.thread.ThreadState.{ThreadState}
-use Rattle.state.specs.Locks.{Found, found}
-use Rattle.state.specs.declared.locks.Holder.{Holder}
-use Rattle.state.specs.declared.locks.Holder.the-variants.{Held, Free}
+use Rattle.state.specs.Locks.{held-by-other}
 use Rattle.operands.specs.Readings.{Reads}
 use Rattle.operands.specs.Cells.{cellsOf}
 use Rattle.operands.specs.Gathered.{zeros-stay}
 use Rattle.step_ready.specs.At.{At, tree, label-A, depth-is}
-use Rattle.passage.specs.Passages.{callTrap, unlessAlien, byHolder, otherHolder, passageTo, go-clear, call-clear}
+use Rattle.passage.specs.Passages.{callTrap, otherHolder, byLock, passageTo, go-clear, call-clear}
 use Rattle.passage.specs.declared.Passage.{Passage}
 use Rattle.passage.specs.declared.Passage.the-variants.{Trap, Wait, Go}
 
@@ -75,13 +73,14 @@ module _ (image table : List ℕ) (s : Machine) (t locks : ℕ) (k : Job) (row :
       → (alien row t ≡ false → taken ≡ false → stepped ≡ reply (withThread s t (running (bitOr locks (2 ^ row .lock)) k)) Moved)
       → Passes image table s t locks k (passageTo s row t 0)
   unfolding passageTo
-  none-before sized inside f g h = case (alien row t) (otherHolder s row t) refl (found s sized (row .lock) t)
+  none-before sized inside f g h = case (alien row t) (ltb (otherHolder s row t) threadCount) refl (held-by-other s sized (row .lock) t)
     where
-      case : (a : Bool) (x : Holder) → alien row t ≡ a → Found (row .lock) (set (s .threads) t idle) x
-          → Passes image table s t locks k (unlessAlien a (byHolder x (lock (row .lock))))
-      case true x e q = f e
-      case false (Held u) e q = (g e (q .0), q .1)
-      case false Free e q = (inside, h e q)
+      case : (a b : Bool) → alien row t ≡ a → taken ≡ b
+          → Passes image table s t locks k
+          (cond a (Trap foreignFdBlockCode) (byLock b (lock (row .lock)) (otherHolder s row t)))
+      case true b e q = f e
+      case false true e q = (g e q, refl)
+      case false false e q = (inside, h e q)
 
 -- the record at the label of a running thread, and the data that it reads
 module _ (image table b : List ℕ) (t : ℕ) (w : ThreadState) (p : List Signal)

@@ -2,11 +2,11 @@
 use mathlib.Core.Path.{_≡_, refl}
 use mathlib.Core.Bool.{Bool, true, false, cond}
 use Prim.Native.Nat.{ℕ, _<_}
-use lib.Dec.{eqb, leb}
+use lib.Dec.{eqb, leb, ltb}
 use lib.ListN.{set}
 use borrow.Author.Tests.{eqb-true, leb-false}
-use Rattle.rules.specs.Sorts.{lock}
-use Rattle.rules.specs.Sizes.{returnCount}
+use Rattle.rules.specs.Sorts.{lock, thread}
+use Rattle.rules.specs.Sizes.{threadCount, returnCount}
 use Rattle.rules.specs.Codes.{returnsFullCode, foreignFdBlockCode}
 use Rattle.rules.specs.Image.{Row}
 use Rattle.rules.specs.Machine.{Machine, idle}
@@ -14,9 +14,6 @@ use Rattle.rules.specs.Steps.{alien}
 use Rattle.rules.specs.Walk.{holder}
 use Rattle.rules.specs.declared.sorts.Lock.{Lock}
 use Rattle.laws.specs.Logic.{never}
-use Rattle.state.specs.Locks.{holderOf}
-use Rattle.state.specs.declared.locks.Holder.{Holder}
-use Rattle.state.specs.declared.locks.Holder.the-variants.{Held, Free}
 use Rattle.passage.specs.declared.Passage.{Passage}
 use Rattle.passage.specs.declared.Passage.the-variants.{Trap, Wait, Go}
 
@@ -24,28 +21,25 @@ use Rattle.passage.specs.declared.Passage.the-variants.{Trap, Wait, Go}
 unfoldable pub callTrap : ℕ → ℕ → ℕ
 callTrap unread depth = cond (eqb unread 0) (cond (leb returnCount depth) returnsFullCode 0) unread
 
--- an FD block of another thread is a trap whatever its lock would come to
-abbrev pub unlessAlien : Bool → Passage → Passage
-unlessAlien a p = cond a (Trap foreignFdBlockCode) p
+-- the other thread that holds the lock of a row, by its number
+abbrev pub otherHolder : Machine → Row → ℕ → ℕ
+otherHolder s row t = holder (row .lock) (set (s .threads) t idle)
 
--- by the other thread that holds the lock, if there is one
-abbrev pub byHolder : Holder → Lock → Passage
-byHolder (Held u) l = Wait l u
-byHolder Free l = Go l
-
-abbrev pub otherHolder : Machine → Row → ℕ → Holder
-otherHolder s row t = holderOf (holder (row .lock) (set (s .threads) t idle))
+-- by whether another thread, u, holds the lock
+abbrev pub byLock : Bool → Lock → ℕ → Passage
+byLock h l u = cond h (Wait l (thread u)) (Go l)
 
 -- an earlier trap, an FD block of another thread, or the block's lock
 unfoldable pub passageTo : Machine → Row → ℕ → ℕ → Passage
 passageTo s row t earlier =
-    cond (eqb earlier 0) (unlessAlien (alien row t) (byHolder (otherHolder s row t) (lock (row .lock)))) (Trap earlier)
+    cond (eqb earlier 0) (cond (alien row t) (Trap foreignFdBlockCode)
+    (byLock (ltb (otherHolder s row t) threadCount) (lock (row .lock)) (otherHolder s row t))) (Trap earlier)
 
 -- no earlier trap
-pub passage-on : (s : Machine) (row : Row) (t x : ℕ) → x ≡ 0 → {a : Bool} {h : Holder} {l : Lock} → a ≡ alien row t
-    → h ≡ otherHolder s row t → l ≡ lock (row .lock) → unlessAlien a (byHolder h l) ≡ passageTo s row t x
+pub passage-on : (s : Machine) (row : Row) (t x : ℕ) → x ≡ 0 → (a h : Bool) → alien row t ≡ a → ltb (otherHolder s row t) threadCount ≡ h
+    → passageTo s row t x ≡ cond a (Trap foreignFdBlockCode) (byLock h (lock (row .lock)) (otherHolder s row t))
 unfolding passageTo
-passage-on s row t x z a h l = rw (z, a, h, l)
+passage-on s row t x z a h e f = rw (z, e, f)
 
 -- a thread that goes in met no trap
 pub go-clear : (s : Machine) (row : Row) (t x : ℕ) (l : Lock) → passageTo s row t x ≡ Go l → x ≡ 0
@@ -53,7 +47,8 @@ unfolding passageTo
 go-clear s row t x l e = case (eqb x 0) refl e
   where
     case : (z : Bool) → eqb x 0 ≡ z
-        → cond z (unlessAlien (alien row t) (byHolder (otherHolder s row t) (lock (row .lock)))) (Trap x) ≡ Go l → x ≡ 0
+        → cond z (cond (alien row t) (Trap foreignFdBlockCode)
+        (byLock (ltb (otherHolder s row t) threadCount) (lock (row .lock)) (otherHolder s row t))) (Trap x) ≡ Go l → x ≡ 0
     case true z e = eqb-true x 0 z
     case false z e = never (cc)
 

@@ -13,7 +13,7 @@ use rules::sorts::Label;
 use rules::sorts::Lock;
 use rules::sorts::Thread;
 use rules::sorts::same_thread;
-use state::locks::Holder;
+use rules::sorts::thread_of;
 use state::locks::other_holder;
 use threads::thread::ThreadState;
 ghost use mathlib.Core.Path.{_≡_};
@@ -30,7 +30,7 @@ ghost use Rattle.rules.specs.Steps.{alien, blockAt};
 ghost use Rattle.encoding.specs.Encoded.{Canonical};
 ghost use Rattle.threads.specs.Threads.{returnsOf};
 ghost use Rattle.step_ready.specs.At.{At};
-ghost use Rattle.passage.specs.Passages.{callTrap, unlessAlien, passageTo};
+ghost use Rattle.passage.specs.Passages.{passageTo, callTrap};
 ghost use Rattle.passage.specs.Enters.{Enters};
 
 // A trap with its reason, a lock with the other thread that holds it, or a lock that the step takes.
@@ -61,17 +61,8 @@ fn is_alien(table: &[u8], t: Thread, block: Block) -> bool
     (kind_at(table, block) == FD) & !same_thread(thread_at(table, block), t)
 }
 
-// An FD block of another thread is a trap whatever its lock would come to.
-fn unless_alien(alien: bool, p: Passage) -> Passage
-    ensures { λ r. ⌜ r ≡ unlessAlien alien p ⌝ }
-{
-    if alien {
-        return Passage::Trap(FOREIGN_FD_BLOCK);
-    }
-    p
-}
-
-// The passage of thread t into the block of a label, where no earlier test made a trap (0).
+// The passage of thread t into the block of a label, where no earlier test made a trap (0): an FD block of another thread is a trap
+// whoever holds its lock.
 fn passage_to(
     image: &[u8],
     table: &[u8],
@@ -89,11 +80,14 @@ fn passage_to(
     }
     let block = block_at(image, to);
     let lock = lock_at(table, block);
-    let alien = is_alien(table, t, block);
-    match other_holder(state, lock, t) {
-        Holder::Held(u) => unless_alien(alien, Passage::Wait(lock, u)),
-        Holder::Free => unless_alien(alien, Passage::Go(lock)),
+    let holder = other_holder(state, lock, t);
+    if is_alien(table, t, block) {
+        return Passage::Trap(FOREIGN_FD_BLOCK);
     }
+    if holder < Thread::COUNT {
+        return Passage::Wait(lock, thread_of(holder as u8));
+    }
+    Passage::Go(lock)
 }
 
 // The passage of a direct SEND, and the values that it reads.

@@ -3,11 +3,12 @@ use mathlib.Core.Path.{_≡_, refl, sym, ap, _∙_, subst}
 use mathlib.Core.Bool.{true, false}
 use mathlib.Core.Option.{none, some}
 use mathlib.Core.List.{List, [], _∷_}
-use Prim.Native.Nat.{ℕ, _<_, _^_}
+use Prim.Native.Nat.{ℕ, _≤_, _<_, _^_}
 use native.Mathlib.Omega.{arith}
 use lib.Bits.{bitOr}
 use lib.ListN.{length, getD, drop, set}
 use lib.Seq.{drop-cons}
+use borrow.Author.Tests.{lt-ltb, le-ltb}
 use Rattle.rules.specs.Sorts
 use Rattle.rules.specs.Sizes.{lockCount, threadCount, idleLabel}
 use Rattle.rules.specs.Image.{rowAt}
@@ -33,9 +34,7 @@ use Rattle.step_laws.specs.Events.{reply, no-tree, start-waits, start-runs}
 use Rattle.image.specs.Records.{labels-small}
 use Rattle.threads.specs.Threads.{Idle, Runs}
 use Rattle.threads.specs.declared.thread.ThreadState.{ThreadState}
-use Rattle.state.specs.Locks.{holderOf, Found, found}
-use Rattle.state.specs.declared.locks.Holder.{Holder}
-use Rattle.state.specs.declared.locks.Holder.the-variants.{Held, Free}
+use Rattle.state.specs.Locks.{HeldBy, held-by-other}
 use Rattle.pending_signals.specs.Canon.{pendingAt}
 use Rattle.pending_signals.specs.Changes.{taken}
 use Rattle.step_ready.specs.Ready.{Ready, Recorded, replyTo, Stepped, done, says}
@@ -58,12 +57,8 @@ pub record FirstIs (image table : List ℕ) (s : Machine) (t i : ℕ) (l : Lock)
 
 abbrev pub FirstOf : List ℕ → List ℕ → Machine → ℕ → First → Type 0
 FirstOf image table s t Nothing = first t (s .trees) ≡ none
-FirstOf image table s t (Wait l u) = (i : ℕ) × FirstIs image table s t i l × Found (l .0) (set (s .threads) t idle) (Held u)
-FirstOf image table s t (Go i l) = FirstIs image table s t i l × Found (l .0) (set (s .threads) t idle) Free
-
-abbrev pub firstBy : ℕ → Lock → Holder → First
-firstBy i l (Held u) = Wait l u
-firstBy i l Free = Go i l
+FirstOf image table s t (Wait l u) = (i : ℕ) × FirstIs image table s t i l × HeldBy (l .0) (set (s .threads) t idle) u
+FirstOf image table s t (Go i l) = FirstIs image table s t i l × (held (l .0) (set (s .threads) t idle) ≡ false)
 
 -- an idle thread, which is w, can take the oldest signal of tree i of the bytes b
 pub record CanTake (b : List ℕ) (w : ThreadState) (i : ℕ) : Type 0 where
@@ -128,14 +123,17 @@ module _ {image table b : List ℕ} (h : Ready image table b) (t : ℕ) (rests :
             rw f (lock-below image table (passed image table [] (h .checked) .0) _ (oldest-below h i k some));
       }
 
-  -- by the other thread that holds the lock, if there is one
-  pub first-by : {i : ℕ} {l : Lock} → FirstIs image table s t i l → (x : Holder)
-      → x ≡ holderOf (holder (l .0) (set (s .threads) t idle)) → FirstOf image table s t (firstBy i l x)
-  first-by {i} {l} k x e = case x (subst (Found (l .0) (set (s .threads) t idle)) (sym e) (found s (h .canonical .sized .threads) (l .0) t))
-    where
-      case : (x : Holder) → Found (l .0) (set (s .threads) t idle) x → FirstOf image table s t (firstBy i l x)
-      case (Held u) q = (i, k, q)
-      case Free q = (k, q)
+  -- by the search for another thread that holds the lock: it finds u, or none
+  module _ {i : ℕ} {l : Lock} (k : FirstIs image table s t i l) (x : ℕ) (e : x ≡ holder (l .0) (set (s .threads) t idle)) where
+    pub first-waits : (u : Thread) → x < threadCount → u ≡ Sorts.thread x → FirstOf image table s t (Wait l u)
+    first-waits u z f = (
+      i,
+      k,
+      (held-by-other s (h .canonical .sized .threads) (l .0) t ∙ lt-ltb _ threadCount (rw e at z), f ∙ ap Sorts.thread e),
+    )
+
+    pub first-goes : threadCount ≤ x → FirstOf image table s t (Go i l)
+    first-goes z = (k, held-by-other s (h .canonical .sized .threads) (l .0) t ∙ le-ltb _ threadCount (rw e at z))
 
   -- ---- what its step comes to
 

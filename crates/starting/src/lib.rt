@@ -8,8 +8,8 @@ use pending_signals::take_oldest;
 use rules::answer::Answer;
 use rules::sorts::Lock;
 use rules::sorts::Thread;
+use rules::sorts::thread_of;
 use signal_records::Signal;
-use state::locks::Holder;
 use state::locks::other_holder;
 use threads::thread::ThreadState;
 use trees::list::first_tree;
@@ -43,10 +43,11 @@ pub fn first_signal(image: &[u8], table: &[u8], state: &[u8], t: Thread) -> Firs
         return First::Nothing;
     }
     let lock = lock_at(table, block_at(image, oldest_label(state, i)));
-    match other_holder(state, lock, t) {
-        Holder::Held(u) => First::Wait(lock, u),
-        Holder::Free => First::Go(i, lock),
+    let holder = other_holder(state, lock, t);
+    if holder < Thread::COUNT {
+        return First::Wait(lock, thread_of(holder as u8));
     }
+    First::Go(i, lock)
 }
 
 // The thread that the oldest signal of tree i makes of w, which is idle: it takes the signal's label, and the values fill registers 0

@@ -2,13 +2,13 @@
 use mathlib.Core.Path.{_≡_, refl, sym, ap, _∙_}
 use mathlib.Core.Bool.{Bool, true, false, cond, not, _||_}
 use mathlib.Core.List.{List, [], _∷_, _++_}
-use Prim.Native.Nat.{ℕ, suc, _+_, _≤_, _<_}
+use Prim.Native.Nat.{ℕ, suc, _+_, _<_}
 use native.Mathlib.Decide.{ℕ-discrete}
 use native.Mathlib.Omega.{arith}
 use lib.Dec.{eqb, ltb, leb·suc-suc}
 use lib.ListN.{length, getD, drop, set, length-set}
 use lib.Seq.{drop-drop, getD-set-same, getD-set-other}
-use borrow.Author.Tests.{eq-eqb, ne-eqb, lt-ltb, le-ltb}
+use borrow.Author.Tests.{eq-eqb, ne-eqb, lt-ltb}
 use Rattle.rules.specs.Sorts.{thread}
 use Rattle.rules.specs.Sizes.{threadCount, locksPlace}
 use Rattle.rules.specs.Bytes.{num16, has, firstBad}
@@ -21,20 +21,7 @@ use Rattle.encoding.specs.Layout.{thread-on}
 use Rattle.laws.specs.Sets.{has-none}
 use Rattle.threads.specs.Records.{threadPlace}
 use Rattle.encoding.specs.Encoded.{Encodes}
-use Rattle.state.specs.declared.locks.Holder.{Holder}
-use Rattle.state.specs.declared.locks.Holder.the-variants.{Held, Free}
-
--- the holder by its number, past which there is none
-unfoldable pub holderOf : ℕ → Holder
-holderOf n = cond (ltb n threadCount) (Held (thread n)) Free
-
-pub holder-held : (n : ℕ) → n < threadCount → Held (thread n) ≡ holderOf n
-unfolding holderOf
-holder-held n h = rw (lt-ltb n threadCount h)
-
-pub holder-free : (n : ℕ) → threadCount ≤ n → Free ≡ holderOf n
-unfolding holderOf
-holder-free n h = rw (le-ltb n threadCount h)
+use Rattle.rules.specs.declared.sorts.Thread as sorts
 
 -- thread i is the one left out, or does not hold the lock
 unfoldable pub passes : List ℕ → ℕ → ℕ → ℕ → Bool
@@ -91,20 +78,14 @@ held-is l (w ∷ ws) = go (has l (locksOf w)) (held-is l ws)
     go true ih = sym (lt-ltb 0 (suc (length ws)) (omega arith))
     go false ih = ih ∙ sym (leb·suc-suc (suc (holder l ws)) (length ws))
 
--- what a search among the threads ws finds: the lock is held, and by whom, or it is not
-abbrev pub Found : ℕ → List ThreadState → Holder → Type 0
-Found l ws (Held u) = (held l ws ≡ true) × (u ≡ thread (holder l ws))
-Found l ws Free = held l ws ≡ false
+-- a lock that the threads ws hold, and the thread that does
+abbrev pub HeldBy : ℕ → List ThreadState → sorts.Thread → Type 0
+HeldBy l ws u = (held l ws ≡ true) × (u ≡ thread (holder l ws))
 
--- it is so of the threads but t
-pub found : (s : Machine) → length (s .threads) ≡ threadCount → (l t : ℕ)
-    → Found l (set (s .threads) t idle) (holderOf (holder l (set (s .threads) t idle)))
-unfolding holderOf
-found s n l t =
-    let m : length (set (s .threads) t idle) ≡ threadCount = length-set (s .threads) t idle ∙ n in
-    go (ltb (holder l (set (s .threads) t idle)) threadCount) (held-is l (set (s .threads) t idle) ∙ rw m)
-  where
-    go : (b : Bool) → held l (set (s .threads) t idle) ≡ b
-        → Found l (set (s .threads) t idle) (cond b (Held (thread (holder l (set (s .threads) t idle)))) Free)
-    go true e = (e, refl)
-    go false e = e
+-- of the threads but t one holds a lock exactly if the search finds it
+module _ (s : Machine) (sized : length (s .threads) ≡ threadCount) (l t : ℕ) where
+  abbrev others : List ThreadState
+  others = set (s .threads) t idle
+
+  pub held-by-other : held l others ≡ ltb (holder l others) threadCount
+  held-by-other = held-is l others ∙ ap (ltb (holder l others)) (length-set (s .threads) t idle ∙ sized)

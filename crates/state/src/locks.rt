@@ -18,13 +18,7 @@ ghost use Rattle.rules.specs.Machine.{idle};
 ghost use Rattle.rules.specs.Walk.{holder};
 ghost use Rattle.rules.specs.Encoding.{machineFrom};
 ghost use Rattle.encoding.specs.Encoded.{Canonical};
-ghost use Rattle.state.specs.Locks.{passes, holderOf};
-
-// The thread that holds a lock, if one does.
-pub enum Holder {
-    Held(Thread),
-    Free,
-}
+ghost use Rattle.state.specs.Locks.{passes};
 
 // Whether the search for a holder passes thread t: it is the thread left out, or does not hold the lock.
 fn passed(state: &[u8], lock: Lock, out: Thread, t: Thread) -> bool
@@ -41,18 +35,17 @@ fn passed(state: &[u8], lock: Lock, out: Thread, t: Thread) -> bool
     (locks >> lock_number(lock)) % 2 != 1
 }
 
-// The first thread but t that holds a lock.
-pub fn other_holder(state: &[u8], lock: Lock, t: Thread) -> Holder
+// The first thread but t that holds a lock, by its number; the number of threads where there is none.
+pub fn other_holder(state: &[u8], lock: Lock, t: Thread) -> usize
     requires { ⌜ Canonical (now state) × (lock .0 < lockCount) ⌝ }
-    ensures { λ r. ⌜ r ≡ holderOf (holder (lock .0) (set (machineFrom (now (state .entry)) .threads) (t .0) idle)) ⌝ }
+    ensures { λ r. ⌜ r ≡ holder (lock .0) (set (machineFrom (now (state .entry)) .threads) (t .0) idle) ⌝ }
 {
     let mut i = 0;
     while i < Thread::COUNT {
-        let u = thread_of(i as u8);
-        if !passed(state, lock, t, u) {
-            return Holder::Held(u);
+        if !passed(state, lock, t, thread_of(i as u8)) {
+            return i;
         }
         i += 1;
     }
-    Holder::Free
+    i
 }

@@ -1,4 +1,4 @@
-use mathlib.Core.Path.{sym, _∙_}
+use mathlib.Core.Path.{_∙_}
 use Prim.Native.Nat.{_<_}
 use lib.ListN.{length}
 use native.Mathlib.Omega.{arith}
@@ -7,7 +7,7 @@ use Rattle.rules.specs.Image.{labels}
 use Rattle.rules.specs.Encoding.{machineFrom}
 use Rattle.encoding.specs.FirstTree.{first-none}
 use Rattle.ending.specs.Home.{oldest-below, block-inside, table-long}
-use Rattle.starting.specs.Starting.{FirstIs, idle-pending, first-is, first-by}
+use Rattle.starting.specs.Starting.{FirstIs, idle-pending, first-is, first-waits, first-goes}
 use Rattle.starting.proofs.first_signal.Statement.{statement}
 use Rattle.starting.proofs.first_signal.Tie as tie
 
@@ -71,15 +71,17 @@ other-holder-requires c κs = (
 
 returns-2 : tie.Need-returns-2
 returns-2 c =
-    let s = c .before .before .before .before .before .before .before .before .before .before .before .before .before in
-    first-by (s .pre .0) (s .args .t .0) (s .pre .1) (first (c .before .before .before .before)) _
-    (sym (c .before .u .given .1) ∙ c .before .before .before .other-holder .ensures)
+    let o = c .before .before in
+    let s = o .before .before .before .before .before .before .before .before .before .before in
+    first-waits (s .pre .0) (s .args .t .0) (s .pre .1) (first (o .before)) (o .other-holder .result) (o .other-holder .ensures) _
+    (c .before .if2 .taken) (c .thread-of .ensures)
 
 returns-3 : tie.Need-returns-3
 returns-3 c =
-    let s = c .before .before .before .before .before .before .before .before .before .before .before .before in
-    first-by (s .pre .0) (s .args .t .0) (s .pre .1) (first (c .before .before .before)) _
-    (sym (c .enum-told .given .1) ∙ c .before .before .other-holder .ensures)
+    let o = c .before in
+    let s = o .before .before .before .before .before .before .before .before .before .before in
+    first-goes (s .pre .0) (s .args .t .0) (s .pre .1) (first (o .before)) (o .other-holder .result) (o .other-holder .ensures)
+    (omega (arith, c .if2 .left))
 
 pub first-signal-spec : {M : Type 1} → statement M
 first-signal-spec =
@@ -92,7 +94,7 @@ first-signal-spec =
     block-at-requires
     lock-at-requires
     other-holder-requires
-    (λ c. search needs)
-    (λ c. search needs)
+    (λ c. omega arith)
+    (λ c κs. search needs)
     returns-2
     returns-3)

@@ -1,15 +1,10 @@
 use borrow.Author.Needs.{needs}
-use mathlib.Core.Path.{_≡_, ap, _∙_}
+use mathlib.Core.Path.{_∙_}
 use Prim.Native.Nat.{_-_}
 use native.Mathlib.Omega.{arith}
-use lib.ListN.{set}
 use Rattle.rules.specs.Sizes.{threadCount}
-use Rattle.rules.specs.Machine.{idle}
-use Rattle.rules.specs.Encoding.{machineFrom}
-use Rattle.rules.specs.Walk.{holder}
 use Rattle.fields.specs.Tests.{Searching, begin, none, next, here}
-use Rattle.state.specs.declared.locks.Holder.the-variants.{Held}
-use Rattle.state.specs.Locks.{passes, holder-found, holderOf, holder-held, holder-free}
+use Rattle.state.specs.Locks.{passes, holder-found}
 use Rattle.state.proofs.locks.other_holder.Statement.{statement}
 use Rattle.state.proofs.locks.other_holder.Tie as tie
 
@@ -35,10 +30,8 @@ returns c =
     let s = c .before .before .before .before .before .before in
     let l = c .before .before .before .before .loop in
     let e = rw (c .before .before .thread-of .ensures) at (c .before .passed .ensures) in
-    let p : l .i ≡ holder (s .args .lock .0) (set (machineFrom (s .args .state .now) .threads) (s .args .t .0) idle) =
     here _ threadCount _ (l .inv) _ (c .before .before .before .loop-test .taken) e (c .if1 .taken)
-    ∙ holder-found _ _ (s .pre .0) (s .args .lock .0) (s .args .t .0) in
-    ap Held (c .before .before .thread-of .ensures) ∙ holder-held (l .i) (c .before .before .before .loop-test .taken) ∙ ap holderOf p
+    ∙ holder-found _ _ (s .pre .0) (s .args .lock .0) (s .args .t .0)
 
 loop-again : tie.Need-loop-again Inv-loop μ-loop
 loop-again c =
@@ -48,9 +41,7 @@ loop-again c =
 returns-2 : tie.Need-returns-2 Inv-loop μ-loop
 returns-2 c =
     let s = c .before .before .before in
-    let p : c .before .loop .i ≡ holder (s .args .lock .0) (set (machineFrom (s .args .state .now) .threads) (s .args .t .0) idle) =
-    none _ threadCount _ (c .before .loop .inv) (c .loop-test .left) ∙ holder-found _ _ (s .pre .0) (s .args .lock .0) (s .args .t .0) in
-    holder-free (c .before .loop .i) (omega arith) ∙ ap holderOf p
+    none _ threadCount _ (c .before .loop .inv) (c .loop-test .left) ∙ holder-found _ _ (s .pre .0) (s .args .lock .0) (s .args .t .0)
 
 pub other-holder-spec : {M : Type 1} → statement M
 other-holder-spec =
