@@ -14,7 +14,7 @@ all: $(LIBRARY) build/plex build/demo
 
 # the library is built from the proved crates: rt proves what changed and nothing else
 $(LIBRARY): $(shell find crates -name '*.rt' -o -name '*.antt' 2>/dev/null) crates.txt | build
-	sh tools/library.sh
+	flock build/library.lock sh tools/library.sh
 
 build:
 	mkdir -p build
@@ -131,9 +131,9 @@ soak: $(LIBRARY) | build
 replay: $(LIBRARY) | build
 	$(COMPARE) replay $(SEED)
 
-# after the proofs two rows of tests, side by side: those of the toolchains, and those of the C hosts
+# after the proofs two rows of tests, side by side: those of the toolchains, and those of the C hosts. Both make the library, one after
+# the other
 test: prove
-	$(MAKE) --no-print-directory $(LIBRARY)
 	MAKEFLAGS= $(MAKE) --no-print-directory -j2 -O toolchains hosts
 	@tail -n 1 build/ci.log
 

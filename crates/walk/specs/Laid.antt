@@ -1,24 +1,15 @@
 -- A walk written into bytes, one thread at a time.
-use mathlib.Core.Bool.{Bool, false, cond, _||_}
+use mathlib.Core.Bool.{cond}
 use mathlib.Core.Option.{Option}
-use mathlib.Core.List.{List, [], _∷_, _++_}
+use mathlib.Core.List.{List, _++_}
 use Prim.Native.Nat.{ℕ, _+_, _-_}
-use lib.Dec.{eqb}
 use lib.ListN.{length, take, drop}
 use Rattle.rules.specs.Sizes.{threadCount}
 use Rattle.rules.specs.Walk.{Walk, walkOn}
 
--- a byte that no thread is written to, and what a closed ring adds to the count
-abbrev pub unusedByte : ℕ
-unusedByte = 255
-
+-- what a closed ring adds to the count
 abbrev pub ringCount : ℕ
 ringCount = 256
-
--- t is in the list
-unfoldable pub among : ℕ → List ℕ → Bool
-among t [] = false
-among t (x ∷ l) = eqb x t || among t l
 
 -- n threads are in the bytes already, and the rest of the walk is laid behind them
 abbrev pub laidBehind : ℕ → List ℕ → Walk → List ℕ

@@ -9,8 +9,8 @@ use Prim.Native.Nat.{ℕ, zero, suc, _+_, _-_, _≤_, _<_}
 use native.Mathlib.Numerals.{add-one}
 use native.Mathlib.Omega.{arith}
 use lib.Dec.{eqb}
-use lib.ListN.{length, getD, set, take, drop, replicate, take-append-drop}
-use lib.Seq.{drop-cons, set-split, take-suc-set, drop-set-lt}
+use lib.ListN.{length, set, take, drop, replicate, take-append-drop}
+use lib.Seq.{set-split, take-suc-set, drop-set-lt}
 use borrow.Author.Tests.{eq-eqb, eqb-true}
 use Rattle.rules.specs.Sizes.{threadCount}
 use Rattle.rules.specs.Walk.{Walk, walk, walkOn, mem?, onto, metCount, metBytes}
@@ -18,21 +18,10 @@ use Rattle.rules.specs.declared.sorts.Thread.{Thread}
 use Rattle.awaiting.specs.Waiting.{waitsOf}
 use Rattle.awaiting.specs.declared.Waits.{Waits}
 use Rattle.awaiting.specs.declared.Waits.the-variants.{For, Nobody}
-use Rattle.walk.specs.Laid.{unusedByte, ringCount, among, laidBehind, counted, walkRest}
+use Rattle.met_threads.specs.Met.{unusedByte, among}
+use Rattle.walk.specs.Laid.{ringCount, laidBehind, counted, walkRest}
 
--- ---- among the bytes
-
-pub among-step : (out : List ℕ) (t n k : ℕ) → k < n → n ≤ length out
-    → among t (take (n - k) (drop k out)) ≡ eqb (getD out k 0) t || among t (take (n - (k + 1)) (drop (k + 1) out))
-unfolding among
-among-step out t n k h l =
-    let e : n - k ≡ suc (n - (k + 1)) = omega arith in
-    let m : k < length out = omega arith in
-    rw (e, drop-cons out k 0 m, add-one) refl
-
-pub among-none : (out : List ℕ) (t n k : ℕ) → n ≤ k → among t (take (n - k) (drop k out)) ≡ false
-unfolding among
-among-none out t n k h = let e : n - k ≡ 0 = omega arith in rw e refl
+-- ---- among the threads met
 
 among-mem : (t : ℕ) (l : List ℕ) → List·Memᴰ t l → among t l ≡ true
 unfolding among

@@ -17,7 +17,7 @@ use Rattle.walk.proofs.walk_on.Kinds as walk-on-kinds
 use Rattle.walk.proofs.+walk_on.Lts-walk_on as walk-on-lts
 use Rattle.awaiting.proofs.awaited.Reads as awaited-reads
 use Rattle.rules.proofs.sorts.thread_number.Reads as thread-number-reads
-use Rattle.walk.proofs.is_met.Reads as is-met-reads
+use Rattle.met_threads.proofs.is_met.Reads as is-met-reads
 use Rattle.walk.proofs.+walk_on.{statement}
 use Rattle.walk.proofs.+walk_on.Tie.{close}
 

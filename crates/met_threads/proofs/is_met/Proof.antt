@@ -6,10 +6,9 @@ use native.Mathlib.Omega.{arith}
 use Prim.Native.Nat.{_≤_, _-_}
 use lib.Dec.{eqb}
 use lib.ListN.{getD, take, drop}
-use Rattle.walk.specs.Laid.{among}
-use Rattle.walk.specs.Walking.{among-step, among-none}
-use Rattle.walk.proofs.is_met.Statement.{statement}
-use Rattle.walk.proofs.is_met.Tie as tie
+use Rattle.met_threads.specs.Met.{among, among-step, among-none}
+use Rattle.met_threads.proofs.is_met.Statement.{statement}
+use Rattle.met_threads.proofs.is_met.Tie as tie
 
 abbrev Inv-loop : tie.InvT-loop
 Inv-loop met n number k₀ k = (k ≤ n) × (among number (take n met) ≡ among number (take (n - k) (drop k met)))
