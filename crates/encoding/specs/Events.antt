@@ -8,9 +8,9 @@ use lib.Dec.{eqb, leb, ltb}
 use lib.ListN.{length, getD, take, drop, replicate, length-drop}
 use lib.Seq.{getD-drop, take-all}
 use borrow.Author.Tests.{eqb-true, ltb-true}
-use Rattle.rules.specs.Sizes.{threadCount, registerCount, valuesPlace, signalSize, eventSize}
+use Rattle.rules.specs.Sizes.{threadCount, registerCount, valuesPlace, signalSize, eventSize, valueCountPlace}
 use Rattle.rules.specs.Sizes.{eventKindPlace, eventThreadPlace, eventSignalPlace}
-use Rattle.rules.specs.Codes.{arrivalCode}
+use Rattle.rules.specs.Codes.{arrivalCode, externalCode}
 use Rattle.rules.specs.Bytes.{num16, part, isZeros, blocks}
 use Rattle.rules.specs.Image.{entry, recordAt}
 use Rattle.rules.specs.Encoding.{noSignal, signalBytes, signalFrom}
@@ -44,21 +44,22 @@ pub data EventRead (b : List ℕ) : Type 0 where
   turned : eqb (getD b eventKindPlace 0) arrivalCode ≡ false → getD b eventKindPlace 0 ≡ kindCode (kindOf (getD b eventKindPlace 0))
       → getD b eventThreadPlace 0 < threadCount → part b eventSignalPlace signalSize ≡ replicate signalSize 0 → EventRead b
 
-arrival-read : (image b : List ℕ) → arrivalOk image b ≡ true → (getD b 1 0 ≡ 0) × (signalTidy (drop 2 b) ≡ true)
+arrival-read : (image b : List ℕ) → arrivalOk image b ≡ true
+    → (getD b eventThreadPlace 0 ≡ 0) × (signalTidy (drop eventSignalPlace b) ≡ true)
 unfolding arrivalOk signalTidy
 arrival-read image b e =
-    let n = getD b 4 0 in
-    let thread = eqb (getD b 1 0) 0 in
-    let label = eqb (entry (recordAt image (num16 (drop 2 b)))) 3 in
+    let n = getD b (eventSignalPlace + valueCountPlace) 0 in
+    let thread = eqb (getD b eventThreadPlace 0) 0 in
+    let label = eqb (entry (recordAt image (num16 (drop eventSignalPlace b)))) externalCode in
     let rest = part b (eventSignalPlace + valuesPlace + 2 * n) (2 * (registerCount - n)) in
     let t = and-both (thread && label && leb n registerCount) (isZeros rest) e in
     let u = and-both (thread && label) (leb n registerCount) (t .0) in
     let v = and-both thread label (u .0) in
-    let f : 2 + (3 + 2 * n) ≡ 5 + 2 * n = omega arith in
-    (eqb-true (getD b 1 0) 0 (v .0), rw (getD-drop, part-drop, f) (both-hold (leb n registerCount) _ (u .1) (t .1)))
+    let f : eventSignalPlace + (valuesPlace + 2 * n) ≡ eventSignalPlace + valuesPlace + 2 * n = omega arith in
+    (eqb-true (getD b eventThreadPlace 0) 0 (v .0), rw (getD-drop, part-drop, f) (both-hold (leb n registerCount) _ (u .1) (t .1)))
 
 turn-read : (b : List ℕ) → eventSize ≤ length b → turnOk b ≡ true
-    → (getD b 1 0 < threadCount) × (part b 2 signalSize ≡ replicate signalSize 0)
+    → (getD b eventThreadPlace 0 < threadCount) × (part b eventSignalPlace signalSize ≡ replicate signalSize 0)
 unfolding turnOk
 turn-read b l e =
     let t = and-both (ltb (getD b eventThreadPlace 0) threadCount) (isZeros (part b eventSignalPlace signalSize)) e in
@@ -83,25 +84,25 @@ event-read image b l e = go (eqb kind arrivalCode) refl e
 
 -- ---- an event that breaks no rule
 
-event-glue : (b : List ℕ) (k t : ℕ) (x : List ℕ) → eventSize ≤ length b → k ≡ getD b 0 0 → t ≡ getD b 1 0 → x ≡ part b 2 signalSize
-    → k ∷ t ∷ x ≡ take eventSize b
+event-glue : (b : List ℕ) (k t : ℕ) (x : List ℕ) → eventSize ≤ length b → k ≡ getD b eventKindPlace 0 → t ≡ getD b eventThreadPlace 0
+    → x ≡ part b eventSignalPlace signalSize → k ∷ t ∷ x ≡ take eventSize b
 unfolding part
 event-glue b k t x l ek et ex =
-    glue b 0 1 54 (k ∷ []) (t ∷ x) (rw ek (byte-forth b 0 (omega arith)))
-    (glue b 1 1 53 (t ∷ []) x (rw et (byte-forth b 1 (omega arith))) ex)
+    glue b eventKindPlace 1 (1 + signalSize) (k ∷ []) (t ∷ x) (rw ek (byte-forth b eventKindPlace (omega arith)))
+    (glue b eventThreadPlace 1 signalSize (t ∷ []) x (rw et (byte-forth b eventThreadPlace (omega arith))) ex)
 
 read-forth : (b : List ℕ) → AreBytes b → eventSize ≤ length b → EventRead b → eventBytes (eventFrom b) ≡ take eventSize b
 unfolding eventFrom eventBytes part
 read-forth b h l (arrival k t e) =
     rw k
-    (event-glue b 1 0 (signalBytes (signalFrom (drop 2 b))) l (sym k) (sym t)
-    (signal-forth (drop 2 b) (bytes-drop b 2 h) (simp length-drop (omega arith)) e))
+    (event-glue b arrivalCode 0 (signalBytes (signalFrom (drop eventSignalPlace b))) l (sym k) (sym t)
+    (signal-forth (drop eventSignalPlace b) (bytes-drop b eventSignalPlace h) (simp length-drop (omega arith)) e))
 read-forth b h l (turned n k t z) =
     rw n (event-glue b _ (getD b eventThreadPlace 0) (signalBytes noSignal) l (sym k) refl (no-signal ∙ sym z))
 
 read-sized : (b : List ℕ) → eventSize ≤ length b → EventRead b → SizedEvent (eventFrom b)
 unfolding eventFrom
-read-sized b l (arrival k t e) = rw k (signal-sized (drop 2 b) (simp length-drop (omega arith)) e)
+read-sized b l (arrival k t e) = rw k (signal-sized (drop eventSignalPlace b) (simp length-drop (omega arith)) e)
 read-sized b l (turned n k t z) = rw n tt
 
 read-valid : (b : List ℕ) → EventRead b → Valid (eventFrom b)
