@@ -74,7 +74,7 @@ returns-2 c =
     let o = c .before .before in
     let s = o .before .before .before .before .before .before .before .before .before .before in
     first-waits (s .pre .0) (s .args .t .0) (s .pre .1) (first (o .before)) (o .other-holder .result) (o .other-holder .ensures) _
-    (c .before .if2 .taken) (c .thread-of .ensures)
+    (omega (arith, c .before .if2 .taken)) (c .thread-of .ensures)
 
 returns-3 : tie.Need-returns-3
 returns-3 c =
