@@ -63,7 +63,7 @@ bench: build/bench
 # ---- the tests
 
 # the gate of the proofs, from nothing; what it says is kept for the closing line. Crates and edits are taken in batches, each as long as
-# its longest: twice as many in a batch as there are processors leaves none idle for long
+# its longest: twice as many in a batch as there are processors, so that short ones fill up a level
 RT_JOBS ?= $(shell expr 2 '*' `nproc`)
 prove: | build
 	RT_JOBS=$(RT_JOBS) rt ci >build/ci.log 2>&1; status=$$?; cat build/ci.log; exit $$status
