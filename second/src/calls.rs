@@ -1,12 +1,15 @@
-//! The four calls of the host. A refused call alters no lent byte: every test
+//! The calls of the host. A refused call alters no lent byte: every test
 //! comes before the first write.
 
+use crate::encode::image_bytes;
 use crate::events::{Answer, Event};
-use crate::image::Program;
+use crate::image::{Program, Record};
+use crate::link::linked;
 use crate::refusal::Refusal;
 use crate::sorts::Thread;
 use crate::state::State;
 use crate::step::carry_out;
+use crate::table::Table;
 use crate::waits::walk_on;
 
 /// Bytes the walk writes into.
@@ -34,8 +37,14 @@ pub fn walk(image: &[u8], table: &[u8], state: &[u8], thread: u32, met: &mut [u8
     returned(try_walk(image, table, state, thread, met))
 }
 
+/// Writes to `out` the second image laid behind the first, both for one table
+/// (document 02, #101): 0, or the refusal.
+pub fn link(first: &[u8], second: &[u8], table: &[u8], out: &mut [u8]) -> u32 {
+    returned(try_link(first, second, table, out))
+}
+
 fn returned(result: Result<u32, Refusal>) -> u32 {
-    result.unwrap_or_else(Refusal::code)
+    result.unwrap_or_else(u32::from)
 }
 
 fn try_fresh(image: &[u8], table: &[u8], words: &[u8], state: &mut [u8]) -> Result<u32, Refusal> {
@@ -85,4 +94,17 @@ fn try_walk(
         *byte = thread.number();
     }
     Ok(threads.len() as u32 + if ring { 256 } else { 0 })
+}
+
+/// The tests go by number, and within a number the first image comes first.
+fn try_link(first: &[u8], second: &[u8], table: &[u8], out: &mut [u8]) -> Result<u32, Refusal> {
+    let (first, second) = (Record::parts(first)?, Record::parts(second)?);
+    Table::decode(table)?;
+    let (first, second) = (Record::decode_list(&first)?, Record::decode_list(&second)?);
+    let image = image_bytes(&linked(first, second)?);
+    if out.len() != image.len() {
+        return Err(Refusal::LinkedLength);
+    }
+    out.copy_from_slice(&image);
+    Ok(0)
 }

@@ -36,6 +36,29 @@ pub struct Record {
 impl Record {
     pub const WIDTH: usize = 84;
 
+    /// The image's part for each record, if its length is right.
+    pub fn parts(image: &[u8]) -> Result<Vec<&[u8]>, Refusal> {
+        let parts = image.chunks_exact(Record::WIDTH);
+        let count = parts.len();
+        if !parts.remainder().is_empty() || !(1..=Program::LIMIT).contains(&count) {
+            return Err(Refusal::ImageLength);
+        }
+        Ok(parts.collect())
+    }
+
+    /// The records of an image, if each keeps every rule.
+    pub fn decode_list(parts: &[&[u8]]) -> Result<Vec<Record>, Refusal> {
+        let headings: Vec<Heading> = parts.iter().map(|part| Heading::decode(part)).collect();
+        let labels = (0..).map_while(|number| Label::below(number, parts.len()));
+        labels
+            .zip(parts)
+            .map(|(label, part)| {
+                Record::decode(part, &headings, &headings[label.index()])
+                    .ok_or(Refusal::Record(label))
+            })
+            .collect()
+    }
+
     fn decode(bytes: &[u8], headings: &[Heading], own: &Heading) -> Option<Record> {
         let (block, entry) = (own.block?, own.entry?);
         let mut reader = Reader::new(bytes);
@@ -64,23 +87,13 @@ pub struct Program {
 impl Program {
     /// Records of one image.
     pub const LIMIT: usize = 512;
+    /// Bytes of the longest image.
+    pub const LENGTH_LIMIT: usize = Record::WIDTH * Program::LIMIT;
 
     pub fn decode(image: &[u8], table: &[u8]) -> Result<Program, Refusal> {
-        let count = image.len() / Record::WIDTH;
-        if image.len() != count * Record::WIDTH || !(1..=Program::LIMIT).contains(&count) {
-            return Err(Refusal::ImageLength);
-        }
+        let parts = Record::parts(image)?;
         let table = Table::decode(table)?;
-        let parts = || image.chunks(Record::WIDTH);
-        let headings: Vec<Heading> = parts().map(Heading::decode).collect();
-        let labels = (0..).map_while(|number| Label::below(number, count));
-        let records = labels
-            .zip(parts())
-            .map(|(label, part)| {
-                Record::decode(part, &headings, &headings[label.index()])
-                    .ok_or(Refusal::Record(label))
-            })
-            .collect::<Result<_, _>>()?;
+        let records = Record::decode_list(&parts)?;
         Ok(Program { table, records })
     }
 

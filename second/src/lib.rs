@@ -6,11 +6,14 @@
 
 mod bytes;
 mod calls;
+mod encode;
 mod events;
 mod form;
 pub mod generate;
 mod image;
 mod job;
+mod link;
+mod linked_guest;
 mod one_by_one;
 mod refusal;
 mod registers;
@@ -24,5 +27,6 @@ mod tree;
 mod trials;
 mod waits;
 
-pub use calls::{check, fresh, run, walk};
+pub use calls::{check, fresh, link, run, walk};
+pub use linked_guest::{relocated_events, relocated_state};
 pub use one_by_one::second_order;

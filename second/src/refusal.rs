@@ -17,12 +17,18 @@ pub enum Refusal {
     WordsLength,
     WalkThread,
     WalkBuffer,
+    /// Both images to be linked name the same block.
+    CommonBlock,
+    /// More records result from linking than an image may have.
+    LinkedCount,
+    /// The output is not as long as the linked image.
+    LinkedLength,
 }
 
-impl Refusal {
+impl From<Refusal> for u32 {
     /// 65,536 x number + place.
-    pub fn code(self) -> u32 {
-        let (number, place) = match self {
+    fn from(refusal: Refusal) -> u32 {
+        let (number, place) = match refusal {
             Refusal::ImageLength => (1, 0),
             Refusal::TableLength => (2, 0),
             Refusal::TableField(block) => (3, u32::from(block.number())),
@@ -35,6 +41,9 @@ impl Refusal {
             Refusal::WordsLength => (10, 0),
             Refusal::WalkThread => (11, 0),
             Refusal::WalkBuffer => (12, 0),
+            Refusal::CommonBlock => (13, 0),
+            Refusal::LinkedCount => (14, 0),
+            Refusal::LinkedLength => (15, 0),
         };
         65_536 * number + place
     }

@@ -15,6 +15,12 @@ impl Label {
         self.0
     }
 
+    /// Makes it the label that its record has behind `by` more records; an
+    /// image has at most 512, so the sum stays in range.
+    pub fn relocate(&mut self, by: u16) {
+        self.0 += by;
+    }
+
     pub fn index(self) -> usize {
         usize::from(self.0)
     }
@@ -31,6 +37,11 @@ impl Block {
 
     pub fn new(number: u8) -> Option<Block> {
         (usize::from(number) < Block::COUNT).then_some(Block(number))
+    }
+
+    /// Every block, 0 first.
+    pub fn all() -> impl Iterator<Item = Block> {
+        (0..).map_while(Block::new)
     }
 
     pub fn number(self) -> u8 {

@@ -47,6 +47,28 @@ pub enum Statement {
     Exit,
 }
 
+impl Statement {
+    /// Shifts every label the statement names by `by` records.
+    pub fn relocate(&mut self, by: u16) {
+        self.labels().into_iter().for_each(|label| label.relocate(by));
+    }
+
+    fn labels(&mut self) -> Vec<&mut Label> {
+        match self {
+            Statement::Skip { on } | Statement::Assign { on, .. } | Statement::Goto { on } => {
+                vec![on]
+            }
+            Statement::If { holds, fails, .. } => vec![holds, fails],
+            Statement::SendDirect { signal, .. } | Statement::Transfer { signal, .. } => {
+                vec![signal]
+            }
+            Statement::SendBuffered { signal, on, .. } => vec![signal, on],
+            Statement::Call { signal, back, .. } => vec![signal, back],
+            Statement::Return { .. } | Statement::Exit => Vec::new(),
+        }
+    }
+}
+
 /// Data operands of one signal: as many as there are registers.
 pub const OPERANDS: usize = Registers::COUNT;
 pub const OPERAND_WIDTH: usize = 3;

@@ -27,8 +27,7 @@ impl Table {
             return Err(Refusal::TableLength);
         }
         let mut reader = Reader::new(bytes);
-        let rows = (0..)
-            .map_while(Block::new)
+        let rows = Block::all()
             .map(|block| Row::read(&mut reader).ok_or(Refusal::TableField(block)))
             .collect::<Result<_, _>>()?;
         Ok(Table { rows })

@@ -1,13 +1,13 @@
 -- The laws of tests that are joined, and of tests over runs of numbers.
-use mathlib.Core.Path.{_≡_, refl}
+use mathlib.Core.Path.{_≡_, refl, sym, ap, _∙_}
 use mathlib.Core.Logic.{⊎-elim}
-use mathlib.Core.Bool.{Bool, true, false, cond, _&&_, and-assoc, and-true, and-false}
+use mathlib.Core.Bool.{Bool, true, false, cond, _&&_, _||_, and-assoc, and-true, and-false, or-assoc, or-true, or-false}
 use Prim.Native.Nat.{ℕ, zero, suc, _+_, _*_, _-_, _≤_, _<_}
 use native.Mathlib.Nat.{add-zero, zero-add, suc-add, eq-or-lt-of-le}
 use native.Mathlib.Omega.{arith}
 use lib.Dec.{eqb}
 use borrow.Author.Tests.{eq-eqb, ne-eqb}
-use Rattle.rules.specs.Bytes.{allFrom, firstBad}
+use Rattle.rules.specs.Bytes.{allFrom, anyFrom, firstBad}
 
 left : (a b : Bool) → (a && b) ≡ true → a ≡ true
 left true b e = refl
@@ -116,3 +116,23 @@ good-before f i (suc n) j h l = go (f i) refl l (good-before f (i + 1) n j)
     go : (b : Bool) → f i ≡ b → j < cond b (firstBad f (i + 1) n) i → (i + 1 ≤ j → j < firstBad f (i + 1) n → f j ≡ true) → f j ≡ true
     go true e k more = ⊎-elim (λ p. rw (← p) e) (λ q. more (omega arith) k) (eq-or-lt-of-le h)
     go false e k more = absurd (omega arith)
+
+-- a test holds of one of a run's numbers, or of the next
+pub any-more : (f : ℕ → Bool) (i n : ℕ) → anyFrom f i (n + 1) ≡ (anyFrom f i n || f (i + n))
+unfolding anyFrom
+any-more f i zero = rw (add-zero i) (or-false (f i))
+any-more f i (suc n) =
+    let e : i + 1 + n ≡ i + suc n = omega arith in
+    rw (suc-add, any-more f (i + 1) n, e) (sym (or-assoc (f i) (anyFrom f (i + 1) n) (f (i + suc n))))
+
+-- it holds of one exactly if it does not fail at each
+pub any-at : (f : ℕ → Bool) (i n k : ℕ) → f k ≡ true → i ≤ k → k < i + n → anyFrom f i n ≡ true
+unfolding anyFrom
+any-at f i zero k e h l = absurd (omega arith)
+any-at f i (suc n) k e h l =
+    ⊎-elim (λ p. let g : f i ≡ true = ap f p ∙ e in rw g) (λ q. rw (any-at f (i + 1) n k e (omega arith) (omega arith)) (or-true (f i))) (eq-or-lt-of-le h)
+
+pub any-none : (f : ℕ → Bool) (i n : ℕ) → ((k : ℕ) → i ≤ k → k < i + n → f k ≡ false) → anyFrom f i n ≡ false
+unfolding anyFrom
+any-none f i zero h = refl
+any-none f i (suc n) h = rw (h i (omega arith) (omega arith), any-none f (i + 1) n (λ k p q. h k (omega arith) (omega arith)))

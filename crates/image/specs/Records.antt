@@ -7,7 +7,7 @@ use native.Mathlib.Omega.{arith}
 use lib.Dec.{leb, eqb}
 use lib.ListN.{length, getD, take, drop, length-drop}
 use lib.Seq.{length-take-le, getD-take, getD-drop}
-use borrow.Author.Tests.{leb-true, lt-ltb, le-ltb}
+use borrow.Author.Tests.{eqb-true, leb-true, lt-ltb, le-ltb}
 use Rattle.rules.specs.Sizes.{recordCount, recordSize}
 use Rattle.rules.specs.Image.{labels, recordAt}
 
@@ -29,6 +29,22 @@ labels-fit s = omega (
   cond-le (eqb (length s) (recordSize * (length s / recordSize)) && leb (length s / recordSize) recordCount)
       (length s / recordSize) (length s / recordSize) (omega arith),
 )
+
+-- an image that has records has nothing behind them
+whole : (a : Bool) (n q : ℕ) → 0 < cond a q 0 → (a ≡ true → n ≡ recordSize * q) → n ≡ recordSize * cond a q 0
+whole true n q h k = k refl
+whole false n q h k = absurd (omega arith)
+
+pub labels-whole : (s : List ℕ) → 0 < labels s → length s ≡ recordSize * labels s
+unfolding labels
+labels-whole s h =
+    let n = length s / recordSize in
+    whole (eqb (length s) (recordSize * n) && leb n recordCount) (length s) n h
+    (λ e. eqb-true (length s) (recordSize * n) (first-holds (eqb (length s) (recordSize * n)) (leb n recordCount) e))
+  where
+    first-holds : (a b : Bool) → (a && b) ≡ true → a ≡ true
+    first-holds true b e = refl
+    first-holds false b e = e
 
 small : (a b : Bool) (q : ℕ) → (b ≡ true → q ≤ recordCount) → cond (a && b) q 0 ≤ recordCount
 small true true q h = h refl

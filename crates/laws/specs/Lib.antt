@@ -5,6 +5,7 @@ pub mod Logic
 pub mod EventLists
 -- the parts of the machine: lock sets, job trees, shared words
 pub mod Sets
+pub mod Disjoint
 pub mod Locks
 pub mod Trees
 pub mod Words

@@ -12,7 +12,7 @@ use Rattle.rules.specs.Sizes.{threadCount, blockKindCount, lockCount, blockCoun
 use Rattle.rules.specs.Bytes.{allFrom, every}
 use Rattle.rules.specs.Image.{labels, recordAt, blockField, labelA, labelB, Row, rowAt, fieldAt, threadField, kindField}
 use Rattle.rules.specs.Statements.{statementOf, roleA, roleB}
-use Rattle.rules.specs.Check.{headOk, slotOk, labelOk, ruleOk, recordOk, fieldOk, rowOk, firstOf, imageFaults, imageLengthFault}
+use Rattle.rules.specs.Check.{headOk, slotOk, labelOk, ruleOk, recordOk, fieldOk, rowOk, firstOf, imageFaults, imagesFaults, imageLengthFault, Checked}
 use Rattle.rules.specs.Check.{tableLengthFault, tableFault, recordFault}
 use Rattle.laws.specs.Logic.{and-both}
 use Rattle.laws.specs.Faults.{first-of-zero, refusal-zero, fault-free}
@@ -40,6 +40,31 @@ passed image table more h =
       },
       four .1,
     )
+
+-- an image and a table to which none of 1 to 4 applies
+pub checked-by : (image table : List ℕ) → imageLengthFault image ≡ 0 → tableLengthFault table ≡ 0 → tableFault table ≡ 0
+    → recordFault image ≡ 0
+    → Checked image table
+unfolding firstOf
+checked-by image table a b c d = rw (a, b, c, d) refl
+
+-- of a call that takes two images: both pass
+pub both-checked : (first second table more : List ℕ) → firstOf (imagesFaults first second table more) ≡ 0
+    → Checked first table × Checked second table × (firstOf more ≡ 0)
+both-checked first second table more h =
+    let a = first-of-zero _ _ h in
+    let b = first-of-zero _ _ (a .1) in
+    let c = first-of-zero _ _ (b .1) in
+    let d = first-of-zero _ _ (c .1) in
+    let e = first-of-zero _ _ (d .1) in
+    let f = first-of-zero _ _ (e .1) in
+    (checked-by first table (a .0) (c .0) (d .0) (e .0), checked-by second table (b .0) (c .0) (d .0) (f .0), f .1)
+
+pub both-passed : (first second table more : List ℕ) → firstOf (imagesFaults first second table more) ≡ 0
+    → Passed first table × Passed second table × (firstOf more ≡ 0)
+both-passed first second table more h =
+    let k = both-checked first second table more h in
+    (passed first table [] (k .0) .0, passed second table [] (k .1) .0, k .2)
 
 -- the fields of a row, each in range
 pub record RowIn (r : Row) : Type 0 where

@@ -1,13 +1,14 @@
--- Sets of locks, bit l for lock l: the empty set has none; a lock that is added is in it, and adding it changes nothing for the others.
-use mathlib.Core.Path.{_≡_, ap, _∙_}
+-- Sets of numbers, bit l for number l: the empty set has none; a number that is added is in it, and adding it changes nothing for the others.
+use mathlib.Core.Path.{_≡_, refl, sym, ap, _∙_}
 use mathlib.Core.Logic.{_≢_}
-use mathlib.Core.Bool.{true, false}
+use mathlib.Core.Bool.{true, false, _||_, or-true, or-false}
 use Prim.Native.Nat.{ℕ, suc, _+_, _-_, _/_, _%_, _^_, max, _<_}
 use native.Mathlib.Nat.{one-mul, div-eq-of-lt}
-use native.Mathlib.Decide.{decLt}
+use native.Mathlib.Decide.{decLt, ℕ-discrete}
 use native.Mathlib.Omega.{arith}
 use lib.Dec.{eqb}
 use lib.Pow.{pow-lt, pow-pos, pow-add, shl-shr}
+use borrow.Author.Tests.{eq-eqb, ne-eqb}
 use lib.Bits.{bitOr, or-shr, or-step, shifted-even}
 use Rattle.rules.specs.Bytes.{has}
 
@@ -53,3 +54,11 @@ has-same l set = ap (λ (n : ℕ). eqb n 1) (or-same set l)
 
 pub has-other : (l m set : ℕ) → l ≢ m → has l (bitOr set (2 ^ m)) ≡ has l set
 has-other l m set h = ap (λ (n : ℕ). eqb n 1) (or-other set l m h)
+
+-- what a set has with one number more
+pub has-with : (l m set : ℕ) → has l (bitOr set (2 ^ m)) ≡ (has l set || eqb m l)
+has-with l m set = case (ℕ-discrete l m)
+  where
+    case : Dec (l ≡ m) → has l (bitOr set (2 ^ m)) ≡ (has l set || eqb m l)
+    case (yes e) = rw (e, has-same m set, eq-eqb m m refl) (sym (or-true (has m set)))
+    case (no e) = rw (has-other l m set e, ne-eqb m l (λ k. e (sym k))) (sym (or-false (has l set)))

@@ -2,7 +2,7 @@
 use mathlib.Core.Path.{_≡_, refl, sym}
 use mathlib.Core.Bool.{true}
 use mathlib.Core.List.{List, _∷_}
-use Prim.Native.Nat.{ℕ, _*_, _<_}
+use Prim.Native.Nat.{ℕ, _+_, _*_, _<_}
 use native.Mathlib.Omega.{arith}
 use lib.Dec.{eqb, leb}
 use lib.ListN.{length}
@@ -20,9 +20,11 @@ use Rattle.rules.specs.Steps.{rulesBy, answers, final}
 use Rattle.rules.specs.Walk.{walkFrom, metBytes, metCount}
 use Rattle.rules.specs.Calls.{stateLengthFault, stateFault, eventsLengthFault, eventFault, answersLengthFault, wordsLengthFault}
 use Rattle.rules.specs.Calls.{threadFault, metLengthFault, freshReturn, freshState, runReturn, runState, runAnswers, walkFault, walkReturn}
-use Rattle.rules.specs.Calls.{walkMet}
+use Rattle.rules.specs.Calls.{walkMet, outputLengthFault, linkReturn, linkOut}
+use Rattle.rules.specs.Link.{linked}
 use Rattle.laws.specs.Logic.{and-both}
 use Rattle.laws.specs.Faults.{first-of-zero, refusal-zero, fault-free, checked-of}
+use Rattle.laws.specs.Passed.{both-passed}
 use Rattle.encoding.specs.Sized.{Sized}
 use Rattle.encoding.specs.Numbers.{AreBytes}
 use Rattle.encoding.specs.Machines.{machine-forth, machine-sized}
@@ -30,6 +32,7 @@ use Rattle.encoding.specs.Encoded.{encodes}
 use Rattle.soundness.specs.Sound.{sound-of}
 use Rattle.step_ready.specs.Ready.{Ready}
 use Rattle.engine.specs.Runs.{Events}
+use Rattle.linking.specs.Linkable.{Linkable, linkable-of}
 
 -- the state of a call that is not refused is one that an event can be carried out on
 machine-lent : (image table state more : List ℕ) → AreBytes state
@@ -140,3 +143,23 @@ module _ (image table state : List ℕ) (t : ℕ) (met : List ℕ) where
         let k = machine-lent image table state _ bytes h in
         let twelve = first-of-zero _ _ (first-of-zero _ _ (k .1) .1) in
         (k .0, eqb-true (length met) threadCount (refusal-zero _ 12 0 (omega arith) (twelve .0)))
+
+-- ---- the link
+
+module _ (first second table out : List ℕ) where
+  pub link-refused : (linkReturn first second table out ≡ 0 → ⊥) → linkOut first second table out ≡ out
+  unfolding linkOut
+  link-refused n = rw (ne-eqb (linkReturn first second table out) 0 n) refl
+
+  module _ (h : linkReturn first second table out ≡ 0) where
+    pub link-out : linkOut first second table out ≡ linked first second
+    unfolding linkOut
+    link-out = rw h refl
+
+    pub link-lent : Linkable first second out
+    unfolding linkReturn outputLengthFault
+    link-lent =
+        let four = both-passed first second table _ h in
+        let fifteen = first-of-zero _ _ (first-of-zero _ _ (first-of-zero _ _ (four .2) .1) .1) in
+        linkable-of first second table out (four .0) (four .1)
+        (eqb-true (length out) (length first + length second) (refusal-zero _ 15 0 (omega arith) (fifteen .0)))

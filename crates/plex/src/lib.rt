@@ -3,12 +3,15 @@ use engine::run;
 use event_check::faults::run_fault;
 use fresh_state::fresh;
 use image_check::image_fault;
+use link_check::link_fault;
+use linking::link;
 use rules::sorts::thread_of;
 use state_check::faults::fresh_fault;
 use state_check::faults::walk_fault;
 use walk::walk;
 ghost use mathlib.Core.Path.{_≡_};
 ghost use Rattle.rules.specs.Calls.{checkReturn, freshReturn, freshState, runReturn, runState, runAnswers, walkReturn, walkMet};
+ghost use Rattle.rules.specs.Calls.{linkReturn, linkOut};
 
 // The image check.
 #[no_mangle]
@@ -73,4 +76,18 @@ pub extern "C" fn plex_walk(
         return fault;
     }
     walk(image, table, state, thread_of(thread as u8), met)
+}
+
+// Two images linked into one: the second behind the first.
+#[no_mangle]
+pub extern "C" fn plex_link(first: &[u8], second: &[u8], table: &[u8], out: &mut [u8]) -> u32
+    ensures { λ r. ⌜ r ≡ linkReturn (now (first .entry)) (now (second .entry)) (now (table .entry)) (now (out .entry)) ⌝ }
+    ensures { λ _. ⌜ now (out .exit) ≡ linkOut (now (first .entry)) (now (second .entry)) (now (table .entry)) (now (out .entry)) ⌝ }
+{
+    let fault = link_fault(first, second, table, out);
+    if fault != 0 {
+        return fault;
+    }
+    link(out, first, second);
+    0
 }

@@ -1,5 +1,5 @@
 -- The first refusal of a list.
-use mathlib.Core.Path.{_≡_, refl}
+use mathlib.Core.Path.{_≡_, refl, _∙_}
 use mathlib.Core.Bool.{Bool, true, false, cond}
 use mathlib.Core.List.{List, [], _∷_, _++_}
 use Prim.Native.Nat.{ℕ, zero, suc}
@@ -23,7 +23,7 @@ last zero = refl
 last (suc x) = rw (ne-eqb (suc x) 0 (λ e. omega arith))
 
 -- the refusals of one list, and after them those of another
-pub then : (xs ys : List ℕ) → firstOf (xs ++ ys) ≡ cond (eqb (firstOf xs) 0) (firstOf ys) (firstOf xs)
+then : (xs ys : List ℕ) → firstOf (xs ++ ys) ≡ cond (eqb (firstOf xs) 0) (firstOf ys) (firstOf xs)
 unfolding firstOf
 then [] ys = refl
 then (x ∷ xs) ys = go (eqb x 0) refl (then xs ys)
@@ -32,3 +32,11 @@ then (x ∷ xs) ys = go (eqb x 0) refl (then xs ys)
         → cond t (firstOf (xs ++ ys)) x ≡ cond (eqb (cond t (firstOf xs) x) 0) (firstOf ys) (cond t (firstOf xs) x)
     go true e r = r
     go false e r = rw e
+
+-- one of the refusals xs applies, or ys decide
+module _ (xs ys : List ℕ) where
+  pub before : (firstOf xs ≡ 0 → ⊥) → firstOf (xs ++ ys) ≡ firstOf xs
+  before h = then xs ys ∙ rw (ne-eqb (firstOf xs) 0 h)
+
+  pub after : firstOf xs ≡ 0 → firstOf (xs ++ ys) ≡ firstOf ys
+  after h = then xs ys ∙ rw (eq-eqb (firstOf xs) 0 h)

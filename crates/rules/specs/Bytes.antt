@@ -1,5 +1,5 @@
 -- Fields of lists of bytes. Multi-byte fields are little-endian. What lies past a list's end reads as 0.
-use mathlib.Core.Bool.{Bool, true, cond, _&&_}
+use mathlib.Core.Bool.{Bool, true, false, cond, _&&_, _||_}
 use mathlib.Core.Option.{Option, none, some}
 use mathlib.Core.List.{List, [], _∷_, _++_}
 use Prim.Native.Nat.{ℕ, zero, suc, _+_, _*_, _/_, _%_, _^_}
@@ -37,6 +37,11 @@ has i set = eqb (set / 2 ^ i % 2) 1
 unfoldable pub allFrom : (ℕ → Bool) → ℕ → ℕ → Bool
 allFrom ok i zero = true
 allFrom ok i (suc k) = ok i && allFrom ok (i + 1) k
+
+-- a test holds of one of the k numbers from i on
+unfoldable pub anyFrom : (ℕ → Bool) → ℕ → ℕ → Bool
+anyFrom ok i zero = false
+anyFrom ok i (suc k) = ok i || anyFrom ok (i + 1) k
 
 -- the first of the k numbers from i on at which a test fails, or i + k where it fails at none
 unfoldable pub firstBad : (ℕ → Bool) → ℕ → ℕ → ℕ

@@ -1,15 +1,17 @@
--- The four calls, each as a function from the lent bytes to the return value and to the lent bytes after it. A call refuses by the first
+-- The five calls, each as a function from the lent bytes to the return value and to the lent bytes after it. A call refuses by the first
 -- of its numbers that applies, and leaves every lent byte then; otherwise it returns 0, or what the walk found.
-use mathlib.Core.Bool.{Bool, cond}
+use mathlib.Core.Bool.{Bool, cond, not}
 use mathlib.Core.List.{List, [], _∷_}
-use Prim.Native.Nat.{ℕ, _*_}
+use Prim.Native.Nat.{ℕ, _+_, _*_}
 use lib.ListN.{length}
-use lib.Dec.{eqb, ltb}
+use lib.Dec.{eqb, leb, ltb}
 use Rattle.rules.specs.Codes.{badAnswersLengthNumber, badWordsLengthNumber, badWalkThreadNumber, badMetLengthNumber}
 use Rattle.rules.specs.Codes.{badStateLengthNumber, badStateNumber, badEventsLengthNumber, badEventNumber}
-use Rattle.rules.specs.Sizes.{wordsSize, stateSize, answerSize, threadCount}
+use Rattle.rules.specs.Codes.{sharedBlockNumber, tooManyRecordsNumber, badOutputLengthNumber}
+use Rattle.rules.specs.Sizes.{wordsSize, stateSize, answerSize, threadCount, recordCount}
 use Rattle.rules.specs.Bytes.{blocks}
-use Rattle.rules.specs.Check.{refusal, firstFault, firstOf, imageFaults}
+use Rattle.rules.specs.Image.{labels}
+use Rattle.rules.specs.Check.{refusal, firstFault, firstOf, imageFaults, imagesFaults}
 use Rattle.rules.specs.Machine.{fresh}
 use Rattle.rules.specs.Encoding.{encode, wordsFrom, machineFrom}
 use Rattle.rules.specs.WellFormed.{wellFormed}
@@ -17,6 +19,7 @@ use Rattle.rules.specs.Answers.{answerBytes}
 use Rattle.rules.specs.Events.{eventsIn, eventsLengthOk, eventAtOk, eventsFrom}
 use Rattle.rules.specs.Steps.{rulesBy, answers, final}
 use Rattle.rules.specs.Walk.{walkFrom, metBytes, metCount}
+use Rattle.rules.specs.Link.{shareBlock, linked}
 
 -- ---- the causes
 
@@ -46,6 +49,16 @@ threadFault t = refusal (ltb t threadCount) badWalkThreadNumber 0
 
 unfoldable pub metLengthFault : List ℕ → ℕ
 metLengthFault met = refusal (eqb (length met) threadCount) badMetLengthNumber 0
+
+-- 13: both images name the same block; 14: more than 512 records result; 15: output not their exact length
+unfoldable pub sharedBlockFault : List ℕ → List ℕ → ℕ
+sharedBlockFault first second = refusal (not (shareBlock first second)) sharedBlockNumber 0
+
+unfoldable pub tooManyRecordsFault : List ℕ → List ℕ → ℕ
+tooManyRecordsFault first second = refusal (leb (labels first + labels second) recordCount) tooManyRecordsNumber 0
+
+unfoldable pub outputLengthFault : List ℕ → List ℕ → List ℕ → ℕ
+outputLengthFault first second out = refusal (eqb (length out) (length first + length second)) badOutputLengthNumber 0
 
 -- a call that is not refused
 abbrev pub accepts : ℕ → Bool
@@ -99,3 +112,14 @@ walkReturn image table state t met =
 unfoldable pub walkMet : List ℕ → List ℕ → List ℕ → ℕ → List ℕ → List ℕ
 walkMet image table state t met =
     cond (accepts (walkFault image table state t met)) (metBytes (walkFrom (rulesBy image table) (machineFrom state) t)) met
+
+-- ---- the link: 1 to 4, of both images and the table, the first image before the second within a number; then 13 to 15
+
+unfoldable pub linkReturn : List ℕ → List ℕ → List ℕ → List ℕ → ℕ
+linkReturn first second table out =
+    firstOf
+    (imagesFaults first second table
+    (sharedBlockFault first second ∷ tooManyRecordsFault first second ∷ outputLengthFault first second out ∷ []))
+
+unfoldable pub linkOut : List ℕ → List ℕ → List ℕ → List ℕ → List ℕ
+linkOut first second table out = cond (accepts (linkReturn first second table out)) (linked first second) out

@@ -125,6 +125,12 @@ firstOf (x ∷ xs) = cond (eqb x 0) (firstOf xs) x
 abbrev pub imageFaults : List ℕ → List ℕ → List ℕ → List ℕ
 imageFaults image table more = imageLengthFault image ∷ tableLengthFault table ∷ tableFault table ∷ recordFault image ∷ more
 
+-- and those of a call that takes two images: the first before the second within a number
+abbrev pub imagesFaults : List ℕ → List ℕ → List ℕ → List ℕ → List ℕ
+imagesFaults first second table more =
+    imageLengthFault first ∷ imageLengthFault second ∷ tableLengthFault table ∷ tableFault table ∷ recordFault first ∷ recordFault second
+    ∷ more
+
 -- an image and a table that pass the check
 abbrev pub Checked : List ℕ → List ℕ → Type 0
 Checked image table = firstOf (imageFaults image table []) ≡ 0

@@ -176,3 +176,12 @@ badWalkThreadNumber = 11
 
 abbrev pub badMetLengthNumber : ℕ
 badMetLengthNumber = 12
+
+abbrev pub sharedBlockNumber : ℕ
+sharedBlockNumber = 13
+
+abbrev pub tooManyRecordsNumber : ℕ
+tooManyRecordsNumber = 14
+
+abbrev pub badOutputLengthNumber : ℕ
+badOutputLengthNumber = 15

@@ -15,4 +15,5 @@ pub mod Steps
 pub mod WellFormed
 pub mod Order
 pub mod Walk
+pub mod Link
 pub mod Calls

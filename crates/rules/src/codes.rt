@@ -115,3 +115,9 @@ pub const BAD_WORDS_LENGTH: u32 = 10;
 pub const BAD_WALK_THREAD: u32 = 11;
 
 pub const BAD_MET_LENGTH: u32 = 12;
+
+pub const SHARED_BLOCK: u32 = 13;
+
+pub const TOO_MANY_RECORDS: u32 = 14;
+
+pub const BAD_OUTPUT_LENGTH: u32 = 15;

@@ -1,16 +1,15 @@
 -- The refusals of a call on a machine.
-use mathlib.Core.Path.{_≡_, _∙_}
-use mathlib.Core.List.{List, [], _∷_, _++_}
+use mathlib.Core.Path.{_≡_}
+use mathlib.Core.List.{List, [], _∷_}
 use Prim.Native.Nat.{ℕ}
 use lib.ListN.{length}
 use native.Mathlib.Omega.{arith}
 use lib.Dec.{eqb}
-use borrow.Author.Tests.{eqb-true, eq-eqb, ne-eqb}
+use borrow.Author.Tests.{eqb-true}
 use Rattle.rules.specs.Sizes.{stateSize}
-use Rattle.rules.specs.Check.{firstOf, imageFaults}
+use Rattle.rules.specs.Check.{imageFaults}
 use Rattle.rules.specs.Calls.{stateLengthFault, stateFault}
 use Rattle.laws.specs.Faults.{refusal-zero}
-use Rattle.refusals.specs.FirstOf.{then}
 
 -- numbers 1 to 6
 abbrev pub machineFaults : List ℕ → List ℕ → List ℕ → List ℕ
@@ -19,11 +18,3 @@ machineFaults image table state = imageFaults image table (stateLengthFault stat
 pub state-length : (state : List ℕ) → stateLengthFault state ≡ 0 → length state ≡ stateSize
 unfolding stateLengthFault
 state-length state e = eqb-true (length state) stateSize (refusal-zero (eqb (length state) stateSize) 5 0 (omega arith) e)
-
--- one of the refusals xs applies, or ys decide
-module _ (xs ys : List ℕ) where
-  pub before : (firstOf xs ≡ 0 → ⊥) → firstOf (xs ++ ys) ≡ firstOf xs
-  before h = then xs ys ∙ rw (ne-eqb (firstOf xs) 0 h)
-
-  pub after : firstOf xs ≡ 0 → firstOf (xs ++ ys) ≡ firstOf ys
-  after h = then xs ys ∙ rw (eq-eqb (firstOf xs) 0 h)

@@ -50,7 +50,7 @@ fn change_state(random: &mut Random, state: &mut [u8]) {
 
 /// Flips a bit or sets a byte of one of the records of this width, or copies
 /// or swaps two; nothing if there is none.
-fn change_records(random: &mut Random, bytes: &mut [u8], width: usize) {
+pub fn change_records(random: &mut Random, bytes: &mut [u8], width: usize) {
     let count = bytes.len() / width;
     if count == 0 {
         return;
@@ -72,10 +72,9 @@ fn telling_byte(random: &mut Random) -> u8 {
     random.one_of([0, 1, 2, 3, 4, 7, 8, 9, 10, 11, 15, 16, 17, 24, 25, 26, 255, any])
 }
 
-/// Shortens a slice or makes it longer, at times to its limit or beyond.
 fn change_length(random: &mut Random, lent: &mut Lent) {
     let (bytes, width, limit) = match random.below(7) {
-        0 => (&mut lent.image, Record::WIDTH, Record::WIDTH * Program::LIMIT),
+        0 => (&mut lent.image, Record::WIDTH, Program::LENGTH_LIMIT),
         1 => (&mut lent.table, 2, Table::LENGTH),
         2 => (&mut lent.words, 2, State::WORDS_LENGTH),
         3 => (&mut lent.state, Tree::WIDTH, State::LENGTH),
@@ -83,6 +82,11 @@ fn change_length(random: &mut Random, lent: &mut Lent) {
         5 => (&mut lent.answers, Answer::WIDTH, Answer::WIDTH * Event::LIMIT),
         _ => (&mut lent.met, 1, MET_LENGTH),
     };
+    resize(random, bytes, width, limit);
+}
+
+/// Shortens the bytes or makes them longer, at times to their limit or beyond.
+pub fn resize(random: &mut Random, bytes: &mut Vec<u8>, width: usize, limit: usize) {
     let length = bytes.len();
     let shorter = [0, random.below(length + 1), length.max(1) - 1, length.max(width) - width];
     let longer = [length + 1, length + width, limit, limit + 1, limit + width];

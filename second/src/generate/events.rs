@@ -1,7 +1,7 @@
 //! Event lists at random.
 
-use super::encode::events_bytes;
 use super::random::Random;
+use crate::encode::events_bytes;
 use crate::events::{Answer, Event};
 use crate::image::{Entry, Program};
 use crate::refusal::Refusal;

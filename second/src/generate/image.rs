@@ -1,9 +1,9 @@
 //! Valid images and block tables at random.
 
-use super::encode::image_bytes;
 use super::layout::{layout, Position, Slot};
 use super::operands::Operands;
 use super::random::Random;
+use crate::encode::image_bytes;
 use crate::image::{Entry, Program, Record};
 use crate::sorts::{Block, Label, Thread};
 use crate::statement::Statement;
@@ -23,7 +23,24 @@ pub fn table(random: &mut Random) -> Vec<u8> {
 
 /// An image that keeps every rule.
 pub fn image(random: &mut Random) -> Vec<u8> {
-    let draft = Draft::draw(random);
+    let (count, blocks) = (record_count(random), Block::all().collect::<Vec<Block>>());
+    image_in(random, count, &blocks)
+}
+
+/// Few records, some or as many as an image may have.
+pub fn record_count(random: &mut Random) -> usize {
+    match random.weighted(&[1, 5, 9, 2, 1]) {
+        0 => random.between(1, 4),
+        1 => random.between(5, 24),
+        2 => random.between(25, 80),
+        3 => random.between(81, Program::LIMIT),
+        _ => Program::LIMIT,
+    }
+}
+
+/// An image of so many records that keeps every rule and names only these blocks.
+pub fn image_in(random: &mut Random, count: usize, blocks: &[Block]) -> Vec<u8> {
+    let draft = Draft::draw(random, count, blocks);
     let records: Vec<Record> = draft.labels.iter().map(|&at| draft.record(random, at)).collect();
     image_bytes(&records)
 }
@@ -49,18 +66,11 @@ const WEIGHTS: [[usize; 10]; 3] = [
 const MOODS: [usize; 10] = [0, 1, 1, 1, 1, 2, 2, 2, 4, 4];
 
 impl Draft {
-    fn draw(random: &mut Random) -> Draft {
-        let count = match random.weighted(&[1, 5, 9, 2, 1]) {
-            0 => random.between(1, 4),
-            1 => random.between(5, 24),
-            2 => random.between(25, 80),
-            3 => random.between(81, Program::LIMIT),
-            _ => Program::LIMIT,
-        };
+    fn draw(random: &mut Random, count: usize, blocks: &[Block]) -> Draft {
         let labels = (0..).map_while(|number| Label::below(number, count)).collect();
         let weights = weights(random);
         let register_odds = random.one_of([4, 30, 100, 400, 1_000]);
-        Draft { labels, slots: layout(random, count), weights, register_odds }
+        Draft { labels, slots: layout(random, count, blocks), weights, register_odds }
     }
 
     fn slot(&self, at: Label) -> &Slot {

@@ -30,10 +30,10 @@ const FIRST_ENTRIES: [Entry; 6] = [
     Entry::Buffered,
 ];
 
-/// Routines in a few blocks by turns, as many as make `count` records.
-pub fn layout(random: &mut Random, count: usize) -> Vec<Slot> {
+/// Routines in a few of these blocks by turns, as many as make `count` records.
+pub fn layout(random: &mut Random, count: usize, available: &[Block]) -> Vec<Slot> {
     let blocks: Vec<Block> = (0..random.one_of([1, 2, 3, 3, 4, 4, 5, 6, 8, Block::COUNT]))
-        .filter_map(|_| Block::new(random.below(Block::COUNT) as u8))
+        .map(|_| available[random.below(available.len())])
         .collect();
     let half = random.one_of([1, 2, 2, 3, 3, 4, 6, 10]).min(1 + count / 12);
     let usual: &[Entry] = if random.once_in(16) { &[] } else { &FIRST_ENTRIES };

@@ -2,11 +2,11 @@
 //! seed, to compare engines byte for byte.
 
 mod damage;
-pub(crate) mod encode;
 mod events;
 mod image;
 mod layout;
 mod operands;
+mod pair;
 mod random;
 #[cfg(test)]
 mod trials;
@@ -14,6 +14,7 @@ mod trials;
 pub use damage::damage;
 pub use events::events;
 pub use image::{image, table};
+pub use pair::{damage_pair, pair, Guest, Pair};
 pub use random::Random;
 
 use crate::calls::{fresh, MET_LENGTH};
@@ -43,13 +44,18 @@ pub fn lent(seed: u64) -> Lent {
     let random = &mut Random::new(seed);
     let (image, table, words) = (image(random), table(random), words(random));
     let state = noise(random, State::LENGTH);
-    let mut begun = state.clone();
-    fresh(&image, &table, &words, &mut begun);
-    let events = events(random, &image, &table, &begun);
+    let events = first_events(random, &image, &table, &words);
     let answers = noise(random, events.len() / Event::WIDTH * Answer::WIDTH);
     let thread = random.below(Thread::COUNT) as u32;
     let met = noise(random, MET_LENGTH);
     Lent { image, table, words, state, events, answers, thread, met }
+}
+
+/// An event list that Run accepts once Fresh has accepted these.
+fn first_events(random: &mut Random, image: &[u8], table: &[u8], words: &[u8]) -> Vec<u8> {
+    let mut state = vec![0; State::LENGTH];
+    fresh(image, table, words, &mut state);
+    events(random, image, table, &state)
 }
 
 /// 512 initial bytes: words any, or mostly small.

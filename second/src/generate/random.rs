@@ -42,6 +42,13 @@ impl Random {
         (!choices.is_empty()).then(|| choices[self.below(choices.len())])
     }
 
+    /// Puts the list in any order, each equally likely.
+    pub fn shuffle<T>(&mut self, list: &mut [T]) {
+        for last in (1..list.len()).rev() {
+            list.swap(last, self.below(last + 1));
+        }
+    }
+
     /// The place of a weight, drawn in proportion to it; not all weights are 0.
     pub fn weighted(&mut self, weights: &[usize]) -> usize {
         let drawn = self.below(weights.iter().sum());

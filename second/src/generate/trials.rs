@@ -1,7 +1,8 @@
 //! Trials over generated machines.
 
-use super::{damage, lent, Lent, Random};
-use crate::{check, fresh, run, second_order};
+use super::{damage, damage_pair, lent, pair, Lent, Pair, Random};
+use crate::{check, fresh, link, relocated_events, relocated_state, run, second_order};
+use std::collections::BTreeSet;
 
 /// A generated machine as Fresh leaves it.
 fn begun(seed: u64) -> Lent {
@@ -52,4 +53,54 @@ fn a_refused_run_alters_no_byte() {
         }
     }
     assert!(refused > 50);
+}
+
+/// The answers to these events from a fresh machine on, and the state they leave.
+fn outcome(image: &[u8], table: &[u8], words: &[u8], events: &[u8]) -> (Vec<u8>, Vec<u8>) {
+    let (mut answers, mut state) = (vec![0; events.len() / 55 * 2], vec![0; 7_929]);
+    assert_eq!(fresh(image, table, words, &mut state), 0);
+    assert_eq!(run(image, table, &mut state, events, &mut answers), 0);
+    (answers, state)
+}
+
+#[test]
+fn a_guest_has_on_the_linked_image_what_it_has_by_itself() {
+    let mut shifted = 0;
+    for seed in 0..40 {
+        let Pair { first, second, table, words, mut out } = pair(seed);
+        assert_eq!(link(&first.image, &second.image, &table, &mut out), 0);
+        assert_eq!(check(&out, &table), 0);
+        let before_second = (first.image.len() / 84) as u16;
+        for (guest, by) in [(first, 0), (second, before_second)] {
+            let (answers, state) = outcome(&guest.image, &table, &words, &guest.events);
+            let events = relocated_events(&guest.image, &table, &guest.events, by).unwrap();
+            let expected = relocated_state(&guest.image, &table, &state, by).unwrap();
+            assert_eq!(expected[..512], state[..512]);
+            assert!(by != 0 || (&events, &expected) == (&guest.events, &state));
+            shifted += u32::from(expected != state);
+            assert!(outcome(&out, &table, &words, &events) == (answers, expected), "seed {seed}");
+        }
+    }
+    assert!(shifted > 20);
+}
+
+#[test]
+fn damaged_pairs_meet_every_refusal_of_link() {
+    let random = &mut Random::new(2);
+    let mut numbers = BTreeSet::new();
+    for whole in (0..12).map(pair) {
+        for _ in 0..20 {
+            let mut pair = whole.clone();
+            damage_pair(random, &mut pair);
+            let before = pair.out.clone();
+            let code = link(&pair.first.image, &pair.second.image, &pair.table, &mut pair.out);
+            numbers.insert(code / 65_536);
+            assert!(if code == 0 {
+                check(&pair.out, &pair.table) == 0
+            } else {
+                pair.out == before
+            });
+        }
+    }
+    assert_eq!(numbers, BTreeSet::from([0, 1, 2, 3, 4, 13, 14, 15]));
 }

@@ -5,7 +5,8 @@ use borrow.Author.Needs.{needs}
 use denote.Ref.{now}
 use Rattle.rules.specs.Check.{firstOf}
 use Rattle.rules.specs.Calls.{runReturn}
-use Rattle.state_check.specs.Faults.{machineFaults, before, after}
+use Rattle.refusals.specs.FirstOf.{before, after}
+use Rattle.state_check.specs.Faults.{machineFaults}
 use Rattle.event_check.specs.Faults.{eventsFaults}
 use Rattle.event_check.proofs.faults.run_fault.Statement.{statement}
 use Rattle.event_check.proofs.faults.run_fault.Tie as tie

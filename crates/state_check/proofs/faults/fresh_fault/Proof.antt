@@ -5,7 +5,7 @@ use borrow.Author.Needs.{needs}
 use denote.Ref.{now}
 use Rattle.rules.specs.Check.{firstOf, imageFaults}
 use Rattle.rules.specs.Calls.{stateLengthFault, wordsLengthFault, freshReturn}
-use Rattle.state_check.specs.Faults.{before, after}
+use Rattle.refusals.specs.FirstOf.{before, after}
 use Rattle.state_check.proofs.faults.fresh_fault.Statement.{statement}
 use Rattle.state_check.proofs.faults.fresh_fault.Tie as tie
 

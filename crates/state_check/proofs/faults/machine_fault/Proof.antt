@@ -6,7 +6,8 @@ use denote.Ref.{now}
 use Rattle.rules.specs.Check.{firstOf, imageFaults}
 use Rattle.rules.specs.Calls.{stateLengthFault, stateFault}
 use Rattle.refusals.specs.FirstOf.{found, passed, last}
-use Rattle.state_check.specs.Faults.{state-length, before, after}
+use Rattle.refusals.specs.FirstOf.{before, after}
+use Rattle.state_check.specs.Faults.{state-length}
 use Rattle.state_check.proofs.faults.machine_fault.Statement.{statement}
 use Rattle.state_check.proofs.faults.machine_fault.Tie as tie
 

@@ -5,7 +5,8 @@ use borrow.Author.Needs.{needs}
 use denote.Ref.{now}
 use Rattle.rules.specs.Check.{firstOf}
 use Rattle.rules.specs.Calls.{threadFault, metLengthFault, walkFault}
-use Rattle.state_check.specs.Faults.{machineFaults, before, after}
+use Rattle.refusals.specs.FirstOf.{before, after}
+use Rattle.state_check.specs.Faults.{machineFaults}
 use Rattle.state_check.proofs.faults.walk_fault.Statement.{statement}
 use Rattle.state_check.proofs.faults.walk_fault.Tie as tie
 

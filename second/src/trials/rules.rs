@@ -1,91 +1,10 @@
-//! The trials of the rules: what is fixed by numbers is tried with those numbers.
+//! The trials of the machine's rules.
 
-use crate::events::Event;
-use crate::generate::encode::{events_bytes, image_bytes};
-use crate::image::{Entry, Record};
-use crate::sorts::{Block, Label, Thread};
+use super::bench::{arrival, at, call, cut, exit, record, step, Bench, IDLE, STATE_LENGTH, TREES};
+use crate::encode::{events_bytes, image_bytes};
+use crate::image::Entry;
 use crate::statement::{Formula, Operand, Place, Statement};
-use crate::tree::Signal;
-use crate::{check, fresh, run, walk};
-
-const STATE_LENGTH: usize = 7_929;
-const THREADS: usize = 512;
-const TREES: usize = 1_112;
-/// A thread record of an idle thread.
-const IDLE: [u8; 75] = {
-    let mut record = [0; 75];
-    (record[0], record[1]) = (255, 255);
-    record
-};
-
-fn at(number: u16) -> Label {
-    Label::below(number, 512).unwrap()
-}
-
-fn record(block: u8, entry: Entry, statement: Statement) -> Record {
-    Record { block: Block::new(block).unwrap(), entry, statement }
-}
-
-fn exit(block: u8, entry: Entry) -> Record {
-    record(block, entry, Statement::Exit)
-}
-
-fn call(signal: u16, back: u16) -> Statement {
-    Statement::Call { signal: at(signal), data: Vec::new(), back: at(back) }
-}
-
-fn arrival(label: u16, values: &[u16]) -> Event {
-    Event::Arrival(Signal { label: at(label), values: values.to_vec() })
-}
-
-fn step(thread: u8) -> Event {
-    Event::Step(Thread::new(thread).unwrap())
-}
-
-fn cut(thread: u8) -> Event {
-    Event::Cut(Thread::new(thread).unwrap())
-}
-
-/// A machine that starts fresh with zero words.
-struct Bench {
-    image: Vec<u8>,
-    table: [u8; 32],
-    state: Vec<u8>,
-}
-
-impl Bench {
-    /// Blocks 0, 1, .. on the given threads and of the given kinds, the others zero.
-    fn new(rows: &[[u8; 2]], records: &[Record]) -> Bench {
-        let mut table = [0; 32];
-        table[..2 * rows.len()].copy_from_slice(rows.as_flattened());
-        let mut bench = Bench { image: image_bytes(records), table, state: vec![1; STATE_LENGTH] };
-        assert_eq!(fresh(&bench.image, &bench.table, &[0; 512], &mut bench.state), 0);
-        bench
-    }
-
-    fn run(&mut self, events: &[Event]) -> Vec<[u8; 2]> {
-        let mut answers = vec![[0; 2]; events.len()];
-        let lent = (&events_bytes(events), answers.as_flattened_mut());
-        assert_eq!(run(&self.image, &self.table, &mut self.state, lent.0, lent.1), 0);
-        answers
-    }
-
-    /// Starts a job on thread 0 and steps it this many times.
-    fn job(&mut self, values: &[u16], steps: usize) -> Vec<[u8; 2]> {
-        let mut events = vec![arrival(0, values), step(0)];
-        events.extend(vec![step(0); steps]);
-        self.run(&events).split_off(2)
-    }
-
-    fn thread(&self, number: usize) -> &[u8] {
-        &self.state[THREADS + 75 * number..][..75]
-    }
-
-    fn walk(&self, thread: u32) -> (u32, [u8; 8]) {
-        let mut met = [0; 8];
-        (walk(&self.image, &self.table, &self.state, thread, &mut met), met)
-    }
-}
+use crate::{check, fresh, run};
 
 #[test]
 fn arithmetic_is_modulo_65536() {

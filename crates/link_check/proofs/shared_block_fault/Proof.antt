@@ -1,0 +1,15 @@
+use borrow.Author.Needs.{needs}
+use Rattle.rules.specs.Calls.{sharedBlockFault}
+use Rattle.link_check.specs.BlockSets.{shared}
+use Rattle.link_check.proofs.shared_block_fault.Statement.{statement}
+use Rattle.link_check.proofs.shared_block_fault.Tie as tie
+
+returns : tie.Need-returns
+unfolding sharedBlockFault
+returns c =
+    let s = c .before .before .before .before .before in
+    rw (c .refuse .ensures, shared (s .args .first .now) (s .args .second .now) _ _ (s .pre .1) (c .before .before .block-set .ensures) (c .before .block-set2 .ensures))
+
+pub shared-block-fault-spec : {M : Type 1} → statement M
+shared-block-fault-spec =
+    tie.close (tie.spec (λ c κs. search needs) (λ c κs. search needs) (λ c κs. search needs) returns)

@@ -1,0 +1,3 @@
+-- The refusals of the link.
+pub mod BlockSets
+pub mod Faults

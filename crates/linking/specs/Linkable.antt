@@ -1,0 +1,51 @@
+-- Two images that can be linked into an output: each has records, the labels of the second leave room for a shift, and the output has
+-- exactly their length. Images that pass the check can, where the output has that length.
+use mathlib.Core.Path.{_≡_}
+use mathlib.Core.Bool.{Bool, true, _&&_}
+use mathlib.Core.List.{List}
+use Prim.Native.Nat.{ℕ, _+_, _≤_, _<_}
+use native.Mathlib.Omega.{arith}
+use lib.Dec.{eqb, ltb}
+use lib.ListN.{length}
+use borrow.Author.Tests.{eqb-true, ltb-true}
+use Rattle.rules.specs.Sizes.{recordCount}
+use Rattle.rules.specs.Image.{labels, recordAt, labelA, labelB, blockField}
+use Rattle.rules.specs.Statements.{statementOf, roleA, roleB}
+use Rattle.rules.specs.Check.{roleOk, labelOk, recordOk}
+use Rattle.rules.specs.declared.statement.Role.{Role}
+use Rattle.rules.specs.declared.statement.Role.the-variants.{Unused, Inner, Direct, Local, Buffered}
+use Rattle.laws.specs.Logic.{and-both}
+use Rattle.laws.specs.Passed.{Passed, rule-parts}
+use Rattle.image.specs.Records.{labels-small}
+
+pub record Linkable (first second out : List ℕ) : Type 0 where
+  pub some : 0 < labels first
+  pub more : 0 < labels second
+  pub lowA : (l : ℕ) → l < labels second → labelA (recordAt second l) ≤ recordCount
+  pub lowB : (l : ℕ) → l < labels second → labelB (recordAt second l) ≤ recordCount
+  pub exact : length out ≡ length first + length second
+
+-- a label that breaks no rule of its role is 0 or below n
+role-low : (role : Role) (v n : ℕ) (same : Bool) (e : ℕ) → roleOk role v (ltb v n) same e ≡ true → v ≤ n
+role-low Unused v n same e h = omega (arith, eqb-true v 0 h)
+role-low Inner v n same e h = omega (arith, ltb-true v n (and-both (ltb v n) same h .0))
+role-low Direct v n same e h = omega (arith, ltb-true v n (and-both (ltb v n) (eqb e 1) h .0))
+role-low Local v n same e h = omega (arith, ltb-true v n (and-both (ltb v n) same (and-both (ltb v n && same) (eqb e 1) h .0) .0))
+role-low Buffered v n same e h = omega (arith, ltb-true v n (and-both (ltb v n) (eqb e 2) h .0))
+
+label-low : (image : List ℕ) (role : Role) (b v : ℕ) → labelOk image role b v ≡ true → v ≤ recordCount
+unfolding labelOk
+label-low image role b v h = omega (arith, role-low role v (labels image) _ _ h, labels-small image)
+
+pub linkable-of : (first second table out : List ℕ) → Passed first table → Passed second table → length out ≡ length first + length second
+    → Linkable first second out
+unfolding recordOk
+linkable-of first second table out p q e = record {
+  some = p .someLabels;
+  more = q .someLabels;
+  lowA = λ l h. label-low second (roleA (statementOf (recordAt second l))) (blockField (recordAt second l)) _
+      (rule-parts second (recordAt second l) (q .records l h) .a);
+  lowB = λ l h. label-low second (roleB (statementOf (recordAt second l))) (blockField (recordAt second l)) _
+      (rule-parts second (recordAt second l) (q .records l h) .b);
+  exact = e;
+}

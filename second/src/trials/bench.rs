@@ -1,0 +1,92 @@
+//! What the trials build their machines from.
+
+use crate::encode::{events_bytes, image_bytes};
+use crate::events::Event;
+use crate::image::{Entry, Record};
+use crate::sorts::{Block, Label, Thread};
+use crate::statement::Statement;
+use crate::tree::Signal;
+use crate::{fresh, run, walk};
+
+pub const STATE_LENGTH: usize = 7_929;
+const THREADS: usize = 512;
+pub const TREES: usize = 1_112;
+/// A thread record of an idle thread.
+pub const IDLE: [u8; 75] = {
+    let mut record = [0; 75];
+    (record[0], record[1]) = (255, 255);
+    record
+};
+
+pub fn at(number: u16) -> Label {
+    Label::below(number, 512).unwrap()
+}
+
+pub fn record(block: u8, entry: Entry, statement: Statement) -> Record {
+    Record { block: Block::new(block).unwrap(), entry, statement }
+}
+
+pub fn exit(block: u8, entry: Entry) -> Record {
+    record(block, entry, Statement::Exit)
+}
+
+pub fn call(signal: u16, back: u16) -> Statement {
+    Statement::Call { signal: at(signal), data: Vec::new(), back: at(back) }
+}
+
+pub fn arrival(label: u16, values: &[u16]) -> Event {
+    Event::Arrival(Signal { label: at(label), values: values.to_vec() })
+}
+
+pub fn step(thread: u8) -> Event {
+    Event::Step(Thread::new(thread).unwrap())
+}
+
+pub fn cut(thread: u8) -> Event {
+    Event::Cut(Thread::new(thread).unwrap())
+}
+
+/// A machine that starts fresh with zero words.
+pub struct Bench {
+    pub image: Vec<u8>,
+    pub table: [u8; 32],
+    pub state: Vec<u8>,
+}
+
+impl Bench {
+    /// Blocks 0, 1, .. on the given threads and of the given kinds, the others zero.
+    pub fn new(rows: &[[u8; 2]], records: &[Record]) -> Bench {
+        let mut table = [0; 32];
+        table[..2 * rows.len()].copy_from_slice(rows.as_flattened());
+        Bench::on(image_bytes(records), table)
+    }
+
+    pub fn on(image: Vec<u8>, table: [u8; 32]) -> Bench {
+        let mut bench = Bench { image, table, state: vec![1; STATE_LENGTH] };
+        assert_eq!(fresh(&bench.image, &bench.table, &[0; 512], &mut bench.state), 0);
+        bench
+    }
+
+    pub fn run(&mut self, events: &[Event]) -> Vec<[u8; 2]> {
+        let mut answers = vec![[0; 2]; events.len()];
+        let lent = (&events_bytes(events), answers.as_flattened_mut());
+        assert_eq!(run(&self.image, &self.table, &mut self.state, lent.0, lent.1), 0);
+        answers
+    }
+
+    /// Starts a job on thread 0 and steps it this many times.
+    pub fn job(&mut self, values: &[u16], steps: usize) -> Vec<[u8; 2]> {
+        let mut events = vec![arrival(0, values), step(0)];
+        events.extend(vec![step(0); steps]);
+        self.run(&events).split_off(2)
+    }
+
+    pub fn thread(&self, number: usize) -> &[u8] {
+        &self.state[THREADS + 75 * number..][..75]
+    }
+
+    pub fn walk(&self, thread: u32) -> (u32, [u8; 8]) {
+        let mut met = [0; 8];
+        (walk(&self.image, &self.table, &self.state, thread, &mut met), met)
+    }
+}
