@@ -27,7 +27,7 @@ SOURCES_bench = $(wildcard host/bench/*.c) host/common/build.c
 SOURCES_words = tests/words.c $(COMMON)
 SOURCES_explanations = tests/explanations.c $(wildcard host/command/explain*.c) \
     host/bench/bench_image.c $(COMMON)
-SOURCES_lending = tests/lending.c tests/cases.c
+SOURCES_lending = tests/lending.c tests/cases.c host/common/build.c
 SOURCES_stack = tests/stack.c tests/cases.c host/common/build.c
 SOURCES_header = tests/header.c
 SOURCES_terminal = tests/terminal.c
@@ -153,7 +153,7 @@ DOCDIR ?= $(PREFIX)/share/doc/plex
 DESTDIR ?=
 INSTALL = install
 VERSION = $(shell sed -n 's/^\#define PLEX_VERSION "\(.*\)"$$/\1/p' include/plex.h)
-CALLS = check fresh run walk
+CALLS = check fresh link run walk
 PAPERS = docs/HOSTS.md docs/MACHINE.md
 
 install: all
