@@ -5,7 +5,7 @@
  * behind the case first, and runs after it.
  *
  * Use: demo          prints the trace; the status is 1 if a charging word changed
- *      demo FOLDER   writes the case there as the files of the command plex */
+ *      demo FOLDER   writes the case and East's image there, as files of the command plex */
 #include "case.h"
 #include "fields.h"
 #include "files.h"

@@ -24,6 +24,15 @@ byte moved-2 112 13 moved
 same 'answers of the second guest' answered answered-2
 same 'state of the second guest' alone linked
 
+# ---- a machine that runs goes on with a guest linked behind its image, and back without it
+tail -c +441 "$events" >rest
+"$plex" run both "$table" rest --state waiting --quiet --out linked
+same 'a machine that runs' alone linked
+"$plex" run both "$table" eight --state linked --quiet --out left-2
+"$plex" run "$image" "$table" rest --state left-2 --quiet --out left-3
+"$plex" run "$image" "$table" "$events" --state alone --quiet --out left-2
+same 'back to the shorter image' left-2 left-3
+
 # ---- refused, with nothing altered
 # unlinked NAME PATTERN FIRST SECOND TABLE
 unlinked() {
