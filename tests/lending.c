@@ -152,25 +152,36 @@ static void try_empty(uint8_t *room, uint8_t *nowhere)
     protect(room, PROT_READ | PROT_WRITE);
 }
 
-/* The same of links. */
-static void try_empty_links(uint8_t *room, uint8_t *nowhere)
+static uint32_t link_number(const uint8_t *first, size_t first_len, const uint8_t *second, size_t second_len,
+                            uint8_t *out, size_t out_len)
 {
-    const uint8_t *image = trial.image, *table = trial.table;
-    size_t size = trial.image_len, rows = PLEX_TABLE_SIZE;
+    return PLEX_NUMBER(plex_link(first, first_len, second, second_len, trial.table, sizeof trial.table, out, out_len));
+}
+
+/* The same of links, by each of their numbers. */
+static void try_refused_links(uint8_t *room, uint8_t *nowhere)
+{
+    static uint8_t full[sizeof trial.image];
     uint8_t guest[GUEST_SIZE], same[GUEST_SIZE];
+    const uint8_t *image = trial.image;
+    size_t size = trial.image_len, both = size + GUEST_SIZE;
     make_guest(guest, &trial, 0);
     make_guest(same, &trial, 0);
+    for (uint8_t *record = full; record < full + sizeof full; record += PLEX_RECORD_SIZE) {
+        record[PLEX_RECORD_OPCODE] = PLEX_EXIT;
+        record[PLEX_RECORD_BLOCK] = guest[PLEX_RECORD_BLOCK] ^ 1;
+    }
     protect(room, PROT_READ);
-    expect("first image of length 0", PLEX_NUMBER(plex_link(nowhere, 0, guest, GUEST_SIZE, table, rows, room,
-                                                            GUEST_SIZE)) == PLEX_BAD_IMAGE_LENGTH);
-    expect("second image of length 0",
-           PLEX_NUMBER(plex_link(image, size, nowhere, 0, table, rows, room, size)) == PLEX_BAD_IMAGE_LENGTH);
-    expect("table of length 0 in a link", PLEX_NUMBER(plex_link(image, size, guest, GUEST_SIZE, nowhere, 0, room,
-                                                                size + GUEST_SIZE)) == PLEX_BAD_TABLE_LENGTH);
-    expect("a block of both", PLEX_NUMBER(plex_link(guest, GUEST_SIZE, same, GUEST_SIZE, table, rows, room,
-                                                    2 * GUEST_SIZE)) == PLEX_SHARED_BLOCK);
-    expect("output of length 0",
-           PLEX_NUMBER(plex_link(image, size, guest, GUEST_SIZE, table, rows, nowhere, 0)) == PLEX_BAD_OUTPUT_LENGTH);
+    expect("no first image", link_number(nowhere, 0, guest, GUEST_SIZE, room, GUEST_SIZE) == PLEX_BAD_IMAGE_LENGTH);
+    expect("no second image", link_number(image, size, nowhere, 0, room, size) == PLEX_BAD_IMAGE_LENGTH);
+    expect("no table",
+           PLEX_NUMBER(plex_link(image, size, guest, GUEST_SIZE, nowhere, 0, room, both)) == PLEX_BAD_TABLE_LENGTH);
+    expect("a block of both",
+           link_number(guest, GUEST_SIZE, same, GUEST_SIZE, room, 2 * GUEST_SIZE) == PLEX_SHARED_BLOCK);
+    expect("too many records",
+           link_number(full, sizeof full, guest, GUEST_SIZE, room, sizeof full + GUEST_SIZE) == PLEX_TOO_MANY_RECORDS);
+    expect("a short output", link_number(image, size, guest, GUEST_SIZE, room, both - 1) == PLEX_BAD_OUTPUT_LENGTH);
+    expect("no output", link_number(image, size, guest, GUEST_SIZE, nowhere, 0) == PLEX_BAD_OUTPUT_LENGTH);
     protect(room, PROT_READ | PROT_WRITE);
 }
 
@@ -226,8 +237,8 @@ int main(int count, char **names)
         try_places(rooms);
         try_empty(rooms[4], NULL);
         try_empty(rooms[4], rooms[0] - 1);
-        try_empty_links(rooms[4], NULL);
-        try_empty_links(rooms[4], rooms[0] - 1);
+        try_refused_links(rooms[4], NULL);
+        try_refused_links(rooms[4], rooms[0] - 1);
     }
     try_beside();
     printf("lending: %d cases%s\n", count - 1, failed ? ", NOT as the header says" : "");
