@@ -124,13 +124,9 @@ static void report_link(const struct lent *lent, uint32_t number)
     complain("%s and %s: %s%s", lent->image.path, lent->second_image.path, refusal_name(number), line.text);
 }
 
-bool was_accepted(const struct lent *lent, uint32_t result)
+static void report(const struct lent *lent, uint32_t number, uint32_t place)
 {
-    uint32_t number = PLEX_NUMBER(result), place = PLEX_PLACE(result);
-    uint64_t place_in_file = place;
     switch (number) {
-    case 0:
-        return true;
     case PLEX_BAD_IMAGE_LENGTH:
         report_length(&lent->image, PLEX_RECORD_SIZE * PLEX_RECORDS_MAX,
                       "an image is 84 bytes a record, 1 to 512 records");
@@ -152,7 +148,6 @@ bool was_accepted(const struct lent *lent, uint32_t result)
         break;
     case PLEX_BAD_EVENT:
         report_event(lent, place);
-        place_in_file += lent->events_before;
         break;
     case PLEX_BAD_WORDS_LENGTH:
         report_length(&lent->words, PLEX_WORDS_SIZE, "initial words are 512 bytes");
@@ -164,6 +159,15 @@ bool was_accepted(const struct lent *lent, uint32_t result)
     default:
         complain("%s", refusal_name(number));
     }
-    fprintf(stderr, "      refused with number %u, place %" PRIu64 "\n", number, place_in_file);
+}
+
+bool was_accepted(const struct lent *lent, uint32_t result)
+{
+    uint32_t number = PLEX_NUMBER(result), place = PLEX_PLACE(result);
+    uint64_t events_before = number == PLEX_BAD_EVENT ? lent->events_before : 0;
+    if (number == 0)
+        return true;
+    report(lent, number, place);
+    fprintf(stderr, "      refused with number %u, place %" PRIu64 "\n", number, events_before + place);
     return false;
 }
