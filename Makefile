@@ -27,12 +27,13 @@ SOURCES_bench = $(wildcard host/bench/*.c) host/common/build.c
 SOURCES_words = tests/words.c $(COMMON)
 SOURCES_explanations = tests/explanations.c $(wildcard host/command/explain*.c) \
     host/bench/bench_image.c $(COMMON)
-SOURCES_lending = tests/lending.c tests/cases.c
+SOURCES_lending = tests/lending.c tests/cases.c host/common/build.c
 SOURCES_stack = tests/stack.c tests/cases.c host/common/build.c
 SOURCES_header = tests/header.c
 SOURCES_terminal = tests/terminal.c
 SOURCES_pictures = tests/pictures.c tests/svg.c host/bench/bench_plot.c $(wildcard host/command/waits_*.c)
 SOURCES_one_by_one = examples/one_by_one.c $(COMMON)
+SOURCES_guests = examples/guests.c $(COMMON)
 SOURCES_scheduler = $(wildcard examples/scheduler/*.c) host/common/build.c
 FLAGS_bench = -O3
 FLAGS_header = -Wc++-compat
@@ -106,13 +107,13 @@ command: $(addprefix build/,plex demo plex-safe demo-safe terminal)
 
 # the thread sanitizer wants addresses that are not random, where the system lets a program choose
 FIXED = $(shell setarch -R true 2>/dev/null && echo setarch -R)
-examples: $(addprefix build/,one_by_one-safe scheduler scheduler-safe scheduler-race)
-	./build/one_by_one-safe >build/one_by_one.txt
+examples: $(addprefix build/,one_by_one-safe guests-safe scheduler scheduler-safe scheduler-race)
+	for program in one_by_one guests; do ./build/$$program-safe >build/$$program.txt || exit 1; done
 	for program in scheduler scheduler-safe; do timeout 120 ./build/$$program || exit 1; done
 	$(FIXED) timeout 120 ./build/scheduler-race
 
 # the commands that the papers show, with what they print
-papers: build/plex build/demo build/one_by_one
+papers: build/plex build/demo build/one_by_one build/guests
 	sh tests/papers.sh $(abspath $(LIBRARY)) README.md docs/MACHINE.md
 
 second:
@@ -153,7 +154,7 @@ DOCDIR ?= $(PREFIX)/share/doc/plex
 DESTDIR ?=
 INSTALL = install
 VERSION = $(shell sed -n 's/^\#define PLEX_VERSION "\(.*\)"$$/\1/p' include/plex.h)
-CALLS = check fresh run walk
+CALLS = check fresh link run walk
 PAPERS = docs/HOSTS.md docs/MACHINE.md
 
 install: all

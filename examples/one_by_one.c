@@ -137,8 +137,7 @@ int main(void)
 {
     static struct list first, second;
     static uint8_t left[PLEX_STATE_SIZE], left_again[PLEX_STATE_SIZE];
-    for (uint32_t label = 0; label < RECORDS; label++)
-        put_statement(image + PLEX_RECORD_SIZE * label, &program[label]);
+    put_statements(image, program, RECORDS);
     print_image();
     make_events(&first);
     if (!carry_out(&first, left))

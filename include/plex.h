@@ -1,4 +1,4 @@
-/* The Core PLEX plug-in machine: four calls on lent bytes.
+/* The Core PLEX plug-in machine: five calls on lent bytes.
  *
  * docs/MACHINE.md is the reference of the formats and rules, docs/HOSTS.md the guide for hosts.
  *
@@ -44,7 +44,7 @@ extern "C" {
 
 /* ---- Versions: of the library and its papers, and of the formats. The latter is raised by each
  * change of a format; no buffer holds it, so a host notes it beside the bytes that it keeps. */
-#define PLEX_VERSION "0.2.0"
+#define PLEX_VERSION "0.3.0"
 #define PLEX_FORMAT_VERSION 1
 
 /* ---- Limits. */
@@ -180,7 +180,10 @@ enum {
     PLEX_BAD_ANSWERS_LENGTH = 9, /* answers are not 2 x m bytes */
     PLEX_BAD_WORDS_LENGTH = 10,  /* initial words are not 512 bytes */
     PLEX_BAD_WALK_THREAD = 11,   /* the walk's thread is above 7 */
-    PLEX_BAD_MET_LENGTH = 12     /* the walk's buffer is not 8 bytes */
+    PLEX_BAD_MET_LENGTH = 12,    /* the walk's buffer is not 8 bytes */
+    PLEX_SHARED_BLOCK = 13,      /* both images name the same block: each has a record in it */
+    PLEX_TOO_MANY_RECORDS = 14,  /* both images together have more than 512 records */
+    PLEX_BAD_OUTPUT_LENGTH = 15  /* the output is not as long as both images together */
 };
 
 #define PLEX_NUMBER(result) ((uint32_t)(result) >> 16)
@@ -215,6 +218,19 @@ uint32_t plex_walk(const uint8_t *image, size_t image_len, const uint8_t *table,
 
 #define PLEX_RING 256u
 #define PLEX_UNMET 255
+
+/* Link: two guests' images become one. The output is the first image and behind it the second, with
+ * the first's record count added to each label of the second that its opcode uses. Returns 0, and
+ * has then written every byte of the output, whatever it held; plex_check accepts it with the same
+ * table. From a fresh machine, arrivals for one of the guests, with steps and cuts, give on the
+ * output the answers, words and state that they give on that guest's own image from the same
+ * initial words; but labels of the second guest, in events and state alike, are higher by the
+ * first's record count. Otherwise returns a refusal with number 1 to 4 or 13 to 15; of two images
+ * at fault by one number, the first counts. Numbers 1 and 4 do not say whose fault it is: the
+ * first's exactly if plex_check of the first image and the table returns the same, else the
+ * second's; the place is a label of that image. Alters nothing but the output. */
+uint32_t plex_link(const uint8_t *first, size_t first_len, const uint8_t *second, size_t second_len,
+                   const uint8_t *table, size_t table_len, uint8_t *out, size_t out_len);
 
 #ifdef __cplusplus
 }

@@ -1,4 +1,5 @@
 #include "cases.h"
+#include "build.h"
 
 #include <stdio.h>
 #include <stdlib.h>
@@ -25,4 +26,17 @@ void load_trial(struct trial *trial, const char *name)
     trial->events_len = load(name, "events", trial->events, sizeof trial->events);
     load(name, "state", trial->state, sizeof trial->state);
     trial->answers_len = load(name, "answers", trial->answers, sizeof trial->answers);
+}
+
+void make_guest(uint8_t *image, const struct trial *trial, uint32_t first_label)
+{
+    uint32_t named = named_blocks(trial->image, (uint32_t)(trial->image_len / PLEX_RECORD_SIZE));
+    uint8_t block = 0;
+    while (named >> block & 1)
+        block++;
+    uint16_t after = (uint16_t)(first_label + 1), called = (uint16_t)(first_label + 2);
+    const struct statement guest[GUEST_RECORDS] = {{block, PLEX_EXTERNAL, PLEX_CALL, 0, called, after, 0, {NUMBER(0)}},
+                                                   {block, PLEX_NO_ENTRY, PLEX_EXIT, 0, 0, 0, 0, {NUMBER(0)}},
+                                                   {block, PLEX_DIRECT, PLEX_RETURN, 0, 0, 0, 0, {NUMBER(0)}}};
+    put_statements(image, guest, GUEST_RECORDS);
 }

@@ -14,4 +14,9 @@ struct trial {
 /* Reads NAME.image, NAME.table and so on, or ends the program with status 2. */
 void load_trial(struct trial *trial, const char *name);
 
+/* A guest to be linked with the case, in the first block that the case leaves free: its records call
+ * each other, by labels from the given one on. */
+enum { GUEST_RECORDS = 3, GUEST_SIZE = GUEST_RECORDS * PLEX_RECORD_SIZE };
+void make_guest(uint8_t *image, const struct trial *trial, uint32_t first_label);
+
 #endif

@@ -94,7 +94,7 @@ cp old kept
 head -c 7928 left >short-state
 cat left empty "$table" >long-state
 
-for subject in arguments check show run refused outputs streams signals state waits terminal; do
+for subject in arguments check show link run refused outputs streams signals state waits terminal; do
     . "$tests/$subject.sh"
 done
 

@@ -10,7 +10,7 @@
 enum { RECORDS = 128, TRIALS = 40000 };
 
 static uint8_t image[RECORDS * PLEX_RECORD_SIZE], table[PLEX_TABLE_SIZE], state[PLEX_STATE_SIZE];
-static uint32_t failures, refusals[PLEX_BAD_MET_LENGTH + 1];
+static uint32_t failures, refusals[PLEX_BAD_OUTPUT_LENGTH + 1];
 
 /* A number below the limit, from a fixed sequence. */
 static uint32_t below(uint32_t limit)
@@ -71,6 +71,22 @@ static void try_image(void)
     }
 }
 
+/* Two guests of any length; the second one's blocks begin after the first's, or before their end. */
+static void try_link(void)
+{
+    static uint8_t first[PLEX_RECORDS_MAX * PLEX_RECORD_SIZE], second[sizeof first], linked[2 * sizeof first];
+    uint32_t first_records = 32 * (1 + below(16)), second_records = 32 * (1 + below(16));
+    size_t size = PLEX_RECORD_SIZE * first_records, second_size = PLEX_RECORD_SIZE * second_records;
+    struct line why = {0};
+    bench_guest_image(first, first_records, 0);
+    bench_guest_image(second, second_records, GUEST_BLOCKS - (below(4) == 0 ? below(GUEST_BLOCKS + 1) : 0));
+    uint32_t number =
+        PLEX_NUMBER(plex_link(first, size, second, second_size, table, sizeof table, linked, size + second_size));
+    explain_link(&why, first, first_records, second, second_records);
+    expect("link", &why, number == PLEX_SHARED_BLOCK || number == PLEX_TOO_MANY_RECORDS);
+    refusals[number]++;
+}
+
 static uint32_t run(uint8_t *tried, const uint8_t *event, size_t size)
 {
     uint8_t answer[PLEX_ANSWER_SIZE];
@@ -127,9 +143,14 @@ int main(void)
         try_event();
         if (trial % 16 == 0)
             try_image();
+        if (trial % 64 == 0)
+            try_link();
     }
-    printf("explanations: refused images %u, tables %u, events %u, states %u; %u failures\n", refusals[PLEX_BAD_RECORD],
-           refusals[PLEX_BAD_TABLE_FIELD], refusals[PLEX_BAD_EVENT], refusals[PLEX_BAD_STATE], failures);
+    uint32_t links = refusals[PLEX_SHARED_BLOCK] + refusals[PLEX_TOO_MANY_RECORDS];
+    printf("explanations: refused images %u, tables %u, links %u, events %u, states %u; %u failures\n",
+           refusals[PLEX_BAD_RECORD], refusals[PLEX_BAD_TABLE_FIELD], links, refusals[PLEX_BAD_EVENT],
+           refusals[PLEX_BAD_STATE], failures);
     return failures != 0 || refusals[PLEX_BAD_RECORD] == 0 || refusals[PLEX_BAD_TABLE_FIELD] == 0 ||
-           refusals[PLEX_BAD_EVENT] == 0 || refusals[PLEX_BAD_STATE] == 0;
+           refusals[PLEX_SHARED_BLOCK] == 0 || refusals[PLEX_TOO_MANY_RECORDS] == 0 || refusals[PLEX_BAD_EVENT] == 0 ||
+           refusals[PLEX_BAD_STATE] == 0;
 }

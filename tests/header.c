@@ -1,5 +1,5 @@
 /* The header by itself, in the part of the language that C and C++ share: its numbers fit
- * together, and the four calls carry out the whole-list trial. */
+ * together, and the five calls carry out the whole-list trial and link two guests. */
 #include "plex.h"
 
 #include <stdio.h>
@@ -28,13 +28,15 @@ HOLDS(PLEX_EVENT_SIGNAL + PLEX_SIGNAL_SIZE == PLEX_EVENT_SIZE);
 HOLDS(PLEX_FORMAT_VERSION == 1);
 HOLDS(PLEX_RECORD_SIZE == 84 && PLEX_TABLE_SIZE == 32 && PLEX_WORDS_SIZE == 512);
 HOLDS(PLEX_STATE_SIZE == 7929 && PLEX_EVENT_SIZE == 55 && PLEX_ANSWER_SIZE == 2);
+HOLDS(PLEX_BAD_OUTPUT_LENGTH == 15);
 HOLDS(PLEX_EXIT == 10 && PLEX_CUT == 3 && PLEX_NOTHING_TO_CUT == 10 && PLEX_FOREIGN_FD_BLOCK == 5);
 
-enum { RECORDS = 2, EVENTS = 5 };
+enum { RECORDS = 2, EVENTS = 5, MANY = PLEX_RECORDS_MAX - 1 };
 
 static uint8_t image[RECORDS * PLEX_RECORD_SIZE], table[PLEX_TABLE_SIZE], words[PLEX_WORDS_SIZE];
 static uint8_t state[PLEX_STATE_SIZE], events[EVENTS * PLEX_EVENT_SIZE];
 static uint8_t answers[EVENTS * PLEX_ANSWER_SIZE], met[PLEX_MET_SIZE];
+static uint8_t second[sizeof image], linked[2 * sizeof image], exits[MANY * PLEX_RECORD_SIZE];
 static int failed;
 
 static void expect(const char *what, int holds)
@@ -79,6 +81,37 @@ static void carry_out(void)
     expect("met", met[0] == 3 && met[1] == PLEX_UNMET && met[PLEX_MET_SIZE - 1] == PLEX_UNMET);
 }
 
+static uint32_t link_behind(const uint8_t *behind, size_t size, size_t out_len)
+{
+    return plex_link(image, sizeof image, behind, size, table, sizeof table, linked, out_len);
+}
+
+static void set_blocks(uint8_t *records, int count, uint8_t block)
+{
+    for (int i = 0; i < count; i++)
+        records[i * PLEX_RECORD_SIZE + PLEX_RECORD_BLOCK] = block;
+}
+
+/* The same guest behind itself, in block 1: the label that it uses becomes 3. */
+static void link_guests(void)
+{
+    memcpy(second, image, sizeof image);
+    expect("shared block", PLEX_NUMBER(link_behind(second, sizeof second, sizeof linked)) == PLEX_SHARED_BLOCK);
+    set_blocks(second, RECORDS, 1);
+    expect("output too short",
+           PLEX_NUMBER(link_behind(second, sizeof second, sizeof linked - 1)) == PLEX_BAD_OUTPUT_LENGTH);
+    expect("link", link_behind(second, sizeof second, sizeof linked) == 0);
+    expect("check of the linked image", plex_check(linked, sizeof linked, table, sizeof table) == 0);
+    expect("first image", memcmp(linked, image, sizeof image) == 0);
+    second[PLEX_RECORD_A] = 3;
+    expect("second image", memcmp(linked + sizeof image, second, sizeof second) == 0);
+    for (int i = 0; i < MANY; i++)
+        exits[i * PLEX_RECORD_SIZE + PLEX_RECORD_OPCODE] = PLEX_EXIT;
+    set_blocks(exits, MANY, 1);
+    expect("too many records", PLEX_NUMBER(link_behind(exits, sizeof exits, sizeof linked)) == PLEX_TOO_MANY_RECORDS);
+    expect("empty second image", PLEX_NUMBER(link_behind(NULL, 0, sizeof linked)) == PLEX_BAD_IMAGE_LENGTH);
+}
+
 static void refuse(void)
 {
     uint32_t result;
@@ -102,6 +135,7 @@ int main(void)
     versions();
     fill();
     carry_out();
+    link_guests();
     refuse();
     return failed;
 }

@@ -70,29 +70,57 @@ static int right(const struct lent *lent)
            memcmp(lent->answers, trial.answers, trial.answers_len) == 0;
 }
 
-/* The same results at every place; the walk with the state in memory that cannot be written. */
+static void protect_first(uint8_t *rooms[PARTS], int count, int protection)
+{
+    for (int part = 0; part < count; part++)
+        protect(rooms[part], protection);
+}
+
+/* The walk has the state in memory that cannot be written. */
+static void try_machine(uint8_t *rooms[PARTS], size_t at)
+{
+    static const uint8_t empty[sizeof trial.answers];
+    struct lent lent = {
+        placed(rooms[0], at, trial.image, trial.image_len),  placed(rooms[1], at, trial.table, PLEX_TABLE_SIZE),
+        placed(rooms[2], at, trial.words, PLEX_WORDS_SIZE),  placed(rooms[3], at, trial.events, trial.events_len),
+        placed(rooms[4], at, trial.events, PLEX_STATE_SIZE), placed(rooms[5], at, empty, trial.answers_len)};
+    protect_first(rooms, 4, PROT_READ);
+    expect("check", plex_check(lent.image, trial.image_len, lent.table, PLEX_TABLE_SIZE) == 0);
+    expect("the same at every place", right(&lent));
+    protect(rooms[4], PROT_READ);
+    uint8_t *met = placed(rooms[5], at, empty, PLEX_MET_SIZE);
+    for (uint32_t t = 0; t < PLEX_THREADS; t++)
+        expect("walk", PLEX_NUMBER(plex_walk(lent.image, trial.image_len, lent.table, PLEX_TABLE_SIZE, lent.state,
+                                             PLEX_STATE_SIZE, t, met, PLEX_MET_SIZE)) == 0 &&
+                           met[0] == t);
+    protect_first(rooms, 5, PROT_READ | PROT_WRITE);
+}
+
+/* The guest behind the case: its labels begin where the case's end. */
+static void try_link(uint8_t *rooms[PARTS], size_t at)
+{
+    uint8_t guest[GUEST_SIZE], moved[GUEST_SIZE];
+    size_t size = trial.image_len + sizeof guest;
+    make_guest(guest, &trial, 0);
+    make_guest(moved, &trial, (uint32_t)(trial.image_len / PLEX_RECORD_SIZE));
+    uint8_t *first = placed(rooms[0], at, trial.image, trial.image_len);
+    uint8_t *second = placed(rooms[1], at, guest, sizeof guest);
+    uint8_t *table = placed(rooms[2], at, trial.table, PLEX_TABLE_SIZE);
+    uint8_t *out = placed(rooms[3], at, trial.events, size);
+    protect_first(rooms, 3, PROT_READ);
+    expect("link", plex_link(first, trial.image_len, second, sizeof guest, table, PLEX_TABLE_SIZE, out, size) == 0);
+    expect("the first image", memcmp(out, trial.image, trial.image_len) == 0);
+    expect("the second image", memcmp(out + trial.image_len, moved, sizeof moved) == 0);
+    protect_first(rooms, 3, PROT_READ | PROT_WRITE);
+}
+
+/* The same results at every place. */
 static void try_places(uint8_t *rooms[PARTS])
 {
     static const size_t places[] = {0, 1, 2, 3, 4, 5, 7, 8, 9, 15, ROOM};
-    static const uint8_t empty[sizeof trial.answers];
     for (size_t i = 0; i < sizeof places / sizeof places[0]; i++) {
-        size_t at = places[i];
-        struct lent lent = {
-            placed(rooms[0], at, trial.image, trial.image_len),  placed(rooms[1], at, trial.table, PLEX_TABLE_SIZE),
-            placed(rooms[2], at, trial.words, PLEX_WORDS_SIZE),  placed(rooms[3], at, trial.events, trial.events_len),
-            placed(rooms[4], at, trial.events, PLEX_STATE_SIZE), placed(rooms[5], at, empty, trial.answers_len)};
-        for (int part = 0; part < 4; part++)
-            protect(rooms[part], PROT_READ);
-        expect("check", plex_check(lent.image, trial.image_len, lent.table, PLEX_TABLE_SIZE) == 0);
-        expect("the same at every place", right(&lent));
-        protect(rooms[4], PROT_READ);
-        uint8_t *met = placed(rooms[5], at, empty, PLEX_MET_SIZE);
-        for (uint32_t t = 0; t < PLEX_THREADS; t++)
-            expect("walk", PLEX_NUMBER(plex_walk(lent.image, trial.image_len, lent.table, PLEX_TABLE_SIZE, lent.state,
-                                                 PLEX_STATE_SIZE, t, met, PLEX_MET_SIZE)) == 0 &&
-                               met[0] == t);
-        for (int part = 0; part < 5; part++)
-            protect(rooms[part], PROT_READ | PROT_WRITE);
+        try_machine(rooms, places[i]);
+        try_link(rooms, places[i]);
     }
 }
 
@@ -121,6 +149,39 @@ static void try_empty(uint8_t *room, uint8_t *nowhere)
            PLEX_NUMBER(plex_walk(image, size, table, rows, state, all, 0, nowhere, 0)) == PLEX_BAD_MET_LENGTH);
     expect("thread 8", PLEX_NUMBER(plex_walk(image, size, table, rows, state, all, PLEX_THREADS, met, sizeof met)) ==
                            PLEX_BAD_WALK_THREAD);
+    protect(room, PROT_READ | PROT_WRITE);
+}
+
+static uint32_t link_number(const uint8_t *first, size_t first_len, const uint8_t *second, size_t second_len,
+                            uint8_t *out, size_t out_len)
+{
+    return PLEX_NUMBER(plex_link(first, first_len, second, second_len, trial.table, sizeof trial.table, out, out_len));
+}
+
+/* The same of links, by each of their numbers. */
+static void try_refused_links(uint8_t *room, uint8_t *nowhere)
+{
+    static uint8_t full[sizeof trial.image];
+    uint8_t guest[GUEST_SIZE], same[GUEST_SIZE];
+    const uint8_t *image = trial.image;
+    size_t size = trial.image_len, both = size + GUEST_SIZE;
+    make_guest(guest, &trial, 0);
+    make_guest(same, &trial, 0);
+    for (uint8_t *record = full; record < full + sizeof full; record += PLEX_RECORD_SIZE) {
+        record[PLEX_RECORD_OPCODE] = PLEX_EXIT;
+        record[PLEX_RECORD_BLOCK] = guest[PLEX_RECORD_BLOCK] ^ 1;
+    }
+    protect(room, PROT_READ);
+    expect("no first image", link_number(nowhere, 0, guest, GUEST_SIZE, room, GUEST_SIZE) == PLEX_BAD_IMAGE_LENGTH);
+    expect("no second image", link_number(image, size, nowhere, 0, room, size) == PLEX_BAD_IMAGE_LENGTH);
+    expect("no table",
+           PLEX_NUMBER(plex_link(image, size, guest, GUEST_SIZE, nowhere, 0, room, both)) == PLEX_BAD_TABLE_LENGTH);
+    expect("a block of both",
+           link_number(guest, GUEST_SIZE, same, GUEST_SIZE, room, 2 * GUEST_SIZE) == PLEX_SHARED_BLOCK);
+    expect("too many records",
+           link_number(full, sizeof full, guest, GUEST_SIZE, room, sizeof full + GUEST_SIZE) == PLEX_TOO_MANY_RECORDS);
+    expect("a short output", link_number(image, size, guest, GUEST_SIZE, room, both - 1) == PLEX_BAD_OUTPUT_LENGTH);
+    expect("no output", link_number(image, size, guest, GUEST_SIZE, nowhere, 0) == PLEX_BAD_OUTPUT_LENGTH);
     protect(room, PROT_READ | PROT_WRITE);
 }
 
@@ -176,6 +237,8 @@ int main(int count, char **names)
         try_places(rooms);
         try_empty(rooms[4], NULL);
         try_empty(rooms[4], rooms[0] - 1);
+        try_refused_links(rooms[4], NULL);
+        try_refused_links(rooms[4], rooms[0] - 1);
     }
     try_beside();
     printf("lending: %d cases%s\n", count - 1, failed ? ", NOT as the header says" : "");

@@ -7,8 +7,8 @@ called=$(echo "$symbols" | awk '$1 == "U" { print $2 }' | grep -vx -e memcpy -e 
 offered=$(echo "$symbols" | awk '$2 == "T" { print $3 }' | sort | tr '\n' ' ')
 changing=$(echo "$sections" | awk '$2 ~ /^\.(data|bss|tdata|tbss|init_array|ctors)/ && $3 !~ /^0+$/ { print $2 }')
 common=$(echo "$symbols" | awk '$2 ~ /^[BCDSGbdsg]$/ { print $3 }')
-if [ -n "$called$changing$common" ] || [ "$offered" != 'plex_check plex_fresh plex_run plex_walk ' ]; then
+if [ -n "$called$changing$common" ] || [ "$offered" != 'plex_check plex_fresh plex_link plex_run plex_walk ' ]; then
     echo "library: offers $offered; calls $called; has data $changing $common"
     exit 1
 fi
-echo 'library: four calls, no data of its own, calls memcpy, memmove and memset alone'
+echo 'library: five calls, no data of its own, calls memcpy, memmove and memset alone'

@@ -15,6 +15,7 @@ enum { SPACE = 1024 * 1024, FILLED = 0xA5, RING_EVENTS = 3 * PLEX_THREADS };
 
 static struct trial trial;
 static uint8_t state[PLEX_STATE_SIZE], answers[PLEX_EVENTS_MAX * PLEX_ANSWER_SIZE], met[PLEX_MET_SIZE];
+static uint8_t guest[GUEST_SIZE], linked[sizeof trial.image];
 
 static void *nothing(void *result)
 {
@@ -39,6 +40,13 @@ static void *run(void *result)
 {
     *(uint32_t *)result = plex_run(trial.image, trial.image_len, trial.table, sizeof trial.table, state, sizeof state,
                                    trial.events, trial.events_len, answers, trial.answers_len);
+    return NULL;
+}
+
+static void *link_guest(void *result)
+{
+    *(uint32_t *)result = plex_link(trial.image, trial.image_len, guest, sizeof guest, trial.table, sizeof trial.table,
+                                    linked, trial.image_len + sizeof guest);
     return NULL;
 }
 
@@ -78,11 +86,10 @@ static void make_ring(void)
     memset(&trial, 0, sizeof trial);
     for (uint32_t t = 0; t < PLEX_THREADS; t++) {
         uint16_t after = (uint16_t)(3 * t + 1), called = (uint16_t)(3 * ((t + 1) % PLEX_THREADS) + 2);
-        struct statement guest[] = {{(uint8_t)t, PLEX_EXTERNAL, PLEX_CALL, 0, called, after, 0, {NUMBER(0)}},
+        struct statement block[] = {{(uint8_t)t, PLEX_EXTERNAL, PLEX_CALL, 0, called, after, 0, {NUMBER(0)}},
                                     {(uint8_t)t, PLEX_NO_ENTRY, PLEX_EXIT, 0, 0, 0, 0, {NUMBER(0)}},
                                     {(uint8_t)t, PLEX_DIRECT, PLEX_RETURN, 0, 0, 0, 0, {NUMBER(0)}}};
-        for (uint32_t i = 0; i < 3; i++)
-            put_statement(trial.image + PLEX_RECORD_SIZE * (3 * t + i), &guest[i]);
+        put_statements(trial.image + PLEX_RECORD_SIZE * 3 * t, block, 3);
         trial.table[PLEX_ROW_SIZE * t + PLEX_ROW_THREAD] = (uint8_t)t;
         trial.table[PLEX_ROW_SIZE * t + PLEX_ROW_KIND] = PLEX_CMX;
         put_arrival(trial.events + PLEX_EVENT_SIZE * t, 3 * t, NULL, 0);
@@ -98,11 +105,12 @@ static struct {
     const char *name;
     void *(*work)(void *);
     size_t most;
-} calls[] = {{"check", check, 0}, {"fresh", fresh, 0}, {"run", run, 0}, {"walk", walk, 0}};
+} calls[] = {{"check", check, 0}, {"fresh", fresh, 0}, {"run", run, 0}, {"link", link_guest, 0}, {"walk", walk, 0}};
 
 static void measure(size_t count)
 {
     size_t thread = used(nothing);
+    make_guest(guest, &trial, 0);
     for (size_t i = 0; i < count; i++) {
         size_t all = used(calls[i].work), own = all > thread ? all - thread : 0;
         calls[i].most = own > calls[i].most ? own : calls[i].most;
@@ -117,10 +125,10 @@ int main(int count, char **names)
     }
     for (int i = 1; i < count; i++) {
         load_trial(&trial, names[i]);
-        measure(3);
+        measure(4);
     }
     make_ring();
-    measure(4);
+    measure(5);
     int failed = 0;
     for (size_t i = 0; i < sizeof calls / sizeof calls[0]; i++) {
         printf("stack: %s needs at most %zu bytes\n", calls[i].name, calls[i].most);

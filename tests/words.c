@@ -1,5 +1,6 @@
-/* Statements, events and answers in words, one of each sort. */
+/* Statements, events, answers and refusals in words, one of each sort. */
 #include "build.h"
+#include "names.h"
 #include "words.h"
 
 #include <stdio.h>
@@ -67,6 +68,18 @@ static void try_events(void)
     expect(&cut, "cut of thread 0");
 }
 
+/* Every number of a refusal has a name, and no other. */
+static void try_refusals(void)
+{
+    for (uint32_t number = 0; number <= PLEX_BAD_OUTPUT_LENGTH + 1; number++) {
+        int is_refusal = number >= PLEX_BAD_IMAGE_LENGTH && number <= PLEX_BAD_OUTPUT_LENGTH;
+        if ((strcmp(refusal_name(number), "unknown") != 0) != is_refusal) {
+            printf("words: refusal %u is '%s'\n", number, refusal_name(number));
+            failed = 1;
+        }
+    }
+}
+
 /* Counts beyond every limit, and more words than a line has room for. */
 static void try_any_bytes(void)
 {
@@ -99,6 +112,7 @@ int main(void)
         expect(&line, answers[i].words);
     }
     try_events();
+    try_refusals();
     try_any_bytes();
     return failed;
 }

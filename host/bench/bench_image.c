@@ -92,13 +92,9 @@ static void fill_record(struct builder *builder, uint8_t *record, uint32_t opcod
         fill_signal(builder, record);
 }
 
-void bench_mixed_image(uint8_t *image, size_t records)
+static void fill_image(uint8_t *image, size_t records, uint32_t blocks)
 {
-    struct builder builder = {.records = (uint32_t)records,
-                              .blocks = records < 16   ? 1
-                                        : records < 64 ? 4
-                                                       : PLEX_BLOCKS,
-                              .chance = 88172645463325252u};
+    struct builder builder = {.records = (uint32_t)records, .blocks = blocks, .chance = 88172645463325252u};
     memset(image, 0, PLEX_RECORD_SIZE * records);
     for (uint32_t label = 0; label < records; label++) {
         uint8_t *record = image + PLEX_RECORD_SIZE * label;
@@ -108,6 +104,18 @@ void bench_mixed_image(uint8_t *image, size_t records)
         uint32_t opcode = label < PLEX_EXIT ? (label + 1) % PLEX_EXIT + 1 : 1 + below(&builder, PLEX_EXIT);
         fill_record(&builder, record, opcode);
     }
+}
+
+void bench_mixed_image(uint8_t *image, size_t records)
+{
+    fill_image(image, records, records < 16 ? 1 : records < 64 ? 4 : PLEX_BLOCKS);
+}
+
+void bench_guest_image(uint8_t *image, size_t records, uint32_t first_block)
+{
+    fill_image(image, records, GUEST_BLOCKS);
+    for (size_t label = 0; label < records; label++)
+        image[PLEX_RECORD_SIZE * label + PLEX_RECORD_BLOCK] += (uint8_t)first_block;
 }
 
 void bench_exit_image(uint8_t *image, size_t records)

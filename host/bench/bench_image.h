@@ -11,6 +11,10 @@
  * ASSIGN), with 0 to 25 data operands where an opcode carries data. */
 void bench_mixed_image(uint8_t *image, size_t records);
 
+/* Records a multiple of 32 up to 512: as above, in the 8 blocks from the given one on. */
+enum { GUEST_BLOCKS = 8 };
+void bench_guest_image(uint8_t *image, size_t records, uint32_t first_block);
+
 void bench_exit_image(uint8_t *image, size_t records);
 
 #endif

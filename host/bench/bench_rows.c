@@ -11,12 +11,14 @@ struct altered {
     uint8_t state[PLEX_STATE_SIZE];
     uint8_t answers[PLEX_ANSWER_SIZE * PLEX_EVENTS_MAX];
     uint8_t met[PLEX_MET_SIZE];
+    uint8_t linked[PLEX_RECORD_SIZE * PLEX_RECORDS_MAX];
 };
 
 /* What the row in hand lends: the same to both engines, but for what they alter. */
 static struct {
     uint8_t image[PLEX_RECORD_SIZE * PLEX_RECORDS_MAX];
-    size_t image_len;
+    uint8_t second_image[PLEX_RECORD_SIZE * PLEX_RECORDS_MAX];
+    size_t image_len; /* of either */
     uint8_t table[PLEX_TABLE_SIZE];
     uint8_t words[PLEX_WORDS_SIZE];
     uint8_t events[PLEX_EVENT_SIZE * PLEX_EVENTS_MAX];
@@ -26,12 +28,14 @@ static struct {
 static struct altered by_plex, by_plain;
 
 #define IMAGE work.image, work.image_len
+#define SECOND_IMAGE work.second_image, work.image_len
 #define TABLE work.table, sizeof work.table
 #define WORDS work.words, sizeof work.words
 #define STATE(engine) engine.state, sizeof engine.state
 #define EVENTS work.events, PLEX_EVENT_SIZE *work.event_count
 #define ANSWERS(engine) engine.answers, PLEX_ANSWER_SIZE *work.event_count
 #define MET(engine) engine.met, sizeof engine.met
+#define LINKED(engine) engine.linked, 2 * work.image_len
 
 static uint32_t plex_check_call(void)
 {
@@ -69,6 +73,16 @@ static uint32_t plex_walk_call(void)
 static uint32_t plain_walk_call(void)
 {
     return plain_walk(IMAGE, TABLE, STATE(by_plain), 0, MET(by_plain));
+}
+
+static uint32_t plex_link_call(void)
+{
+    return plex_link(IMAGE, SECOND_IMAGE, TABLE, LINKED(by_plex));
+}
+
+static uint32_t plain_link_call(void)
+{
+    return plain_link(IMAGE, SECOND_IMAGE, TABLE, LINKED(by_plain));
 }
 
 static void begin(const struct bench_row *row)
@@ -128,10 +142,19 @@ static void prepare_ring(const struct bench_row *row)
     by_plex = by_plain;
 }
 
+/* Two guests with every sort of statement, in blocks of their own. */
+static void prepare_guests(const struct bench_row *row)
+{
+    begin(row);
+    bench_guest_image(work.image, row->records, 0);
+    bench_guest_image(work.second_image, row->records, GUEST_BLOCKS);
+}
+
 #define CHECK prepare_mixed, plex_check_call, plain_check_call
 #define FRESH prepare_mixed, plex_fresh_call, plain_fresh_call
 #define RUN prepare_jobs, plex_run_call, plain_run_call
 #define WALK_RING prepare_ring, plex_walk_call, plain_walk_call
+#define LINK prepare_guests, plex_link_call, plain_link_call
 
 const struct bench_row bench_rows[] = {
     {"check, 1 record", 1, 0, CHECK_PLOT, CHECK},
@@ -147,6 +170,9 @@ const struct bench_row bench_rows[] = {
     {"walk, ring, 16 records", 16, 0, WALK_PLOT, WALK_RING},
     {"walk, ring, 128 records", 128, 0, WALK_PLOT, WALK_RING},
     {"walk, ring, 512 records", 512, 0, WALK_PLOT, WALK_RING},
+    {"link, 2 x 32 records", 32, 0, LINK_PLOT, LINK},
+    {"link, 2 x 128 records", 128, 0, LINK_PLOT, LINK},
+    {"link, 2 x 256 records", 256, 0, LINK_PLOT, LINK},
     {"run, 16 records", 16, 1, SMALL_RUN_PLOT, RUN},
     {"run, 16 records", 16, 16, SMALL_RUN_PLOT, RUN},
     {"run, 16 records", 16, 64, SMALL_RUN_PLOT, RUN},

@@ -6,12 +6,21 @@
 #include <stdint.h>
 
 /* The plots that rows are points of. */
-enum bench_plots { CHECK_PLOT, FRESH_PLOT, WALK_PLOT, SMALL_RUN_PLOT, FULL_RUN_PLOT, PLOTS, NO_PLOT = PLOTS };
+enum bench_plots {
+    CHECK_PLOT,
+    FRESH_PLOT,
+    WALK_PLOT,
+    LINK_PLOT,
+    SMALL_RUN_PLOT,
+    FULL_RUN_PLOT,
+    PLOTS,
+    NO_PLOT = PLOTS
+};
 
 struct bench_row {
     const char *name;
-    size_t records;
-    size_t events; /* of one call of Run, timed by the event; 0 for a row timed by the call */
+    size_t records; /* of an image */
+    size_t events;  /* of one call of Run, timed by the event; 0 for a row timed by the call */
     enum bench_plots plot;
     /* Fills what is lent; the calls below then do the same work each time. */
     void (*prepare)(const struct bench_row *row);

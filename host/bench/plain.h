@@ -25,4 +25,8 @@ uint32_t plain_run(const uint8_t *image, size_t image_len, const uint8_t *table,
 uint32_t plain_walk(const uint8_t *image, size_t image_len, const uint8_t *table, size_t table_len,
                     const uint8_t *state, size_t state_len, uint32_t thread, uint8_t *met, size_t met_len);
 
+/* Writes the first image and behind it the second, with its labels moved along. */
+uint32_t plain_link(const uint8_t *first, size_t first_len, const uint8_t *second, size_t second_len,
+                    const uint8_t *table, size_t table_len, uint8_t *out, size_t out_len);
+
 #endif

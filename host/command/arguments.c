@@ -1,4 +1,5 @@
 #include "command.h"
+#include "outputs.h"
 
 #include <string.h>
 
@@ -105,4 +106,12 @@ bool are_so_many(int count, int wanted)
     else if (count >= 0 && count < wanted)
         complain("there are %d files, and %d are wanted: some are missing", count, wanted);
     return count == wanted;
+}
+
+bool are_different(const char *name, const char *path, const char *other_name, const char *other_path)
+{
+    bool same = path != NULL && other_path != NULL && lead_to_same_file(path, other_path);
+    if (same)
+        complain("%s and %s name the same file", name, other_name);
+    return !same;
 }

@@ -3,17 +3,15 @@
 
 static uint32_t count_blocks(const uint8_t *image, uint32_t records)
 {
-    uint32_t named = 0, count = 0;
-    for (uint32_t label = 0; label < records; label++)
-        named |= 1u << record_at(image, label)[PLEX_RECORD_BLOCK];
-    for (; named != 0; named &= named - 1)
+    uint32_t count = 0;
+    for (uint32_t named = named_blocks(image, records); named != 0; named &= named - 1)
         count++;
     return count;
 }
 
 static void print_accepted(const struct lent *lent)
 {
-    uint32_t records = (uint32_t)(lent->image.size / PLEX_RECORD_SIZE);
+    uint32_t records = records_of(&lent->image);
     uint32_t blocks = count_blocks(lent->image.bytes, records);
     print("%saccepted%s: %s, %u %s in %u %s, with %s\n", colour_on(stdout, GREEN), colour_off(stdout), lent->image.path,
           records, records == 1 ? "record" : "records", blocks, blocks == 1 ? "block" : "blocks", lent->table.path);

@@ -15,6 +15,7 @@ enum { DONE = 0, TURNED_BACK = 1, MISUSED = 2, RING_FOUND = 3 };
 /* ---- The parts, each given the arguments after its name. */
 int check_command(int argc, char **argv);
 int show_command(int argc, char **argv);
+int link_command(int argc, char **argv);
 int run_command(int argc, char **argv);
 int state_command(int argc, char **argv);
 int waits_command(int argc, char **argv);
@@ -34,6 +35,10 @@ int take_arguments(int argc, char **argv, const struct option *options, const ch
 
 /* Whether the count of other arguments is the one wanted; a sentence if not. */
 bool are_so_many(int count, int wanted);
+
+/* Whether two arguments, called by these names and NULL if not there, lead to different files; a
+ * sentence if not. */
+bool are_different(const char *name, const char *path, const char *other_name, const char *other_path);
 
 /* ---- Standard output. */
 
@@ -59,11 +64,14 @@ bool lend(struct file *file, const char *path, size_t limit);
 
 /* The files lent to a call; those that it was not lent are empty. */
 struct lent {
-    struct file image, table, words, state, events;
+    struct file image, second_image, table, words, state, events;
     uint64_t events_before; /* events of the file that earlier calls carried out */
 };
 
 void free_lent(struct lent *lent);
+
+/* How many whole records the image has. */
+uint32_t records_of(const struct file *image);
 
 /* Whether the file is as long as a state; a sentence if not. */
 bool is_state_long(const struct file *state);

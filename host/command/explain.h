@@ -11,6 +11,10 @@ void explain_row(struct line *why, const uint8_t *table, uint32_t block);
 
 void explain_record(struct line *why, const uint8_t *image, uint32_t records, uint32_t label);
 
+/* Two images, each of which keeps the rules. */
+void explain_link(struct line *why, const uint8_t *first, uint32_t first_records, const uint8_t *second,
+                  uint32_t second_records);
+
 void explain_event(struct line *why, const uint8_t *image, uint32_t records, const uint8_t *event);
 
 void explain_state(struct line *why, const uint8_t *image, uint32_t records, const uint8_t *table,

@@ -1,4 +1,4 @@
-/* The command plex: the library's four calls on files. */
+/* The command plex: the library's five calls on files. */
 #define _POSIX_C_SOURCE 200809L
 
 #include "command.h"
@@ -20,6 +20,12 @@ static const struct part {
     {"show", show_command, "IMAGE",
      "Lists an image as statements, block by block: label, entry, statement. r0 is register 0 and\n"
      "w0 shared word 0 of the record's block.\n"},
+    {"link", link_command, "FIRST SECOND TABLE --out IMAGE",
+     "Links two images that are meant for one block table: the second is laid behind the first, and\n"
+     "its labels become higher by the first's number of records. If they are refused, says which\n"
+     "image and record are at fault, or which blocks both have.\n"
+     "\n"
+     "  --out IMAGE  write the linked image; the file may be FIRST or SECOND, but not TABLE\n"},
     {"run", run_command, "IMAGE TABLE WORDS|--state STATE EVENTS [OPTIONS]",
      "Carries the events of a file out, from a fresh machine with the initial words or from a\n"
      "state, and prints a line for each event: its place in the file, the event, the statement\n"
@@ -109,7 +115,7 @@ static int carry_out_all(int argc, char **argv)
     }
     if (argc >= 2)
         complain("there is no part %s", argv[1]);
-    fprintf(stderr, "Use: plex check|show|run|state|waits ARGUMENTS; see plex --help\n");
+    fprintf(stderr, "Use: plex check|show|link|run|state|waits ARGUMENTS; see plex --help\n");
     return MISUSED;
 }
 

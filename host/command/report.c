@@ -42,6 +42,7 @@ bool is_written(const char *path, int failed)
 void free_lent(struct lent *lent)
 {
     free(lent->image.bytes);
+    free(lent->second_image.bytes);
     free(lent->table.bytes);
     free(lent->words.bytes);
     free(lent->state.bytes);
@@ -80,16 +81,16 @@ static void report_row(const struct lent *lent, uint32_t block)
              row[PLEX_ROW_THREAD], row[PLEX_ROW_KIND], line.text);
 }
 
-static uint32_t records_of(const struct lent *lent)
+uint32_t records_of(const struct file *image)
 {
-    return (uint32_t)(lent->image.size / PLEX_RECORD_SIZE);
+    return (uint32_t)(image->size / PLEX_RECORD_SIZE);
 }
 
 static void report_record(const struct lent *lent, uint32_t label)
 {
     struct line line = {0}, why = {0};
     add_statement(&line, record_at(lent->image.bytes, label));
-    explain_record(&why, lent->image.bytes, records_of(lent), label);
+    explain_record(&why, lent->image.bytes, records_of(&lent->image), label);
     add_cause(&line, &why);
     complain("%s: the record at label %u (block %u) breaks a rule: %s", lent->image.path, label,
              record_at(lent->image.bytes, label)[PLEX_RECORD_BLOCK], line.text);
@@ -98,7 +99,7 @@ static void report_record(const struct lent *lent, uint32_t label)
 static void report_state(const struct lent *lent)
 {
     struct line line = {0}, why = {0};
-    explain_state(&why, lent->image.bytes, records_of(lent), lent->table.bytes, lent->state.bytes);
+    explain_state(&why, lent->image.bytes, records_of(&lent->image), lent->table.bytes, lent->state.bytes);
     add_cause(&line, &why);
     complain("%s: not well formed with %s and %s%s", lent->state.path, lent->image.path, lent->table.path, line.text);
 }
@@ -108,18 +109,24 @@ static void report_event(const struct lent *lent, uint32_t index)
     const uint8_t *event = lent->events.bytes + PLEX_EVENT_SIZE * index;
     struct line line = {0}, why = {0};
     add_event(&line, event);
-    explain_event(&why, lent->image.bytes, records_of(lent), event);
+    explain_event(&why, lent->image.bytes, records_of(&lent->image), event);
     add_cause(&line, &why);
     complain("%s: event %" PRIu64 " breaks a rule: %s", lent->events.path, lent->events_before + index, line.text);
 }
 
-bool was_accepted(const struct lent *lent, uint32_t result)
+/* Two images, each of which keeps the rules. */
+static void report_link(const struct lent *lent, uint32_t number)
 {
-    uint32_t number = PLEX_NUMBER(result), place = PLEX_PLACE(result);
-    uint64_t place_in_file = place;
+    struct line line = {0}, why = {0};
+    explain_link(&why, lent->image.bytes, records_of(&lent->image), lent->second_image.bytes,
+                 records_of(&lent->second_image));
+    add_cause(&line, &why);
+    complain("%s and %s: %s%s", lent->image.path, lent->second_image.path, refusal_name(number), line.text);
+}
+
+static void report(const struct lent *lent, uint32_t number, uint32_t place)
+{
     switch (number) {
-    case 0:
-        return true;
     case PLEX_BAD_IMAGE_LENGTH:
         report_length(&lent->image, PLEX_RECORD_SIZE * PLEX_RECORDS_MAX,
                       "an image is 84 bytes a record, 1 to 512 records");
@@ -141,14 +148,26 @@ bool was_accepted(const struct lent *lent, uint32_t result)
         break;
     case PLEX_BAD_EVENT:
         report_event(lent, place);
-        place_in_file += lent->events_before;
         break;
     case PLEX_BAD_WORDS_LENGTH:
         report_length(&lent->words, PLEX_WORDS_SIZE, "initial words are 512 bytes");
         break;
+    case PLEX_SHARED_BLOCK:
+    case PLEX_TOO_MANY_RECORDS:
+        report_link(lent, number);
+        break;
     default:
         complain("%s", refusal_name(number));
     }
-    fprintf(stderr, "      refused with number %u, place %" PRIu64 "\n", number, place_in_file);
+}
+
+bool was_accepted(const struct lent *lent, uint32_t result)
+{
+    uint32_t number = PLEX_NUMBER(result), place = PLEX_PLACE(result);
+    uint64_t events_before = number == PLEX_BAD_EVENT ? lent->events_before : 0;
+    if (number == 0)
+        return true;
+    report(lent, number, place);
+    fprintf(stderr, "      refused with number %u, place %" PRIu64 "\n", number, events_before + place);
     return false;
 }

@@ -157,14 +157,6 @@ static void end_run(struct run *run)
     free_lent(&run->lent);
 }
 
-static bool are_different(const char *out, const char *answers)
-{
-    bool same = out != NULL && answers != NULL && lead_to_same_file(out, answers);
-    if (same)
-        complain("--out and --answers name the same file");
-    return !same;
-}
-
 int run_command(int argc, char **argv)
 {
     struct run run = {.source.descriptor = -1};
@@ -176,7 +168,7 @@ int run_command(int argc, char **argv)
                                      {0}};
     int count = take_arguments(argc, argv, options, paths, 4);
     if (!are_so_many(count, run.state_path != NULL ? 3 : 4) ||
-        !are_different(run.output_paths[STATE_LEFT], run.output_paths[ANSWERS]))
+        !are_different("--out", run.output_paths[STATE_LEFT], "--answers", run.output_paths[ANSWERS]))
         return MISUSED;
     bool done = lend(&run.lent.image, paths[0], PLEX_RECORD_SIZE * PLEX_RECORDS_MAX) &&
                 lend(&run.lent.table, paths[1], PLEX_TABLE_SIZE) && begin_machine(&run, paths[2]) &&

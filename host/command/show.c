@@ -42,7 +42,7 @@ int show_command(int argc, char **argv)
     uint32_t result = plex_check(lent.image.bytes, lent.image.size, any_table, sizeof any_table);
     if (PLEX_NUMBER(result) != PLEX_BAD_IMAGE_LENGTH)
         for (uint32_t block = 0; block <= PLEX_BLOCKS; block++)
-            print_block(lent.image.bytes, (uint32_t)(lent.image.size / PLEX_RECORD_SIZE), block);
+            print_block(lent.image.bytes, records_of(&lent.image), block);
     bool accepted = was_accepted(&lent, result);
     free_lent(&lent);
     return accepted ? DONE : TURNED_BACK;

@@ -19,6 +19,12 @@ void put_statement(uint8_t *record, const struct statement *statement)
     }
 }
 
+void put_statements(uint8_t *image, const struct statement *statements, uint32_t count)
+{
+    for (uint32_t label = 0; label < count; label++)
+        put_statement(image + PLEX_RECORD_SIZE * label, &statements[label]);
+}
+
 void put_arrival(uint8_t *event, uint32_t label, const uint16_t *values, uint8_t count)
 {
     uint8_t *signal = event + PLEX_EVENT_SIGNAL;

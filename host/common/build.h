@@ -30,8 +30,9 @@ struct statement {
     struct operand operands[PLEX_REGISTERS];
 };
 
-/* Each writes every byte of its record or event. */
+/* Each writes every byte of its record, its records or its event. */
 void put_statement(uint8_t *record, const struct statement *statement);
+void put_statements(uint8_t *image, const struct statement *statements, uint32_t count);
 void put_arrival(uint8_t *event, uint32_t label, const uint16_t *values, uint8_t count);
 void put_step(uint8_t *event, uint32_t thread);
 void put_cut(uint8_t *event, uint32_t thread);

@@ -31,6 +31,15 @@ static inline const uint8_t *record_at(const uint8_t *image, uint32_t label)
     return image + PLEX_RECORD_SIZE * label;
 }
 
+/* The blocks that records of a checked image are in, bit b for block b. */
+static inline uint32_t named_blocks(const uint8_t *image, uint32_t records)
+{
+    uint32_t named = 0;
+    for (uint32_t label = 0; label < records; label++)
+        named |= 1u << record_at(image, label)[PLEX_RECORD_BLOCK];
+    return named;
+}
+
 static inline const uint8_t *operand_at(const uint8_t *record, uint32_t index)
 {
     return record + PLEX_RECORD_OPERANDS + PLEX_OPERAND_SIZE * index;

@@ -48,11 +48,7 @@ int write_file(const char *path, const uint8_t *bytes, size_t size)
 {
     struct output output;
     const struct output *at_fault;
-    int failed = begin_output(&output, path);
-    if (!failed)
-        failed = write_output(&output, bytes, size);
-    if (!failed)
-        failed = close_output(&output);
+    int failed = complete_output(&output, path, bytes, size);
     if (!failed)
         failed = place_outputs(&output, 1, &at_fault);
     drop_output(&output);

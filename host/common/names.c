@@ -49,7 +49,10 @@ static const char *const refusals[] = {[PLEX_BAD_IMAGE_LENGTH] = "the image's le
                                        [PLEX_BAD_ANSWERS_LENGTH] = "the answers are not 2 bytes an event",
                                        [PLEX_BAD_WORDS_LENGTH] = "the initial words are not 512 bytes",
                                        [PLEX_BAD_WALK_THREAD] = "the walk's thread is above 7",
-                                       [PLEX_BAD_MET_LENGTH] = "the walk's buffer is not 8 bytes"};
+                                       [PLEX_BAD_MET_LENGTH] = "the walk's buffer is not 8 bytes",
+                                       [PLEX_SHARED_BLOCK] = "both images name the same block",
+                                       [PLEX_TOO_MANY_RECORDS] = "the images have more than 512 records together",
+                                       [PLEX_BAD_OUTPUT_LENGTH] = "the output is not as long as both images together"};
 
 const char *opcode_name(uint32_t opcode)
 {

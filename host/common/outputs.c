@@ -132,6 +132,14 @@ int close_output(struct output *output)
     return failed;
 }
 
+int complete_output(struct output *output, const char *path, const void *bytes, size_t size)
+{
+    int failed = begin_output(output, path);
+    if (!failed)
+        failed = write_output(output, bytes, size);
+    return failed ? failed : close_output(output);
+}
+
 /* Gives what stands under the target a second name, or another one where that is not possible. */
 static int keep_former(struct output *output)
 {

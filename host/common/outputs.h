@@ -32,6 +32,9 @@ int write_output(struct output *output, const void *bytes, size_t size);
 /* Closes it, complete but not yet in place. */
 int close_output(struct output *output);
 
+/* All three: an output of these bytes, complete but not yet in place. */
+int complete_output(struct output *output, const char *path, const void *bytes, size_t size);
+
 /* Puts closed outputs in place. On failure every name has the file that it had, and the output at
  * fault is told. */
 int place_outputs(struct output *outputs, size_t count, const struct output **at_fault);

@@ -22,6 +22,12 @@ static const struct statement program[CASE_RECORDS] = {
     {NORTH_CHARGING, PLEX_DIRECT, PLEX_RETURN, 0, 0, 0, 1, {WORD(0)}},
 };
 
+/* East's guest adds up what it is sent. */
+static const struct statement east_program[EAST_RECORDS] = {
+    {EAST_GUEST, PLEX_EXTERNAL, PLEX_ASSIGN, PLEX_ADD, 1, 0, 3, {WORD(0), WORD(0), REGISTER(0)}},
+    {EAST_GUEST, PLEX_NO_ENTRY, PLEX_EXIT, 0, 0, 0, 0, {NUMBER(0)}},
+};
+
 static const struct {
     const char *name;
     uint8_t thread;
@@ -29,13 +35,13 @@ static const struct {
 } blocks[CASE_BLOCKS] = {
     [NORTH_GUEST] = {"North's guest", 0, 0}, [NORTH_CHARGING] = {"North's charging", 0, 120},
     [TARIFFS] = {"the tariffs", 0, 0},       [SOUTH_GUEST] = {"South's guest", 0, 75},
-    [AUDIT] = {"the audit", 1, 0},
+    [AUDIT] = {"the audit", 1, 0},           [EAST_GUEST] = {"East's guest", 2, 0},
 };
 
-/* The thread of each step after the three arrivals. */
+/* The thread of each step after the case's three arrivals. */
 static const uint8_t stepped[] = {0, 0, 1, 1, 0, 0, 1, 0, 0, 1, 1, 1};
 
-static const char *const notes[CASE_EVENTS] = {
+static const char *const notes[LINKED_EVENTS] = {
     [0] = "North's guest, to be charged for 25 pulses",
     [1] = "South's guest",
     [2] = "the audit",
@@ -44,11 +50,12 @@ static const char *const notes[CASE_EVENTS] = {
     [9] = "the audit once more",
     [10] = "South's guest on the thread that North's job had",
     [11] = "South's RETURN, which no CALL of South's went before",
+    [15] = "East's guest, at label 0 of its own image",
 };
 
 const char *case_event_note(uint32_t index)
 {
-    return index < CASE_EVENTS ? notes[index] : NULL;
+    return index < LINKED_EVENTS ? notes[index] : NULL;
 }
 
 const char *case_block_name(uint32_t block)
@@ -58,19 +65,22 @@ const char *case_block_name(uint32_t block)
 
 static void make_events(uint8_t *event)
 {
-    static const uint16_t north_pulses[] = {25}, south_value[] = {999};
+    static const uint16_t north_pulses[] = {25}, south_value[] = {999}, east_value[] = {40};
     put_arrival(event, 0, north_pulses, 1);
     put_arrival(event += PLEX_EVENT_SIZE, 8, south_value, 1);
     put_arrival(event += PLEX_EVENT_SIZE, 9, NULL, 0);
     for (size_t i = 0; i < sizeof stepped; i++)
         put_step(event += PLEX_EVENT_SIZE, stepped[i]);
+    put_arrival(event += PLEX_EVENT_SIZE, CASE_RECORDS, east_value, 1);
+    for (uint32_t i = 1; i < EAST_EVENTS; i++)
+        put_step(event += PLEX_EVENT_SIZE, blocks[EAST_GUEST].thread);
 }
 
 void make_case(struct field_case *made)
 {
     memset(made, 0, sizeof *made);
-    for (uint32_t label = 0; label < CASE_RECORDS; label++)
-        put_statement(made->image + PLEX_RECORD_SIZE * label, &program[label]);
+    put_statements(made->image, program, CASE_RECORDS);
+    put_statements(made->east_image, east_program, EAST_RECORDS);
     for (uint32_t block = 0; block < CASE_BLOCKS; block++) {
         uint8_t *row = made->table + PLEX_ROW_SIZE * block;
         row[PLEX_ROW_THREAD] = blocks[block].thread;

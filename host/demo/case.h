@@ -1,19 +1,21 @@
-/* The case from the field: two customers' guests on one thread, and an audit on another. */
+/* The case from the field: two customers' guests on one thread, and an audit on another; and a
+ * third customer's guest, which comes as an image of its own. */
 #ifndef CASE_H
 #define CASE_H
 
 #include "plex.h"
 
 /* The blocks, each with the lock of its number. */
-enum { NORTH_GUEST, NORTH_CHARGING, TARIFFS, SOUTH_GUEST, AUDIT, CASE_BLOCKS };
+enum { NORTH_GUEST, NORTH_CHARGING, TARIFFS, SOUTH_GUEST, AUDIT, EAST_GUEST, CASE_BLOCKS };
 
-enum { CASE_RECORDS = 13, CASE_EVENTS = 15 };
+enum { CASE_RECORDS = 13, EAST_RECORDS = 2, LINKED_RECORDS = CASE_RECORDS + EAST_RECORDS };
+enum { CASE_EVENTS = 15, EAST_EVENTS = 4, LINKED_EVENTS = CASE_EVENTS + EAST_EVENTS };
 
 struct field_case {
-    uint8_t image[CASE_RECORDS * PLEX_RECORD_SIZE];
+    uint8_t image[CASE_RECORDS * PLEX_RECORD_SIZE], east_image[EAST_RECORDS * PLEX_RECORD_SIZE];
     uint8_t table[PLEX_TABLE_SIZE];
     uint8_t words[PLEX_WORDS_SIZE];
-    uint8_t events[CASE_EVENTS * PLEX_EVENT_SIZE];
+    uint8_t events[LINKED_EVENTS * PLEX_EVENT_SIZE]; /* the case's, then East's with its image linked */
 };
 
 void make_case(struct field_case *made);

@@ -1,10 +1,11 @@
 /* The case from the field, replayed: a guest's job traps inside its second nested call, and the
  * next guest on the same thread does RETURN. An engine that kept the return labels of the ended
  * job would let South's RETURN go on at label 4 and charge North for it; one that kept its locks
- * would let the audit wait for ever.
+ * would let the audit wait for ever. East's guest, which comes as an image of its own, is linked
+ * behind the case first, and runs after it.
  *
  * Use: demo          prints the trace; the status is 1 if a charging word changed
- *      demo FOLDER   writes the case there as the files of the command plex */
+ *      demo FOLDER   writes the case and East's image there, as files of the command plex */
 #include "case.h"
 #include "fields.h"
 #include "files.h"
@@ -15,6 +16,7 @@
 #include <string.h>
 
 static struct field_case field;
+static uint8_t linked[LINKED_RECORDS * PLEX_RECORD_SIZE];
 static uint8_t state[PLEX_STATE_SIZE];
 
 /* Whether a call was accepted; says so if not. */
@@ -32,10 +34,10 @@ static void print_program(void)
         const uint8_t *row = row_at(field.table, block);
         printf("block %u, %s: %s, thread %u\n", block, case_block_name(block), block_kind_name(row[PLEX_ROW_KIND]),
                row[PLEX_ROW_THREAD]);
-        for (uint32_t label = 0; label < CASE_RECORDS; label++)
-            if (record_at(field.image, label)[PLEX_RECORD_BLOCK] == block) {
+        for (uint32_t label = 0; label < LINKED_RECORDS; label++)
+            if (record_at(linked, label)[PLEX_RECORD_BLOCK] == block) {
                 struct line line = {0};
-                add_record(&line, field.image, label);
+                add_record(&line, linked, label);
                 printf("  %s\n", line.text);
             }
     }
@@ -75,7 +77,7 @@ static void print_statement(uint32_t thread)
     struct line line = {0};
     if (label == PLEX_IDLE)
         return;
-    add_statement(&line, record_at(field.image, label));
+    add_statement(&line, record_at(linked, label));
     printf("    statement label %u: %s\n", label, line.text);
 }
 
@@ -90,8 +92,8 @@ static void print_answer(const uint8_t *answer)
 static int print_walk(uint32_t thread)
 {
     uint8_t met[PLEX_MET_SIZE];
-    uint32_t result = plex_walk(field.image, sizeof field.image, field.table, sizeof field.table, state, sizeof state,
-                                thread, met, sizeof met);
+    uint32_t result =
+        plex_walk(linked, sizeof linked, field.table, sizeof field.table, state, sizeof state, thread, met, sizeof met);
     if (!accepted("plex_walk", result))
         return 0;
     printf("    the walk  thread %u", met[0]);
@@ -112,8 +114,8 @@ static int replay(uint32_t index)
         print_thread("before", thread);
         print_statement(thread);
     }
-    if (!accepted("plex_run", plex_run(field.image, sizeof field.image, field.table, sizeof field.table, state,
-                                       sizeof state, event, PLEX_EVENT_SIZE, answer, sizeof answer)))
+    if (!accepted("plex_run", plex_run(linked, sizeof linked, field.table, sizeof field.table, state, sizeof state,
+                                       event, PLEX_EVENT_SIZE, answer, sizeof answer)))
         return 0;
     print_answer(answer);
     if (!is_arrival)
@@ -122,23 +124,36 @@ static int replay(uint32_t index)
     return answer[PLEX_ANSWER_CODE] != PLEX_WAITING || print_walk(thread);
 }
 
+/* One image of both, and a fresh machine for it. */
+static int begin(void)
+{
+    if (!accepted("plex_link", plex_link(field.image, sizeof field.image, field.east_image, sizeof field.east_image,
+                                         field.table, sizeof field.table, linked, sizeof linked)))
+        return 0;
+    printf("The image of East's guest is linked behind the case; its labels are now %d higher.\n\n", CASE_RECORDS);
+    print_program();
+    if (!accepted("plex_check", plex_check(linked, sizeof linked, field.table, sizeof field.table)) ||
+        !accepted("plex_fresh", plex_fresh(linked, sizeof linked, field.table, sizeof field.table, field.words,
+                                           sizeof field.words, state, sizeof state)))
+        return 0;
+    printf("\nThe linked image and the table are accepted, and a fresh machine is made.\n");
+    return 1;
+}
+
 static int trace(void)
 {
-    print_program();
-    if (!accepted("plex_check", plex_check(field.image, sizeof field.image, field.table, sizeof field.table)) ||
-        !accepted("plex_fresh", plex_fresh(field.image, sizeof field.image, field.table, sizeof field.table,
-                                           field.words, sizeof field.words, state, sizeof state)))
+    if (!begin())
         return 1;
     uint32_t north = north_charge(), south = south_charge();
-    printf("\nThe image and the table are accepted, and a fresh machine is made.\n"
-           "charges: North %u (block %d, word 0), South %u (block %d, word 0)\n",
-           north, NORTH_CHARGING, south, SOUTH_GUEST);
-    for (uint32_t index = 0; index < CASE_EVENTS; index++)
+    printf("charges: North %u (block %d, word 0), South %u (block %d, word 0)\n", north, NORTH_CHARGING, south,
+           SOUTH_GUEST);
+    for (uint32_t index = 0; index < LINKED_EVENTS; index++)
         if (!replay(index))
             return 1;
     int kept = north_charge() == north && south_charge() == south;
-    printf("\nThe charging words %s: North %u, South %u. The audit read %u.\n", kept ? "are as they were" : "CHANGED",
-           north_charge(), south_charge(), get16(word_at(state, AUDIT, 0)));
+    printf("\nThe charging words %s: North %u, South %u. The audit read %u, East counted %u.\n",
+           kept ? "are as they were" : "CHANGED", north_charge(), south_charge(), get16(word_at(state, AUDIT, 0)),
+           get16(word_at(state, EAST_GUEST, 0)));
     return kept ? 0 : 1;
 }
 
@@ -160,5 +175,6 @@ int main(int argc, char **argv)
     return write_part(argv[1], "case.image", field.image, sizeof field.image) ||
            write_part(argv[1], "case.table", field.table, sizeof field.table) ||
            write_part(argv[1], "case.words", field.words, sizeof field.words) ||
-           write_part(argv[1], "case.events", field.events, sizeof field.events);
+           write_part(argv[1], "case.events", field.events, CASE_EVENTS * PLEX_EVENT_SIZE) ||
+           write_part(argv[1], "east.image", field.east_image, sizeof field.east_image);
 }

@@ -2,7 +2,7 @@
 tried 'no part' 2 'see plex --help'
 tried 'help' 0 'plex waits IMAGE TABLE STATE' --help
 tried 'unknown part' 2 'there is no part walk' walk
-for part in check show run state waits; do
+for part in check show link run state waits; do
     tried "help of $part" 0 "^Use: plex $part " "$part" --help
     tried "$part without arguments" 2 'missing' "$part"
     tried "$part with an unknown option" 2 'no option --nothing' "$part" --nothing
@@ -10,6 +10,7 @@ for part in check show run state waits; do
 done
 tried 'check without its files' 1 'a: cannot be read: No such file' check a b
 tried 'show without its file' 1 'a: cannot be read: No such file' show a
+tried 'link without its files' 1 'a: cannot be read: No such file' link a b c --out d
 tried 'run without its files' 1 'a: cannot be read: No such file' run a b c d
 tried 'state without its file' 1 'a: cannot be read: No such file' state a
 tried 'waits without its files' 1 'a: cannot be read: No such file' waits a b c
@@ -30,7 +31,7 @@ holds 'a value after =: the state' [ -s after ]
 holds 'a value after =: the answers' [ -s answered ]
 
 # ---- the manual page names every option that the help does
-helped=$("$plex" --help; for part in check show run state waits; do "$plex" "$part" --help; done)
+helped=$("$plex" --help; for part in check show link run state waits; do "$plex" "$part" --help; done)
 for option in $(echo "$helped" | grep -oe '--[a-z][a-z]*' | sort -u); do
     holds "the manual page lacks $option" \
         grep -qFe "\\-\\-${option#--}" "$tests/../../man/plex.1"

@@ -14,7 +14,7 @@ head -c 33 "$image" >long
 tried 'long table' 1 'long: more than 32 bytes; a block table is 32' check "$image" long
 
 byte "$table" 10 10 bad
-tried 'thread' 1 'bad: block 5 (thread 8, kind 0) has a field out of range' check "$image" bad
+tried 'thread' 1 'bad: block 5 (thread 8, kind 1) has a field out of range' check "$image" bad
 tried 'why' 1 'its thread is 8, and threads are 0 to 7' check "$image" bad
 byte "$table" 13 2 bad
 tried 'kind' 1 'block 6 .*' check "$image" bad

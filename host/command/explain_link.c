@@ -1,0 +1,25 @@
+/* The rules of two images that are to be linked, in words. */
+#include "explain.h"
+
+/* As "block 4" or "blocks 0 4", given at least one. */
+static void add_blocks(struct line *why, uint32_t blocks)
+{
+    add(why, (blocks & (blocks - 1)) == 0 ? "block" : "blocks");
+    for (uint32_t block = 0; block < PLEX_BLOCKS; block++)
+        if (blocks >> block & 1)
+            add(why, " %u", block);
+}
+
+void explain_link(struct line *why, const uint8_t *first, uint32_t first_records, const uint8_t *second,
+                  uint32_t second_records)
+{
+    uint32_t shared = named_blocks(first, first_records) & named_blocks(second, second_records);
+    uint32_t records = first_records + second_records;
+    if (shared != 0) {
+        add(why, "both have records in ");
+        add_blocks(why, shared);
+    } else if (records > PLEX_RECORDS_MAX) {
+        add(why, "%u and %u records are %u, and an image has at most %d", first_records, second_records, records,
+            PLEX_RECORDS_MAX);
+    }
+}

@@ -1,0 +1,105 @@
+# plex link: two images for one table.
+east=good/east.image
+tried 'a link' 0 '^linked: both, 15 records, 13 of good/case.image and 2 of good/east.image; labels of good/east.image are 13 higher$' \
+    link "$image" "$east" "$table" --out both
+tried 'the check of the linked image' 0 'accepted: both, 15 records in 6 blocks' check both "$table"
+head -c 1092 both >part
+same 'the first image' part "$image"
+tried "the second image's labels" 0 '^   13  external  ASSIGN w0 := w0 + r0, on to 14$' show both
+tail -c 84 both >part
+tail -c 84 "$east" >exit
+same 'labels that are not used' part exit
+
+# ---- each guest's events on the linked image
+"$plex" run "$image" "$table" "$words" "$events" --quiet --out alone --answers answered
+"$plex" run both "$table" "$words" "$events" --quiet --out linked --answers answered-2
+same 'answers of the first guest' answered answered-2
+same 'state of the first guest' alone linked
+tried 'the other way round' 0 '^linked: turned, 15 records, 2 of .*; labels of good/case.image are 2 higher$' \
+    link "$east" "$image" "$table" --out turned
+byte "$events" 2 2 moved-1
+byte moved-1 57 12 moved-2
+byte moved-2 112 13 moved
+"$plex" run turned "$table" "$words" moved --quiet --out linked --answers answered-2
+same 'answers of the second guest' answered answered-2
+same 'state of the second guest' alone linked
+
+# ---- a machine that runs goes on with a guest linked behind its image, and back without it
+tail -c +441 "$events" >rest
+"$plex" run both "$table" rest --state waiting --quiet --out linked
+same 'a machine that runs' alone linked
+"$plex" run both "$table" eight --state linked --quiet --out left-2
+"$plex" run "$image" "$table" rest --state left-2 --quiet --out left-3
+"$plex" run "$image" "$table" "$events" --state alone --quiet --out left-2
+same 'back to the shorter image' left-2 left-3
+
+# ---- refused, with nothing altered
+# unlinked NAME PATTERN FIRST SECOND TABLE
+unlinked() {
+    name=$1 pattern=$2
+    shift 2
+    tried "$name" 1 "$pattern" link "$@" --out kept
+    same "$name: the file of --out" kept old
+}
+head -c 100 "$image" >short
+repeated exit 513 long
+repeated exit 500 many-exits
+byte "$image" 508 143 bad
+byte "$east" 84 13 bad-east
+byte "$table" 13 2 bad-table
+look_around
+unlinked 'no such file' 'nowhere: cannot be read: No such file' "$image" nowhere "$table"
+unlinked 'short first' '^plex: short: 100 bytes; an image is' short "$east" "$table"
+unlinked 'short second' '^plex: short: 100 bytes; an image is' "$image" short "$table"
+unlinked 'long second' '^plex: long: more than 43008 bytes; an image is' "$image" long "$table"
+unlinked 'both of a wrong length' '^plex: short: 100 bytes' short long "$table"
+unlinked 'a length before a record' '^plex: short: 100 bytes' bad short "$table"
+unlinked 'a length before the table' '^plex: short: 100 bytes' "$image" short empty
+unlinked 'its number' 'refused with number 1, place 0' "$image" short "$table"
+unlinked 'short table' '^plex: empty: 0 bytes; a block table is 32' bad "$east" empty
+unlinked 'a bad table before a record' 'bad-table: block 6 (thread 0, kind 2) has a field' bad "$east" bad-table
+unlinked 'a record of the first' '^plex: bad: the record at label 6 (block 2) breaks a rule' bad "$east" "$table"
+unlinked 'a record of the second' '^plex: bad-east: the record at label 1 (block 5) breaks a rule' \
+    "$image" bad-east "$table"
+unlinked 'why' 'opcode 11 is none of 1 to 10' "$image" bad-east "$table"
+unlinked 'its place' 'refused with number 4, place 1$' "$image" bad-east "$table"
+unlinked 'a record of each' '^plex: bad: the record at label 6' bad bad-east "$table"
+unlinked 'a block of both' '^plex: both and good/east.image: both images name the same block$' both "$east" "$table"
+unlinked 'which block' '^      both have records in block 5$' both "$east" "$table"
+unlinked 'which blocks' '^      both have records in blocks 0 1 2 3 4$' both "$image" "$table"
+unlinked 'the number of a block of both' 'refused with number 13, place 0' both "$east" "$table"
+unlinked 'too many records' ': the images have more than 512 records together$' "$image" many-exits "$table"
+unlinked 'how many' '^      13 and 500 records are 513, and an image has at most 512$' "$image" many-exits "$table"
+unlinked 'the number of too many' 'refused with number 14, place 0' "$image" many-exits "$table"
+unlinked 'a block of both before too many records' 'refused with number 13' both many-exits "$table"
+nothing_left 'refused links'
+repeated exit 499 many-exits
+tried 'the most records' 0 '^linked: most, 512 records, 13 of' link "$image" many-exits "$table" --out most
+
+# ---- the file that is written
+tried 'no --out' 2 '--out is missing' link "$image" "$east" "$table"
+cp "$image" own
+tried 'the first image in place' 0 '^linked: own, 15 records, 13 of own' link own "$east" "$table" --out own
+same 'the first image in place' own both
+cp "$east" own
+tried 'the second image in place' 0 'labels of own are 13 higher' link "$image" own "$table" --out own
+same 'the second image in place' own both
+cp "$table" own
+ln own own-2
+tried 'the table in place' 2 '--out and TABLE name the same file' link "$image" "$east" own --out own-2
+same 'the table in place' own "$table"
+"$plex" link - "$east" "$table" --out=own <"$image" >said 2>&1
+holds 'an image from standard input' grep -q '13 of standard input and 2 of good/east.image' said
+same 'an image from standard input' own both
+tried 'standard input twice' 2 'stands for one file alone' link - - "$table" --out own
+look_around
+"$plex" link "$image" "$east" "$table" --out kept >/dev/full 2>said
+holds 'a link to a full standard output: status' [ $? = 1 ]
+same 'a link to a full standard output: the file of --out' kept old
+tried 'a link to a full device' 1 '/dev/full: cannot be written: No space left' \
+    link "$image" "$east" "$table" --out /dev/full
+tried 'no linked image' 1 'nowhere/image: cannot be written' link "$image" "$east" "$table" --out nowhere/image
+nothing_left 'links that are not written'
+"$plex" link "$image" "$east" "$table" --quiet --out own >said 2>&1
+holds 'a quiet link speaks' [ ! -s said ]
+same 'a quiet link' own both
