@@ -1,7 +1,8 @@
 //! A call made of the library and of the second implementation, and compared.
 
 use crate::library;
-use second::generate::Lent;
+use crate::sizes::{RECORD, RECORDS};
+use second::generate::{Lent, Pair};
 
 #[derive(Clone, Copy, Debug)]
 pub enum Call {
@@ -39,18 +40,26 @@ impl Call {
 pub struct Seen {
     pub calls: u64,
     pub events: u64,
-    pub refusals: [u64; 13],
+    pub refusals: [u64; 16],
     pub codes: [u64; 11],
     pub traps: [u64; 6],
     pub rings: u64,
     /// Threads of the longest walk.
     pub longest: u32,
+    /// Pairs of images that were linked.
+    pub links: u64,
+    /// Records of the largest linked image.
+    pub largest: usize,
 }
 
 impl Seen {
-    fn note(&mut self, call: Call, returned: u32, lent: &Lent) {
+    fn note_return(&mut self, returned: u32) {
         self.calls += 1;
         self.refusals[(returned >> 16) as usize] += 1;
+    }
+
+    fn note(&mut self, call: Call, returned: u32, lent: &Lent) {
+        self.note_return(returned);
         match call {
             Call::Run if returned == 0 => lent.answers.chunks(2).for_each(|a| self.note_answer(a)),
             Call::Walk if returned < 65_536 => {
@@ -69,6 +78,14 @@ impl Seen {
         }
     }
 
+    fn note_link(&mut self, returned: u32, pair: &Pair) {
+        self.note_return(returned);
+        if returned == 0 {
+            self.links += 1;
+            self.largest = self.largest.max(pair.out.len() / RECORD);
+        }
+    }
+
     /// What should have been seen in a comparison of many cases and was not.
     pub fn missing(&self) -> Vec<String> {
         let sorts = [
@@ -84,6 +101,9 @@ impl Seen {
         if self.rings == 0 || self.longest < 8 {
             missing.push("a ring and a walk of 8 threads".into());
         }
+        if self.largest < RECORDS {
+            missing.push(format!("a link of {RECORDS} records"));
+        }
         missing
     }
 }
@@ -91,29 +111,74 @@ impl Seen {
 /// Makes the call of both on the same bytes: what it returned, or in what the
 /// two differ. The bytes are then as the call left them.
 pub fn both(seen: &mut Seen, call: Call, lent: &mut Lent) -> Result<u32, String> {
-    let mut expected = lent.clone();
-    let returned = call.of_library(lent)?;
-    let wanted = call.of_second(&mut expected);
-    if returned != wanted {
-        return Err(format!("{call:?} returned {returned}, expected {wanted}"));
-    }
-    if let Some(buffer) = differing(lent, &expected) {
-        return Err(format!("{call:?} returned {returned} and left other bytes in {buffer}"));
-    }
+    let returned = compared(lent, |lent| call.of_library(lent), |lent| call.of_second(lent))
+        .map_err(|why| format!("{call:?}: {why}"))?;
     seen.note(call, returned, lent);
     Ok(returned)
 }
 
+/// The same for the link.
+pub fn both_link(seen: &mut Seen, pair: &mut Pair) -> Result<u32, String> {
+    let of_second = |pair: &mut Pair| {
+        second::link(&pair.first.image, &pair.second.image, &pair.table, &mut pair.out)
+    };
+    let returned =
+        compared(pair, library::link, of_second).map_err(|why| format!("Link: {why}"))?;
+    seen.note_link(returned, pair);
+    Ok(returned)
+}
+
+/// Makes a call of the library on what is lent, and of the second
+/// implementation on a copy.
+fn compared<L: Buffers>(
+    lent: &mut L,
+    of_library: impl FnOnce(&mut L) -> Result<u32, String>,
+    of_second: impl FnOnce(&mut L) -> u32,
+) -> Result<u32, String> {
+    let mut expected = lent.clone();
+    let returned = of_library(lent)?;
+    let wanted = of_second(&mut expected);
+    if returned != wanted {
+        return Err(format!("returned {returned}, expected {wanted}"));
+    }
+    match differing(lent, &expected) {
+        Some(buffer) => Err(format!("returned {returned} and left other bytes in {buffer}")),
+        None => Ok(returned),
+    }
+}
+
+/// What a call is lent: its buffers, each with its name.
+trait Buffers: Clone {
+    fn named(&self) -> Vec<(&'static str, &[u8])>;
+}
+
+impl Buffers for Lent {
+    fn named(&self) -> Vec<(&'static str, &[u8])> {
+        vec![
+            ("the image", &self.image),
+            ("the table", &self.table),
+            ("the words", &self.words),
+            ("the state", &self.state),
+            ("the events", &self.events),
+            ("the answers", &self.answers),
+            ("the walk's buffer", &self.met),
+        ]
+    }
+}
+
+impl Buffers for Pair {
+    fn named(&self) -> Vec<(&'static str, &[u8])> {
+        vec![
+            ("the first image", &self.first.image),
+            ("the second image", &self.second.image),
+            ("the table", &self.table),
+            ("the output", &self.out),
+        ]
+    }
+}
+
 /// The name of a buffer that differs.
-fn differing(one: &Lent, other: &Lent) -> Option<&'static str> {
-    let buffers = [
-        ("the image", &one.image, &other.image),
-        ("the table", &one.table, &other.table),
-        ("the words", &one.words, &other.words),
-        ("the state", &one.state, &other.state),
-        ("the events", &one.events, &other.events),
-        ("the answers", &one.answers, &other.answers),
-        ("the walk's buffer", &one.met, &other.met),
-    ];
-    buffers.iter().find(|(_, one, other)| one != other).map(|&(name, _, _)| name)
+fn differing(one: &impl Buffers, other: &impl Buffers) -> Option<&'static str> {
+    let mut both = one.named().into_iter().zip(other.named());
+    both.find(|(one, other)| one != other).map(|((name, _), _)| name)
 }

@@ -1,12 +1,10 @@
 //! What is compared for a seed.
 
 use crate::both::{both, Call, Seen};
+use crate::sizes::{ANSWER, EVENT, RECORD};
 use second::generate::{damage, events, lent, Lent, Random};
 use second::second_order;
 
-const RECORD: usize = 84;
-const EVENT: usize = 55;
-const ANSWER: usize = 2;
 /// Events of one Run.
 const LIMIT: usize = 1_024;
 const THREADS: u32 = 8;
@@ -34,7 +32,7 @@ pub fn short_case(seen: &mut Seen, seed: u64) -> Result<(), String> {
 }
 
 /// Lends these events, and answers of the right length that hold other bytes.
-fn hand_over(lent: &mut Lent, events: &[u8]) {
+pub fn hand_over(lent: &mut Lent, events: &[u8]) {
     lent.events = events.to_vec();
     lent.answers = vec![0xEE; ANSWER * (events.len() / EVENT)];
 }

@@ -1,6 +1,6 @@
 //! The proved library behind safe functions.
 
-use second::generate::Lent;
+use second::generate::{Lent, Pair};
 
 extern "C" {
     fn plex_check(image: *const u8, image_len: usize, table: *const u8, table_len: usize) -> u32;
@@ -36,6 +36,16 @@ extern "C" {
         thread: u32,
         met: *mut u8,
         met_len: usize,
+    ) -> u32;
+    fn plex_link(
+        first: *const u8,
+        first_len: usize,
+        second: *const u8,
+        second_len: usize,
+        table: *const u8,
+        table_len: usize,
+        out: *mut u8,
+        out_len: usize,
     ) -> u32;
 }
 
@@ -150,6 +160,26 @@ pub fn walk(lent: &mut Lent) -> Returned {
                 *thread,
                 met.pointer(),
                 met.length,
+            )
+        }
+    })
+}
+
+pub fn link(pair: &mut Pair) -> Returned {
+    let Pair { first, second, table, out, .. } = pair;
+    let buffers = [&mut first.image, &mut second.image, table, out];
+    guarded(buffers, |[first, second, table, out]| {
+        // SAFETY: as for check.
+        unsafe {
+            plex_link(
+                first.pointer(),
+                first.length,
+                second.pointer(),
+                second.length,
+                table.pointer(),
+                table.length,
+                out.pointer(),
+                out.length,
             )
         }
     })

@@ -8,14 +8,17 @@
 mod both;
 mod cases;
 mod library;
+mod links;
+mod sizes;
 
 use both::Seen;
 use std::process::ExitCode;
 use std::time::{Duration, Instant, SystemTime, UNIX_EPOCH};
 
-/// The fixed seeds are those below this number; one in so many has the long
-/// sorts of case too.
+/// The fixed seeds are those below this number; one in so many has the link's
+/// case too, and one in so many the long sorts of case.
 const FIXED: u64 = 2_500;
+const LINK_EVERY: u64 = 3;
 const LONG_EVERY: u64 = 50;
 
 fn main() -> ExitCode {
@@ -28,12 +31,12 @@ fn main() -> ExitCode {
         ["replay", seed] => number(seed).and_then(|seed| replay(&mut seen, seed)),
         _ => Err("use: compare | compare soak SECONDS | compare replay SEED".into()),
     };
-    let Seen { calls, events, rings, longest, .. } = seen;
+    let Seen { calls, events, rings, longest, links, largest, .. } = seen;
     match compared {
         Ok(what) => {
             println!(
                 "compare: {what}, {calls} calls, {events} events, {rings} rings, walks of up to \
-                 {longest} threads: no difference"
+                 {longest} threads, {links} links of up to {largest} records: no difference"
             );
             ExitCode::SUCCESS
         }
@@ -73,6 +76,9 @@ fn soak(seen: &mut Seen, seconds: u64) -> Result<String, String> {
 fn one_seed(seen: &mut Seen, seed: u64) -> Result<(), String> {
     let failure = |why| format!("seed {seed}: {why}");
     cases::short_case(seen, seed).map_err(failure)?;
+    if seed.is_multiple_of(LINK_EVERY) {
+        links::link_case(seen, seed).map_err(failure)?;
+    }
     if seed.is_multiple_of(LONG_EVERY) {
         cases::waiting_case(seen, seed).map_err(failure)?;
         cases::long_case(seen, seed).map_err(failure)?;
@@ -83,6 +89,7 @@ fn one_seed(seen: &mut Seen, seed: u64) -> Result<(), String> {
 /// Every sort of case.
 fn replay(seen: &mut Seen, seed: u64) -> Result<String, String> {
     cases::short_case(seen, seed)?;
+    links::link_case(seen, seed)?;
     cases::waiting_case(seen, seed)?;
     cases::long_case(seen, seed)?;
     Ok(format!("seed {seed}"))

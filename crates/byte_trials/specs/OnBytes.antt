@@ -32,7 +32,7 @@ use Rattle.rules.specs.Calls.{checkReturn, freshReturn, freshState, runReturn, 
 -- ---- records of an image, and events
 
 -- the 84 bytes of a record: opcode, block, entry, operator, labels A and B, and the operand count with the operands
-abbrev recordBytes : ℕ → ℕ → ℕ → ℕ → ℕ → ℕ → List ℕ → List ℕ
+abbrev pub recordBytes : ℕ → ℕ → ℕ → ℕ → ℕ → ℕ → List ℕ → List ℕ
 recordBytes opcode block entry operator a b operands = opcode ∷ block ∷ entry ∷ operator ∷ a ∷ 0 ∷ b ∷ 0 ∷ pad 0 76 operands
 
 -- the 55 bytes of an arrival at a label, with the value count and the values, and of a step (kind 2) or a cut (kind 3) of a thread
@@ -49,7 +49,7 @@ times (suc n) b = b ++ times n b
 
 -- ---- the calls, with a block table of zeros
 
-abbrev table : List ℕ
+abbrev pub table : List ℕ
 table = replicate tableSize 0
 
 -- the same, but block 1 is on thread 1 and of this kind

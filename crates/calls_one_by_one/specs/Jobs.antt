@@ -10,25 +10,21 @@ use lib.ListN.{length, getD, length-map}
 use Rattle.rules.specs.Sizes.{threadCount}
 use Rattle.rules.specs.Codes.{arrivalCode}
 use Rattle.rules.specs.Machine.{ThreadState, idle, running, Machine, threadAt, fresh}
-use Rattle.rules.specs.Encoding.{encode, wordsFrom, machineFrom}
+use Rattle.rules.specs.Encoding.{wordsFrom, machineFrom}
 use Rattle.rules.specs.Events.{Event, arrive, turn, threadOf, eventBytes}
 use Rattle.rules.specs.Answers.{code, answerBytes, now, close, sort}
-use Rattle.rules.specs.Steps.{rulesBy, final}
+use Rattle.rules.specs.Steps.{rulesBy}
 use Rattle.rules.specs.Order.{Sheet, orderBy, notesBy, blank, Entry, log, ByteEntry, byteOrder}
 use Rattle.rules.specs.Calls.{freshState}
 use Rattle.rules.specs.declared.answer.Answer.{Answer}
 use Rattle.rules.specs.declared.answer.Answer.the-variants.{Taken, ListFull, NoWork, Waiting, Started, Moved}
 use Rattle.rules.specs.declared.answer.Answer.the-variants.{Exited, Trapped, WasCut, NothingToCut}
 use Rattle.laws.specs.Logic.{never}
-use Rattle.encoding.specs.Machines.{machine-back}
 use Rattle.soundness.specs.CheckedRules.{checked-laws}
-use Rattle.soundness.specs.StaysSized.{sized-final}
 use Rattle.one_by_one.specs.Reading.{bySort, byRow, row-is}
 use Rattle.one_by_one.specs.Jobs as values
-use Rattle.one_by_one.specs.Calls.{logs-flatten, finals-flatten}
 use Rattle.one_by_one.specs.ByteOrder.{bytesOf, over, rows-get, byteNotes, byte-row, byte-rows}
 use Rattle.calls_one_by_one.specs.CallList.{Run, lastLeft, Calls, eventList}
-use Rattle.calls_one_by_one.specs.Joined.{eventLists}
 use Rattle.calls_one_by_one.specs.Whole as whole
 
 -- the code of an entry's answer, and the kind and the thread of its event
@@ -161,31 +157,8 @@ of-values l s state k e = subst (λ (z : Sheet ByteEntry). JobRows z state) (byt
 -- ---- of a list of calls
 
 module _ (image table words state : List ℕ) (runs : List Run) (calls : Calls image table words state runs) where
-  abbrev last : List ℕ
-  last = lastLeft (freshState image table words state) runs
-
-  abbrev first : Machine
-  first = fresh (wordsFrom words)
-
   abbrev joint : List Event
   joint = whole.joint image table words state runs calls
-
-  last-machine : machineFrom last ≡ final (rulesBy image table) first joint
-  last-machine =
-      let a = whole.all image table words state runs calls in
-      let c = whole.checked image table words state runs calls in
-      let g = whole.first-good image table words state runs calls in
-      let e : last ≡ encode (final (rulesBy image table) first joint) =
-      ap (λ z. lastLeft z runs) (whole.start-bytes image table words state runs calls)
-      ∙ a .state
-      ∙ ap encode (finals-flatten (rulesBy image table) first (eventLists runs)) in
-      ap machineFrom e
-      ∙ machine-back (final (rulesBy image table) first joint) (sized-final image table c first joint (g .sound) (g .sized) (a .each))
-
-  entries : eventList runs ≡ map bytesOf (log (rulesBy image table) first joint)
-  entries =
-      whole.all image table words state runs calls .entries
-      ∙ ap (map bytesOf) (logs-flatten (rulesBy image table) first (eventLists runs))
 
   -- A ROW IS ONE JOB
   pub one-job-a-row : JobRows (byteNotes (eventList runs)) (lastLeft (freshState image table words state) runs)
@@ -193,4 +166,6 @@ module _ (image table words state : List ℕ) (runs : List Run) (calls : Calls i
       let c = whole.checked image table words state runs calls in
       let valid = whole.all-valid image joint (whole.all image table words state runs calls .each) in
       let k = values.one-job-a-row (rulesBy image table) (checked-laws image table c) (wordsFrom words) joint valid in
-      rw entries (of-values (log (rulesBy image table) first joint) (final (rulesBy image table) first joint) last k last-machine)
+      rw (whole.entries image table words state runs calls)
+      (of-values (log (rulesBy image table) (fresh (wordsFrom words)) joint) (whole.last image table words state runs calls)
+      (lastLeft (freshState image table words state) runs) k (whole.last-machine image table words state runs calls))

@@ -41,7 +41,7 @@ module _ (image table : List ℕ) (checked : Checked image table) where
   abbrev R : Rules
   R = rulesBy image table
 
-  good-final : (s : Machine) (l : List Event) → Good image table s → Each (Accepted image) l → Good image table (final R s l)
+  pub good-final : (s : Machine) (l : List Event) → Good image table s → Each (Accepted image) l → Good image table (final R s l)
   good-final s l g a = record {
     sound = sound-final image table checked s l (g .sound) a;
     sized = sized-final image table checked s l (g .sound) (g .sized) a;

@@ -12,7 +12,7 @@ use Rattle.rules.specs.Encoding.{encode, wordsFrom, machineFrom}
 use Rattle.rules.specs.Events.{Event, arrive, turn}
 use Rattle.rules.specs.Answers.{answerBytes}
 use Rattle.rules.specs.Steps.{Rules, rulesBy, answers, final}
-use Rattle.rules.specs.Order.{Entry, order, orderBy, notesBy, events, byteOrder}
+use Rattle.rules.specs.Order.{Entry, order, orderBy, notesBy, events, log, byteOrder}
 use Rattle.rules.specs.Calls.{freshReturn, freshState, runReturn, stateLengthFault, stateFault, eventsLengthFault, eventFault}
 use Rattle.rules.specs.Calls.{answersLengthFault}
 use Rattle.fields.specs.Each.{Each}
@@ -21,13 +21,14 @@ use Rattle.one_by_one.specs.Reading.{AllValid}
 use Rattle.soundness.specs.CheckedRules.{checked-laws}
 use Rattle.one_by_one.specs.Calls as values
 use Rattle.laws.specs.EventLists.{log-events}
-use Rattle.one_by_one.specs.Calls.{logs, logs-flatten}
+use Rattle.one_by_one.specs.Calls.{logs, logs-flatten, finals-flatten}
+use Rattle.one_by_one.specs.ByteOrder.{bytesOf}
 use Rattle.encoding.specs.Runs.{length-chunks}
 use Rattle.encoding.specs.Events.{SizedEvent}
 use Rattle.encoding.specs.Machines.{machine-back}
 use Rattle.soundness.specs.Members.{each-map}
 use Rattle.soundness.specs.StaysWellFormed.{Accepted, accepted-valid, sound-fresh}
-use Rattle.soundness.specs.StaysSized.{sized-fresh}
+use Rattle.soundness.specs.StaysSized.{sized-final, sized-fresh}
 use Rattle.soundness.specs.States.{Ready, fresh-leaves-ready, run-leaves-ready}
 use Rattle.calls_one_by_one.specs.CallList.{Run, returned, stateLeft, accepted, next, lastLeft, Follow, Calls, eventList, eventsOf}
 use Rattle.calls_one_by_one.specs.CallList.{answersOf, OneByOneCalls, NoChange}
@@ -39,7 +40,7 @@ pub all-valid : (image : List ℕ) (l : List Event) → Each (Accepted image) l 
 all-valid image [] h = tt
 all-valid image (e ∷ l) h = (accepted-valid image e (h .0), all-valid image l (h .1))
 
-accepted-sized : (image : List ℕ) (e : Event) → Accepted image e → SizedEvent e
+pub accepted-sized : (image : List ℕ) (e : Event) → Accepted image e → SizedEvent e
 accepted-sized image (arrive g) h = h .1
 accepted-sized image (turn k t) h = tt
 
@@ -92,6 +93,22 @@ module _ (image table words state : List ℕ) (runs : List Run) (calls : Calls i
   -- the events of all calls, and with their answers
   abbrev pub joint : List Event
   joint = flatten (eventLists runs)
+
+  -- the machine that they leave is the one of the bytes that the last accepted call left
+  abbrev pub last : Machine
+  last = final R first joint
+
+  pub last-bytes : lastLeft start runs ≡ encode last
+  last-bytes = ap (λ z. lastLeft z runs) start-bytes ∙ all .state ∙ ap encode (finals-flatten R first (eventLists runs))
+
+  pub last-machine : machineFrom (lastLeft start runs) ≡ last
+  last-machine =
+      ap machineFrom last-bytes
+      ∙ machine-back last (sized-final image table checked first joint (first-good .sound) (first-good .sized) (all .each))
+
+  -- the event list is their log
+  pub entries : eventList runs ≡ map bytesOf (log R first joint)
+  entries = all .entries ∙ ap (map bytesOf) (logs-flatten R first (eventLists runs))
 
   abbrev noted : List Entry
   noted = logs R first (eventLists runs)

@@ -6,7 +6,7 @@ use native.Mathlib.Nat.{mul-suc, mul-zero, add-comm, le-of-lt, sub-zero, suc-sub
 use native.Mathlib.Numerals.{add-one}
 use native.Mathlib.Omega.{arith}
 use lib.ListN.{length, getD, take, drop, set, length-append, replicate}
-use lib.Seq.{drop-at, split-at, set-split, take-suc, take-suc-set, length-take-le, drop-drop}
+use lib.Seq.{take-at, drop-at, split-at, set-split, take-suc, take-suc-set, length-take-le, drop-drop}
 use Rattle.rules.specs.Bytes.{blocks, pad, chunks}
 use Rattle.fields.specs.Each.{Each}
 use Rattle.fields.specs.Put.{put, put-at, put-inside}
@@ -131,3 +131,21 @@ module _ {A : Type 0} (f : A → List ℕ) (n : ℕ) (same : (x : A) → length 
       let m : length b ≡ n * i = length-blocks f n same (take i xs) ∙ rw (length-take-le i xs (le-of-lt h)) in
       let cut : p ++ (b ++ x ++ c ++ q) ≡ (p ++ b) ++ (x ++ (c ++ q)) = simp append-assoc in
       rw (blocks-cut f xs i d h, cut) (drop-at (p ++ b) (x ++ (c ++ q)) at (simp length-append (omega arith)))
+
+-- a run of blocks of which each has n bytes: how long it is, and its i-th block
+module _ {A : Type 0} (f : A → List ℕ) (n : ℕ) where
+  abbrev pub AllSized : List A → Type 0
+  AllSized xs = Each (λ x. length (f x) ≡ n) xs
+
+  pub length-sized : (xs : List A) → AllSized xs → length (blocks f xs) ≡ n * length xs
+  unfolding blocks
+  length-sized [] h = omega arith
+  length-sized (x ∷ xs) h = simp (length-append, h .0, length-sized xs (h .1), mul-suc) (omega arith)
+
+  pub sized-at : (xs : List A) (d : A) (i : ℕ) → AllSized xs → i < length xs → take n (drop (n * i) (blocks f xs)) ≡ f (getD xs i d)
+  unfolding blocks
+  sized-at [] d i h l = absurd (omega arith)
+  sized-at (x ∷ xs) d zero h l = rw mul-zero (take-at (f x) (blocks f xs) n (h .0))
+  sized-at (x ∷ xs) d (suc i) h l =
+      rw (mul-suc, add-comm (n * i) n, ← drop-drop (n * i) n (f x ++ blocks f xs), drop-at (f x) (blocks f xs) n (h .0))
+      (sized-at xs d i (h .1) (omega arith))

@@ -8,6 +8,7 @@ use native.Mathlib.Omega.{arith}
 use lib.Dec.{eqb}
 use borrow.Author.Tests.{eq-eqb, ne-eqb}
 use Rattle.rules.specs.Bytes.{allFrom, anyFrom, firstBad}
+use Rattle.rules.specs.Check.{firstFault}
 
 left : (a b : Bool) → (a && b) ≡ true → a ≡ true
 left true b e = refl
@@ -136,3 +137,11 @@ pub any-none : (f : ℕ → Bool) (i n : ℕ) → ((k : ℕ) → i ≤ k → k <
 unfolding anyFrom
 any-none f i zero h = refl
 any-none f i (suc n) h = rw (h i (omega arith) (omega arith), any-none f (i + 1) n (λ k p q. h k (omega arith) (omega arith)))
+
+-- a test that holds at each of n places finds no fault
+pub no-fault : (ok : ℕ → Bool) (n number : ℕ) → ((i : ℕ) → i < n → ok i ≡ true) → firstFault ok n number ≡ 0
+no-fault ok n number h =
+    let e : eqb (firstBad ok 0 n) n ≡ true =
+    rw zero-add at (none-bad ok 0 n ∙ all-holds ok 0 n (λ k p q. h k (omega arith)))
+    in
+    rw e refl

@@ -7,7 +7,7 @@ use native.Mathlib.Omega.{arith}
 use lib.Dec.{leb, eqb}
 use lib.ListN.{length, getD, take, drop, length-drop}
 use lib.Seq.{length-take-le, getD-take, getD-drop}
-use borrow.Author.Tests.{eqb-true, leb-true, lt-ltb, le-ltb}
+use borrow.Author.Tests.{eqb-true, eq-eqb, leb-true, le-leb, lt-ltb, le-ltb}
 use Rattle.rules.specs.Sizes.{recordCount, recordSize}
 use Rattle.rules.specs.Image.{labels, recordAt}
 
@@ -29,6 +29,13 @@ labels-fit s = omega (
   cond-le (eqb (length s) (recordSize * (length s / recordSize)) && leb (length s / recordSize) recordCount)
       (length s / recordSize) (length s / recordSize) (omega arith),
 )
+
+-- an image of so many records has that many
+pub labels-of : (s : List ℕ) (n : ℕ) → length s ≡ recordSize * n → n ≤ recordCount → labels s ≡ n
+unfolding labels
+labels-of s n e h =
+    let q : length s / recordSize ≡ n = omega arith in
+    rw (q, eq-eqb (length s) (recordSize * n) e, le-leb n recordCount h) refl
 
 -- an image that has records has nothing behind them
 whole : (a : Bool) (n q : ℕ) → 0 < cond a q 0 → (a ≡ true → n ≡ recordSize * q) → n ≡ recordSize * cond a q 0

@@ -4,16 +4,19 @@ use mathlib.Core.Bool.{Bool, true, false, _&&_}
 use mathlib.Core.List.{List, []}
 use Prim.Native.Nat.{ℕ, _<_}
 use native.Mathlib.Omega.{arith}
-use lib.Dec.{ltb}
+use lib.Dec.{eqb, ltb}
 use lib.ListN.{length}
 use borrow.Author.Tests.{ltb-true, eqb-true}
 use Rattle.rules.specs.Codes.{badTableFieldNumber, badRecordNumber}
 use Rattle.rules.specs.Sizes.{threadCount, blockKindCount, lockCount, blockCount, operandCount, tableSize}
 use Rattle.rules.specs.Bytes.{allFrom, every}
-use Rattle.rules.specs.Image.{labels, recordAt, blockField, labelA, labelB, Row, rowAt, fieldAt, threadField, kindField}
+use Rattle.rules.specs.Image.{labels, recordAt, blockField, entry, labelA, labelB, Row, rowAt, fieldAt, threadField, kindField}
 use Rattle.rules.specs.Statements.{statementOf, roleA, roleB}
-use Rattle.rules.specs.Check.{headOk, slotOk, labelOk, ruleOk, recordOk, fieldOk, rowOk, firstOf, imageFaults, imagesFaults, imageLengthFault, Checked}
+use Rattle.rules.specs.Check.{headOk, slotOk, roleOk, labelOk, ruleOk, recordOk, fieldOk, rowOk, firstOf, imageFaults, imagesFaults, imageLengthFault, Checked}
 use Rattle.rules.specs.Check.{tableLengthFault, tableFault, recordFault}
+use Rattle.rules.specs.Link.{used}
+use Rattle.rules.specs.declared.statement.Role.{Role}
+use Rattle.rules.specs.declared.statement.Role.the-variants.{Unused, Inner, Direct, Local, Buffered}
 use Rattle.laws.specs.Logic.{and-both}
 use Rattle.laws.specs.Faults.{first-of-zero, refusal-zero, fault-free}
 
@@ -41,12 +44,24 @@ passed image table more h =
       four .1,
     )
 
--- an image and a table to which none of 1 to 4 applies
-pub checked-by : (image table : List ℕ) → imageLengthFault image ≡ 0 → tableLengthFault table ≡ 0 → tableFault table ≡ 0
-    → recordFault image ≡ 0
-    → Checked image table
+-- none of the image check's four refusals applies: of one the other
+pub record Faultless (image table : List ℕ) : Type 0 where
+  pub imageLength : imageLengthFault image ≡ 0
+  pub tableLength : tableLengthFault table ≡ 0
+  pub rows : tableFault table ≡ 0
+  pub records : recordFault image ≡ 0
+
+pub faultless : (image table : List ℕ) → Checked image table → Faultless image table
+faultless image table h =
+    let one = first-of-zero _ _ h in
+    let two = first-of-zero _ _ (one .1) in
+    let three = first-of-zero _ _ (two .1) in
+    let four = first-of-zero _ _ (three .1) in
+    record { imageLength = one .0; tableLength = two .0; rows = three .0; records = four .0 }
+
+pub checked-by : (image table : List ℕ) → Faultless image table → Checked image table
 unfolding firstOf
-checked-by image table a b c d = rw (a, b, c, d) refl
+checked-by image table k = rw (k .imageLength, k .tableLength, k .rows, k .records) refl
 
 -- of a call that takes two images: both pass
 pub both-checked : (first second table more : List ℕ) → firstOf (imagesFaults first second table more) ≡ 0
@@ -58,7 +73,9 @@ both-checked first second table more h =
     let d = first-of-zero _ _ (c .1) in
     let e = first-of-zero _ _ (d .1) in
     let f = first-of-zero _ _ (e .1) in
-    (checked-by first table (a .0) (c .0) (d .0) (e .0), checked-by second table (b .0) (c .0) (d .0) (f .0), f .1)
+    let one : Faultless first table = record { imageLength = a .0; tableLength = c .0; rows = d .0; records = e .0 } in
+    let two : Faultless second table = record { imageLength = b .0; tableLength = c .0; rows = d .0; records = f .0 } in
+    (checked-by first table one, checked-by second table two, f .1)
 
 pub both-passed : (first second table more : List ℕ) → firstOf (imagesFaults first second table more) ≡ 0
     → Passed first table × Passed second table × (firstOf more ≡ 0)
@@ -106,3 +123,18 @@ rule-parts image r h =
     let all = and-both (head && slots && a) b h in
     let front = and-both (head && slots) a (all .0) in
     record { head = and-both head slots (front .0) .0; slots = and-both head slots (front .0) .1; a = front .1; b = all .1 }
+
+-- a label that is used is below n
+role-below : (role : Role) (v : ℕ) (below same : Bool) (e : ℕ) → roleOk role v below same e ≡ true → used role ≡ true → below ≡ true
+role-below role v true same e h u = refl
+role-below Unused v false same e h u = u
+role-below Inner v false same e h u = h
+role-below Direct v false same e h u = h
+role-below Local v false same e h u = h
+role-below Buffered v false same e h u = h
+
+pub label-below : (image : List ℕ) (role : Role) (b v : ℕ) → labelOk image role b v ≡ true → used role ≡ true → v < labels image
+unfolding labelOk
+label-below image role b v h u =
+    ltb-true v (labels image)
+    (role-below role v (ltb v (labels image)) (eqb (blockField (recordAt image v)) b) (entry (recordAt image v)) h u)

@@ -93,12 +93,9 @@ pub fn own_fault(first: &[u8], n: usize, second: &[u8], m: usize, out: &[u8]) ->
     ensures { λ r. ⌜ r ≡ firstOf (ownFaults (now (first .entry)) (now (second .entry)) (now (out .entry))) ⌝ }
 {
     let shared = shared_block_fault(first, n, second, m);
-    if shared != 0 {
-        return shared;
-    }
     let many = refuse(n + m <= Image::RECORDS, TOO_MANY_RECORDS, 0);
     let length = refuse(out.len() == RECORD_SIZE * (n + m), BAD_OUTPUT_LENGTH, 0);
-    first_of(many, length)
+    first_of(shared, first_of(many, length))
 }
 
 // The first of the link's refusals, or 0.

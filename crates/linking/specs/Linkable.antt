@@ -1,21 +1,19 @@
 -- Two images that can be linked into an output: each has records, the labels of the second leave room for a shift, and the output has
 -- exactly their length. Images that pass the check can, where the output has that length.
-use mathlib.Core.Path.{_≡_}
-use mathlib.Core.Bool.{Bool, true, _&&_}
+use mathlib.Core.Path.{_≡_, refl}
+use mathlib.Core.Bool.{true}
 use mathlib.Core.List.{List}
 use Prim.Native.Nat.{ℕ, _+_, _≤_, _<_}
 use native.Mathlib.Omega.{arith}
-use lib.Dec.{eqb, ltb}
 use lib.ListN.{length}
-use borrow.Author.Tests.{eqb-true, ltb-true}
+use borrow.Author.Tests.{eqb-true}
 use Rattle.rules.specs.Sizes.{recordCount}
 use Rattle.rules.specs.Image.{labels, recordAt, labelA, labelB, blockField}
 use Rattle.rules.specs.Statements.{statementOf, roleA, roleB}
-use Rattle.rules.specs.Check.{roleOk, labelOk, recordOk}
+use Rattle.rules.specs.Check.{labelOk, recordOk}
 use Rattle.rules.specs.declared.statement.Role.{Role}
 use Rattle.rules.specs.declared.statement.Role.the-variants.{Unused, Inner, Direct, Local, Buffered}
-use Rattle.laws.specs.Logic.{and-both}
-use Rattle.laws.specs.Passed.{Passed, rule-parts}
+use Rattle.laws.specs.Passed.{Passed, rule-parts, label-below}
 use Rattle.image.specs.Records.{labels-small}
 
 pub record Linkable (first second out : List ℕ) : Type 0 where
@@ -26,16 +24,13 @@ pub record Linkable (first second out : List ℕ) : Type 0 where
   pub exact : length out ≡ length first + length second
 
 -- a label that breaks no rule of its role is 0 or below n
-role-low : (role : Role) (v n : ℕ) (same : Bool) (e : ℕ) → roleOk role v (ltb v n) same e ≡ true → v ≤ n
-role-low Unused v n same e h = omega (arith, eqb-true v 0 h)
-role-low Inner v n same e h = omega (arith, ltb-true v n (and-both (ltb v n) same h .0))
-role-low Direct v n same e h = omega (arith, ltb-true v n (and-both (ltb v n) (eqb e 1) h .0))
-role-low Local v n same e h = omega (arith, ltb-true v n (and-both (ltb v n) same (and-both (ltb v n && same) (eqb e 1) h .0) .0))
-role-low Buffered v n same e h = omega (arith, ltb-true v n (and-both (ltb v n) (eqb e 2) h .0))
-
 label-low : (image : List ℕ) (role : Role) (b v : ℕ) → labelOk image role b v ≡ true → v ≤ recordCount
 unfolding labelOk
-label-low image role b v h = omega (arith, role-low role v (labels image) _ _ h, labels-small image)
+label-low image Unused b v h = omega (arith, eqb-true v 0 h)
+label-low image Inner b v h = omega (arith, label-below image Inner b v h refl, labels-small image)
+label-low image Direct b v h = omega (arith, label-below image Direct b v h refl, labels-small image)
+label-low image Local b v h = omega (arith, label-below image Local b v h refl, labels-small image)
+label-low image Buffered b v h = omega (arith, label-below image Buffered b v h refl, labels-small image)
 
 pub linkable-of : (first second table out : List ℕ) → Passed first table → Passed second table → length out ≡ length first + length second
     → Linkable first second out

@@ -1,19 +1,16 @@
 -- The stores that shift a record and lay records behind one another.
 use mathlib.Core.Path.{_≡_, refl, sym, ap, _∙_}
-use mathlib.Core.List.{List, [], _∷_, _++_, append-assoc}
-use Prim.Native.Nat.{ℕ, zero, suc, _+_, _*_, _≤_}
-use native.Mathlib.Nat.{mul-zero, mul-suc, add-comm}
-use native.Mathlib.Numerals.{add-one}
+use mathlib.Core.List.{List, _++_, append-assoc}
+use Prim.Native.Nat.{ℕ, _+_, _*_, _≤_}
 use native.Mathlib.Omega.{arith}
-use lib.ListN.{length, take, drop, length-append, length-drop}
-use lib.Seq.{take-all, length-take-le, sets-eq}
+use lib.ListN.{length, take, drop, length-append}
+use lib.Seq.{length-take-le, sets-eq}
 use Rattle.rules.specs.Sizes.{recordSize, labelAPlace, labelBPlace, operandCountPlace}
-use Rattle.rules.specs.Bytes.{le16, part, blocks, chunks}
-use Rattle.rules.specs.Image.{labels, labelA, labelB}
-use Rattle.rules.specs.Statements.{statementOf, roleA, roleB}
-use Rattle.rules.specs.Link.{shiftLabel, shiftRecord, records, linked}
+use Rattle.rules.specs.Bytes.{le16}
+use Rattle.rules.specs.Image.{labels}
+use Rattle.rules.specs.Link.{records, linked}
 use Rattle.fields.specs.Put.{put, length-put, put-more, put-inside, put-whole}
-use Rattle.fields.specs.Blocks.{blocks-append, blocks-one, chunks-suc}
+use Rattle.image.specs.Shifts.{shiftedRun, length-run}
 
 -- the list with a run stored into it, cut before and after the run
 cut : (s : List ℕ) (at : ℕ) (x : List ℕ) → at + length x ≤ length s → put s at x ≡ take at s ++ x ++ drop (at + length x) s
@@ -46,29 +43,6 @@ module _ (r : List ℕ) (size : length r ≡ recordSize) (a b : ℕ) where
       ∙ put-within s at (put r labelAPlace (le16 a)) labelBPlace (le16 b) (rw (length-put r labelAPlace (le16 a)) (omega arith))
       (rw (length-put r labelAPlace (le16 a)) (omega arith))
       ∙ ap (put s at) labels-put
-
-pub length-shifted : (d : ℕ) (r : List ℕ) → length r ≡ recordSize → length (shiftRecord d r) ≡ recordSize
-unfolding shiftRecord
-length-shifted d r e = simp (length-append, length-drop, length-take-le labelAPlace r (omega arith)) (omega arith)
-
--- the first l records of an image, shifted
-abbrev pub shiftedRun : ℕ → ℕ → List ℕ → List ℕ
-shiftedRun d l s = blocks (shiftRecord d) (chunks (take recordSize) recordSize l s)
-
-pub one-more : (d l : ℕ) (s : List ℕ)
-    → shiftedRun d (l + 1) s ≡ shiftedRun d l s ++ shiftRecord d (take recordSize (drop (recordSize * l) s))
-one-more d l s =
-    let r = take recordSize (drop (recordSize * l) s) in
-    rw (add-one l, chunks-suc (take recordSize) recordSize l s, ← blocks-one (shiftRecord d) r)
-    (blocks-append (shiftRecord d) (chunks (take recordSize) recordSize l s) (r ∷ []))
-
-pub length-run : (d l : ℕ) (s : List ℕ) → recordSize * l ≤ length s → length (shiftedRun d l s) ≡ recordSize * l
-unfolding blocks chunks
-length-run d zero s h = refl
-length-run d (suc l) s h =
-    let one : length (shiftRecord d (take recordSize s)) ≡ recordSize = length-shifted d (take recordSize s)
-    (length-take-le recordSize s (omega arith)) in
-    simp (length-append, one, length-run d l (drop recordSize s) (simp length-drop (omega arith))) (omega arith)
 
 -- the first image stored, and behind it the records of the second: the linked image
 pub all-stored : (first second out : List ℕ) → length out ≡ length first + length second → length second ≡ recordSize * labels second

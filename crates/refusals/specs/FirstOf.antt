@@ -1,8 +1,9 @@
 -- The first refusal of a list.
-use mathlib.Core.Path.{_≡_, refl, _∙_}
+use mathlib.Core.Path.{_≡_, refl, sym, _∙_}
 use mathlib.Core.Bool.{Bool, true, false, cond}
 use mathlib.Core.List.{List, [], _∷_, _++_}
 use Prim.Native.Nat.{ℕ, zero, suc}
+use native.Mathlib.Decide.{ℕ-discrete}
 use native.Mathlib.Omega.{arith}
 use lib.Dec.{eqb}
 use borrow.Author.Tests.{eq-eqb, ne-eqb}
@@ -40,3 +41,11 @@ module _ (xs ys : List ℕ) where
 
   pub after : firstOf xs ≡ 0 → firstOf (xs ++ ys) ≡ firstOf ys
   after h = then xs ys ∙ rw (eq-eqb (firstOf xs) 0 h)
+
+-- one refusal, and then the first of others
+pub nested : (x : ℕ) (xs : List ℕ) → firstOf (x ∷ firstOf xs ∷ []) ≡ firstOf (x ∷ xs)
+nested x xs = case (ℕ-discrete x 0)
+  where
+    case : Dec (x ≡ 0) → firstOf (x ∷ firstOf xs ∷ []) ≡ firstOf (x ∷ xs)
+    case (yes e) = passed x _ e ∙ last (firstOf xs) ∙ sym (passed x xs e)
+    case (no n) = found x _ n ∙ sym (found x xs n)

@@ -1,10 +1,13 @@
-// The calls on the buffers in memory. A buffer that a call may change is a copy, and is lent at the buffer's length.
+// The calls on the buffers in memory. A buffer that a call may change is a copy, and is lent at the buffer's length; the link's output
+// is lent at the length that is asked for.
 use crate::memory::ANSWERS;
 use crate::memory::EVENTS;
+use crate::memory::FIRST;
 use crate::memory::IMAGE;
 use crate::memory::Lengths;
 use crate::memory::MET;
 use crate::memory::Memory;
+use crate::memory::SECOND;
 use crate::memory::STATE;
 use crate::memory::TABLE;
 use crate::memory::WORDS;
@@ -63,4 +66,13 @@ pub fn walk(memory: &Memory, lengths: &Lengths, thread: u32, met: &mut [u8]) -> 
         thread,
         &mut met[0..n],
     )
+}
+
+pub fn link(memory: &Memory, lengths: &Lengths, out: &mut [u8], n: usize) -> u32 {
+    if out.len() < n {
+        return u32::MAX;
+    }
+    let first = bytes(memory, lengths, FIRST);
+    let second = bytes(memory, lengths, SECOND);
+    plex::plex_link(first, second, bytes(memory, lengths, TABLE), &mut out[0..n])
 }

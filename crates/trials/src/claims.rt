@@ -1,6 +1,7 @@
 // What a line says of a call: the return value, and the lent bytes after it. A refused call leaves every byte as handed.
 use crate::calls::check;
 use crate::calls::fresh;
+use crate::calls::link;
 use crate::calls::run;
 use crate::calls::walk;
 use crate::cases::case_agrees;
@@ -11,6 +12,7 @@ use crate::memory::ANSWERS;
 use crate::memory::Lengths;
 use crate::memory::MET;
 use crate::memory::Memory;
+use crate::memory::PART;
 use crate::memory::Part;
 use crate::memory::STATE;
 use crate::memory::bytes;
@@ -26,18 +28,17 @@ fn says(line: &[u8], returned: u32) -> bool {
     number(line, after(line, named(line, b"=>"), b' ')) == returned as usize
 }
 
-// Whether `part` is what a buffer has to be after the call: as handed if it was refused, otherwise with the hash that the word of
-// the line says that begins with `name`.
+// Whether the first `n` bytes of `part` have the hash that the word of the line says that begins with `name`.
+fn hashes(line: &[u8], name: &[u8], part: &Part, n: usize) -> bool {
+    shows(line, after(line, named(line, name), b'='), hash(part, n), 8)
+}
+
+// Whether `part` is what a buffer has to be after the call: as handed if it was refused, otherwise with the hash that the line says.
 fn leaves(line: &[u8], name: &[u8], handed: &[u8], refused: bool, part: &Part) -> bool {
     if refused {
         return same(handed, part);
     }
-    shows(
-        line,
-        after(line, named(line, name), b'='),
-        hash(part, handed.len()),
-        8,
-    )
+    hashes(line, name, part, handed.len())
 }
 
 fn fresh_agrees(line: &[u8], memory: &Memory, lengths: &Lengths) -> bool {
@@ -90,6 +91,14 @@ fn walk_agrees(line: &[u8], memory: &Memory, lengths: &Lengths) -> bool {
         )
 }
 
+// The output is handed over filled with bytes of 7; its hash is said of a refused call too.
+fn link_agrees(line: &[u8], memory: &Memory, lengths: &Lengths) -> bool {
+    let n = number(line, after(line, named(line, b"out="), b'='));
+    let mut out = [7u8; PART];
+    let returned = link(memory, lengths, &mut out, n);
+    says(line, returned) & hashes(line, b"linked=", &out, n)
+}
+
 // Whether the call that `line` names does what the line says.
 pub fn agrees(line: &[u8], memory: &Memory, lengths: &Lengths) -> bool {
     let call = after(line, 0, b' ');
@@ -107,6 +116,9 @@ pub fn agrees(line: &[u8], memory: &Memory, lengths: &Lengths) -> bool {
     }
     if begins(line, call, b"walk") {
         return walk_agrees(line, memory, lengths);
+    }
+    if begins(line, call, b"link") {
+        return link_agrees(line, memory, lengths);
     }
     false
 }

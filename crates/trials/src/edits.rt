@@ -1,9 +1,11 @@
 // The edits of a line: what is changed in a case's buffers before the call.
 use crate::memory::BUFFERS;
 use crate::memory::EVENTS;
+use crate::memory::FIRST;
 use crate::memory::IMAGE;
 use crate::memory::Lengths;
 use crate::memory::Memory;
+use crate::memory::SECOND;
 use crate::memory::TABLE;
 use crate::memory::name;
 use crate::memory::resize;
@@ -37,7 +39,7 @@ fn record_start(buffer: usize, index: usize) -> usize
     ensures { λ r. ⌜ r ≤ recordSize * index ⌝ }
 {
     match buffer {
-        IMAGE => RECORD_SIZE * index,
+        IMAGE | FIRST | SECOND => RECORD_SIZE * index,
         EVENTS => EVENT_SIZE * index,
         TABLE => ROW_SIZE * index,
         _ => index,

@@ -1,11 +1,16 @@
 // Files, and the buffers of a case in them.
 use crate::memory::BUFFERS;
+use crate::memory::FIRST;
+use crate::memory::IMAGE;
 use crate::memory::Lengths;
 use crate::memory::MET;
 use crate::memory::Memory;
 use crate::memory::PART;
+use crate::memory::TABLE;
 use crate::memory::name;
 use crate::memory::resize;
+use crate::text::after;
+use crate::text::begins;
 ghost use Rattle.io.specs.Counts.{Counts};
 
 // Reads a file, as far as `into` goes, and says how many bytes.
@@ -56,11 +61,18 @@ fn put(path: &mut [u8; 32], at: usize, text: &[u8]) -> usize {
     to
 }
 
-// Reads a buffer of the case that `line` begins with from its file.
-fn load_buffer(line: &[u8], memory: &mut Memory, lengths: &mut Lengths, buffer: usize) {
+// Reads a buffer of the case in `folder` that `line` begins with from its file.
+fn load_buffer(
+    folder: &[u8],
+    line: &[u8],
+    memory: &mut Memory,
+    lengths: &mut Lengths,
+    buffer: usize,
+) {
     if buffer < BUFFERS {
         let mut path = [0u8; 32];
-        let dot = put(&mut path, 0, line);
+        let case = put(&mut path, 0, folder);
+        let dot = put(&mut path, case, line);
         let extension = put(&mut path, dot, b".");
         let word = name(buffer);
         let n = put(&mut path, extension, &word);
@@ -68,12 +80,28 @@ fn load_buffer(line: &[u8], memory: &mut Memory, lengths: &mut Lengths, buffer: 
     }
 }
 
-// The buffers of the case that `line` begins with, and eight bytes of 1 for the threads met.
-pub fn load(line: &[u8], memory: &mut Memory, lengths: &mut Lengths) {
-    let mut buffer = 0;
-    while buffer < MET {
-        load_buffer(line, memory, lengths, buffer);
+// Reads the buffers from `from` to before `to`.
+fn load_buffers(
+    folder: &[u8],
+    line: &[u8],
+    memory: &mut Memory,
+    lengths: &mut Lengths,
+    from: usize,
+    to: usize,
+) {
+    let mut buffer = from;
+    while buffer < to {
+        load_buffer(folder, line, memory, lengths, buffer);
         buffer += 1;
+    }
+}
+
+// The buffers of the case in `folder` that `line` begins with, by the call that it names, and eight bytes of 1 for the threads met.
+pub fn load(folder: &[u8], line: &[u8], memory: &mut Memory, lengths: &mut Lengths) {
+    if begins(line, after(line, 0, b' '), b"link") {
+        load_buffers(folder, line, memory, lengths, TABLE, MET);
+    } else {
+        load_buffers(folder, line, memory, lengths, IMAGE, FIRST);
     }
     lengths[MET] = 0;
     resize(memory, lengths, MET, 8);

@@ -1,5 +1,5 @@
-// Trials that are the lines of a file: CASE CALL EDIT.. => RETURN. A call is handed the files of its case, CASE.image and the others,
-// with the edits carried out in order. The vectors are what independent implementations of the rules agree on.
+// Trials that are the lines of a file: CASE CALL EDIT.. => RETURN. A call is handed the files of its case, CASE.image and the others or
+// CASE.first and the others, with the edits carried out in order. The vectors are what independent implementations of the rules agree on.
 use crate::claims::agrees;
 use crate::edits::apply;
 use crate::files::load;
@@ -20,14 +20,20 @@ fn is_of(line: &[u8], call: &[u8]) -> bool {
 }
 
 // Tries a line, on the buffers of its case with its edits.
-fn try_line(line: &[u8], memory: &mut Memory, lengths: &mut Lengths) -> bool {
-    load(line, memory, lengths);
+fn try_line(folder: &[u8], line: &[u8], memory: &mut Memory, lengths: &mut Lengths) -> bool {
+    load(folder, line, memory, lengths);
     apply(line, memory, lengths);
     agrees(line, memory, lengths)
 }
 
 // Tries each line of `text` that names `call`.
-fn try_text(text: &[u8], call: &[u8], memory: &mut Memory, lengths: &mut Lengths) -> Tally {
+fn try_text(
+    folder: &[u8],
+    text: &[u8],
+    call: &[u8],
+    memory: &mut Memory,
+    lengths: &mut Lengths,
+) -> Tally {
     let mut tally = Tally::new();
     let mut at = 0;
     let mut number: usize = 0;
@@ -36,16 +42,25 @@ fn try_text(text: &[u8], call: &[u8], memory: &mut Memory, lengths: &mut Lengths
         number += 1;
         let line = &text[at..end];
         if is_of(line, call) {
-            tally = tally.with(try_line(line, memory, lengths), number as u64);
+            tally = tally.with(try_line(folder, line, memory, lengths), number as u64);
         }
         at = end;
     }
     tally
 }
 
-// Tries each line of a file that names `call`.
+// The folder of a path, with the `/` after it.
+fn folder(path: &[u8]) -> &[u8] {
+    let end = after(path, 0, b'/');
+    if path.len() <= end {
+        return &path[..0];
+    }
+    &path[0..end]
+}
+
+// Tries each line of a file that names `call`, on the cases in the file's folder.
 pub fn try_file(path: &[u8], call: &[u8], memory: &mut Memory, lengths: &mut Lengths) -> Tally {
     let mut text = [0u8; 65536];
     let n = read(path, &mut text);
-    try_text(&text[..n], call, memory, lengths)
+    try_text(folder(path), &text[..n], call, memory, lengths)
 }

@@ -12,24 +12,27 @@ mod tally;
 mod text;
 
 use limits::image_lengths;
+use limits::link_counts;
 use lines::try_file;
 use memory::Lengths;
 use memory::Memory;
 
-// The lines of the limits and of the vectors that name `call`.
-fn try_lines(call: &[u8], memory: &mut Memory, lengths: &mut Lengths) {
+// The lines of the limits and of a file of vectors that name `call`.
+fn try_lines(vectors: &[u8], call: &[u8], memory: &mut Memory, lengths: &mut Lengths) {
     try_file(b"limits.txt", call, memory, lengths).print(call, b" lines of the limits agree\n");
-    try_file(b"damaged.txt", call, memory, lengths).print(call, b" lines of the vectors agree\n");
+    try_file(vectors, call, memory, lengths).print(call, b" lines of the vectors agree\n");
 }
 
 fn main() {
-    let mut memory = [0u8; 458752];
-    let mut lengths = [0usize; 7];
+    let mut memory = [0u8; 589824];
+    let mut lengths = [0usize; 9];
     image_lengths(&mut memory, &mut lengths).print(b"check", b" image lengths agree\n");
-    try_lines(b"check", &mut memory, &mut lengths);
-    try_lines(b"fresh", &mut memory, &mut lengths);
-    try_lines(b"run", &mut memory, &mut lengths);
-    try_lines(b"walk", &mut memory, &mut lengths);
+    try_lines(b"damaged.txt", b"check", &mut memory, &mut lengths);
+    try_lines(b"damaged.txt", b"fresh", &mut memory, &mut lengths);
+    try_lines(b"damaged.txt", b"run", &mut memory, &mut lengths);
+    try_lines(b"damaged.txt", b"walk", &mut memory, &mut lengths);
     let cases = try_file(b"index.txt", b"run=", &mut memory, &mut lengths);
     cases.print(b"run", b" cases agree, with the walks of eight threads\n");
+    link_counts(&mut memory, &mut lengths).print(b"link", b" record counts agree\n");
+    try_lines(b"101/links.txt", b"link", &mut memory, &mut lengths);
 }

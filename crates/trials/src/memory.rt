@@ -1,30 +1,35 @@
-// The seven buffers that a call can be lent, a part of 65,536 bytes for each, and their lengths.
+// The buffers of a case, a part of 65,536 bytes for each, and their lengths. Files hold those from IMAGE to TABLE of a machine's case, and
+// those from TABLE to SECOND of a link's.
 ghost use mathlib.Core.Path.{_≡_};
 ghost use lib.ListN.{length};
 
 pub const PART: usize = 65536;
 
-pub const BUFFERS: usize = 7;
+pub const BUFFERS: usize = 9;
 
 pub const IMAGE: usize = 0;
 
-pub const TABLE: usize = 1;
+pub const WORDS: usize = 1;
 
-pub const WORDS: usize = 2;
+pub const EVENTS: usize = 2;
 
-pub const EVENTS: usize = 3;
+pub const ANSWERS: usize = 3;
 
-pub const ANSWERS: usize = 4;
+pub const STATE: usize = 4;
 
-pub const STATE: usize = 5;
+pub const TABLE: usize = 5;
 
-pub const MET: usize = 6;
+pub const FIRST: usize = 6;
+
+pub const SECOND: usize = 7;
+
+pub const MET: usize = 8;
 
 pub type Part = [u8; 65536];
 
-pub type Memory = [u8; 458752];
+pub type Memory = [u8; 589824];
 
-pub type Lengths = [usize; 7];
+pub type Lengths = [usize; 9];
 
 // The bytes of a buffer.
 pub fn bytes<'a>(memory: &'a Memory, lengths: &Lengths, buffer: usize) -> &'a [u8] {
@@ -67,11 +72,13 @@ pub fn resize(memory: &mut Memory, lengths: &mut Lengths, buffer: usize, n: usiz
 pub fn name(buffer: usize) -> [u8; 8] {
     match buffer {
         IMAGE => *b"image\0\0\0",
-        TABLE => *b"table\0\0\0",
         WORDS => *b"words\0\0\0",
         EVENTS => *b"events\0\0",
         ANSWERS => *b"answers\0",
         STATE => *b"state\0\0\0",
+        TABLE => *b"table\0\0\0",
+        FIRST => *b"first\0\0\0",
+        SECOND => *b"second\0\0",
         _ => *b"met\0\0\0\0\0",
     }
 }

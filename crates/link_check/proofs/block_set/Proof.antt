@@ -1,7 +1,9 @@
-use Prim.Native.Nat.{_-_, _≤_, _<_}
+use mathlib.Core.Path.{_≡_, sym, ap, _∙_}
+use Prim.Native.Nat.{ℕ, _-_, _≤_, _<_}
 use native.Mathlib.Omega.{arith}
 use Rattle.rules.specs.Sizes.{blockCount, blockPlace}
-use Rattle.rules.specs.Image.{labels}
+use Rattle.rules.specs.Sorts.{block}
+use Rattle.rules.specs.Image.{labels, recordAt, blockField}
 use Rattle.image.specs.Records.{labels-small, record-fits, record-byte}
 use Rattle.link_check.specs.BlockSets.{SetOf, among, none-among, one-more, all-among}
 use Rattle.link_check.proofs.block_set.Statement.{statement}
@@ -26,22 +28,25 @@ shared-slice-read-block-of : tie.Need-shared-slice-read-block-of Inv-loop μ-loo
 shared-slice-read-block-of c =
     omega (arith, record-fits (c .before .before .before .before .args .image .now) (c .before .before .loop .l) (omega arith))
 
-with-block-requires : tie.Need-with-block-requires Inv-loop μ-loop
-with-block-requires c κs =
+-- what is read is the block of record l
+own : (c : tie.After-block-of Inv-loop μ-loop) →
+    let image = c .before .before .before .before .before .args .image .now in
+    let l = c .before .before .before .loop .l in
+    (l < labels image) × (c .block-of .result ≡ block (blockField (recordAt image l)))
+own c =
     let image = c .before .before .before .before .before .args .image .now in
     let l = c .before .before .before .loop .l in
     let h : l < labels image = omega arith in
-    rw (c .block-of .ensures, ← record-byte image l h blockPlace blockCount (omega arith)) (c .before .before .before .before .before .pre .1 l h)
+    (h, c .block-of .ensures ∙ ap (λ (n : ℕ). block n) (sym (record-byte image l h blockPlace blockCount (omega arith))))
+
+with-block-requires : tie.Need-with-block-requires Inv-loop μ-loop
+with-block-requires c κs = rw (own c .1) (c .before .before .before .before .before .pre .1 (c .before .before .before .loop .l) (own c .0))
 
 loop-again : tie.Need-loop-again Inv-loop μ-loop
 loop-again c =
     let image = c .before .before .before .before .before .before .args .image .now in
     let l = c .before .before .before .before .loop in
-    let h : l .l < labels image = omega arith in (
-      omega arith,
-      rw (c .with-block .ensures, c .before .block-of .ensures, ← record-byte image (l .l) h blockPlace blockCount (omega arith))
-          (one-more image (l .l) (l .set) (l .inv .1)),
-    )
+    (omega arith, rw (c .with-block .ensures, own (c .before) .1) (one-more image (l .l) (l .set) (l .inv .1)))
 
 returns : tie.Need-returns Inv-loop μ-loop
 returns c =

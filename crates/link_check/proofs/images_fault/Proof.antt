@@ -4,9 +4,9 @@ use Prim.Native.Nat.{ℕ}
 use borrow.Author.Needs.{needs}
 use denote.Ref.{now}
 use Rattle.rules.specs.Check.{imageLengthFault, tableFault, firstOf}
-use Rattle.refusals.specs.FirstOf.{found, passed, before, after}
+use Rattle.refusals.specs.FirstOf.{found, passed, before, after, nested}
 use Rattle.image_check.specs.Faults.{table-length}
-use Rattle.link_check.specs.Faults.{rest, last-two}
+use Rattle.link_check.specs.Faults.{recordFaults, rest}
 use Rattle.link_check.proofs.images_fault.Statement.{statement}
 use Rattle.link_check.proofs.images_fault.Tie as tie
 
@@ -40,7 +40,7 @@ returns-3 c =
     sym (after xs (rest (now (a .first)) (now (a .second)) (now (a .table)))
     (sym (lengths (c .before .before .before .before .before .before)) ∙ c .before .before .before .before .before .if1 .left)
     ∙ rw (← c .before .before .before .before .table-length-fault .ensures) (passed _ _ (c .before .before .before .if2 .left))
-    ∙ last-two (now (a .first)) (now (a .second)) (tableFault (now (a .table))) ∙ rw (← c .before .before .table-fault .ensures, ← c .before .record-faults .ensures) (sym (c .first-of2 .ensures)))
+    ∙ sym (nested (tableFault (now (a .table))) (recordFaults (now (a .first)) (now (a .second)))) ∙ rw (← c .before .before .table-fault .ensures, ← c .before .record-faults .ensures) (sym (c .first-of2 .ensures)))
 
 pub images-fault-spec : {M : Type 1} → statement M
 images-fault-spec =

@@ -1,4 +1,4 @@
-use mathlib.Core.Path.{_≡_, refl, sym, _∙_}
+use mathlib.Core.Path.{_≡_, refl, _∙_}
 use Prim.Native.Nat.{_+_, _*_}
 use native.Mathlib.Omega.{arith}
 use lib.ListN.{length}
@@ -6,34 +6,31 @@ use borrow.Author.Needs.{needs}
 use Rattle.rules.specs.Sizes.{recordSize}
 use Rattle.rules.specs.Image.{labels}
 use Rattle.rules.specs.Calls.{tooManyRecordsFault, outputLengthFault}
-use Rattle.refusals.specs.FirstOf.{found, passed}
+use Rattle.refusals.specs.FirstOf.{nested}
 use Rattle.link_check.proofs.own_fault.Statement.{statement}
 use Rattle.link_check.proofs.own_fault.Tie as tie
 
 returns : tie.Need-returns
-returns c = rw (← c .before .shared-block-fault .ensures) (sym (found _ _ (c .if1 .taken)))
-
-returns-2 : tie.Need-returns-2
 unfolding tooManyRecordsFault outputLengthFault
-returns-2 c =
+returns c =
     let s = c .before .before .before .before .before .before .before .before in
     let e : s .args .n + s .args .m ≡ labels (s .args .first .now) + labels (s .args .second .now) = rw (s .pre .0, s .pre .2) refl in
     let z : recordSize * (s .args .n + s .args .m) ≡ length (s .args .first .now) + length (s .args .second .now) = omega arith in
-    let many : c .before .before .refuse .result ≡ tooManyRecordsFault (s .args .first .now) (s .args .second .now) = rw e at (c .before .before .refuse .ensures) in
-    let exact : c .before .refuse2 .result ≡ outputLengthFault (s .args .first .now) (s .args .second .now) (s .args .out .now) =
-    rw z at (c .before .refuse2 .ensures) in
-    rw (← c .before .before .before .before .shared-block-fault .ensures, ← many, ← exact) (c .first-of .ensures ∙ sym (passed _ _ (c .before .before .before .if1 .left)))
+    let many : c .before .before .before .refuse .result ≡ tooManyRecordsFault (s .args .first .now) (s .args .second .now) = rw e at (c .before .before .before .refuse .ensures) in
+    let exact : c .before .before .refuse2 .result ≡ outputLengthFault (s .args .first .now) (s .args .second .now) (s .args .out .now) =
+    rw z at (c .before .before .refuse2 .ensures) in
+    rw (← c .before .before .before .before .shared-block-fault .ensures, ← many, ← exact) (rw (c .before .first-of .ensures) at (c .first-of2 .ensures) ∙ nested _ _)
 
 pub own-fault-spec : {M : Type 1} → statement M
 own-fault-spec =
     tie.close
     (tie.spec
     (λ c κs. search needs)
-    returns
     (λ c. search needs)
     (λ c κs. search needs)
     (λ c. search needs)
     (λ c. search needs)
     (λ c κs. search needs)
     (λ c κs. search needs)
-    returns-2)
+    (λ c κs. search needs)
+    returns)

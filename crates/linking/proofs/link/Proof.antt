@@ -8,7 +8,8 @@ use Rattle.rules.specs.Bytes.{part, blocks, chunks}
 use Rattle.rules.specs.Image.{labels}
 use Rattle.fields.specs.Put.{put, length-put, put-then}
 use Rattle.image.specs.Records.{labels-small, labels-whole, record-fits, record-part, record-taken, length-record}
-use Rattle.linking.specs.Stores.{shiftedRun, one-more, length-run, all-stored}
+use Rattle.image.specs.Shifts.{shiftedRun, one-more, length-run}
+use Rattle.linking.specs.Stores.{all-stored}
 use Rattle.linking.proofs.link.Statement.{statement}
 use Rattle.linking.proofs.link.Tie as tie
 

@@ -7,7 +7,7 @@ abbrev Inv-loop : tie.InvT-loop
 Inv-loop line at buffer₀ buffer = Unit {0}
 
 abbrev μ-loop : tie.MeasureT-loop
-μ-loop line at buffer₀ buffer = 7 - buffer
+μ-loop line at buffer₀ buffer = 9 - buffer
 
 pub buffer-named-spec : {M : Type 1} → statement M
 buffer-named-spec =

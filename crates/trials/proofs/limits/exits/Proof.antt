@@ -4,10 +4,10 @@ use Rattle.trials.proofs.limits.exits.Statement.{statement}
 use Rattle.trials.proofs.limits.exits.Tie as tie
 
 abbrev Inv-loop : tie.InvT-loop
-Inv-loop memory₀ lengths i₀ memory i = Unit {0}
+Inv-loop memory₀ buffer block i₀ memory i = Unit {0}
 
 abbrev μ-loop : tie.MeasureT-loop
-μ-loop memory₀ lengths i₀ memory i = 43176 - i
+μ-loop memory₀ buffer block i₀ memory i = 43176 - i
 
 pub exits-spec : {M : Type 1} → statement M
 exits-spec =
@@ -17,7 +17,6 @@ exits-spec =
     μ-loop
     (λ c. search needs)
     (λ c κs. search needs)
-    (λ c. search needs)
     (λ c κs. search needs)
     (λ c. search needs)
     (λ c. search needs)

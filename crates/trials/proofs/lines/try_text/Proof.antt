@@ -5,10 +5,10 @@ use Rattle.trials.proofs.lines.try_text.Statement.{statement}
 use Rattle.trials.proofs.lines.try_text.Tie as tie
 
 abbrev Inv-loop : tie.InvT-loop
-Inv-loop text call memory₀ lengths₀ tally₀ at₀ number₀ memory lengths tally at number = (at ≤ length text) × (number ≤ at)
+Inv-loop folder text call memory₀ lengths₀ tally₀ at₀ number₀ memory lengths tally at number = (at ≤ length text) × (number ≤ at)
 
 abbrev μ-loop : tie.MeasureT-loop
-μ-loop text call memory₀ lengths₀ tally₀ at₀ number₀ memory lengths tally at number = length text - at
+μ-loop folder text call memory₀ lengths₀ tally₀ at₀ number₀ memory lengths tally at number = length text - at
 
 pub try-text-spec : {M : Type 1} → statement M
 try-text-spec =

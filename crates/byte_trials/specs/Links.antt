@@ -1,0 +1,51 @@
+-- A link on bytes, computed: `links`. The numbers are those of docs/MACHINE.md, so that a wrong one in the law fails here.
+use mathlib.Core.Path.{_≡_, refl}
+use mathlib.Core.List.{List, [], _++_}
+use Prim.Native.Nat.{ℕ}
+use lib.ListN.{replicate}
+use Rattle.rules.specs.Bytes.{num16, allFrom, anyFrom, firstBad, blocks, chunks, every, pad}
+use Rattle.rules.specs.Image.{labels, recordAt}
+use Rattle.rules.specs.Statements.{operationAt, otherAt, statementOf}
+use Rattle.rules.specs.Check.{otherOk, headOk, slotOk, labelOk, ruleOk, recordOk, rowOk, imageLengthFault, tableLengthFault}
+use Rattle.rules.specs.Check.{tableFault, recordFault, firstOf}
+use Rattle.rules.specs.Link.{shiftRecord, records, linked, names, shareBlock}
+use Rattle.rules.specs.Calls.{sharedBlockFault, tooManyRecordsFault, outputLengthFault, checkReturn, linkReturn, linkOut}
+use Rattle.byte_trials.specs.OnBytes.{recordBytes, table}
+
+-- label 0: EXIT in this block
+abbrev exiting : ℕ → List ℕ
+exiting b = recordBytes 10 b 3 0 0 0 []
+
+-- in block 1: CALL to label a with return label b, entry 3; EXIT; RETURN, entry 1
+abbrev calling : ℕ → ℕ → List ℕ
+calling a b = recordBytes 7 1 3 0 a b [] ++ recordBytes 10 1 0 0 0 0 [] ++ recordBytes 8 1 1 0 0 0 []
+
+-- room for four records
+abbrev space : List ℕ
+space = replicate 336 7
+
+pub record Links : Type 0 where
+  -- the used labels of the second image are one higher, A and B of CALL alike; zeros that are not used stay
+  pub accepted : linkReturn (exiting 0) (calling 2 1) table space ≡ 0
+  pub linked : linkOut (exiting 0) (calling 2 1) table space ≡ exiting 0 ++ calling 3 2
+  pub passes : checkReturn (exiting 0 ++ calling 3 2) table ≡ 0
+  -- a block in common: number 13, and nothing is written; a byte of the output too few: 15
+  pub shared : linkReturn (exiting 1) (calling 2 1) table space ≡ 851968
+  pub unwritten : linkOut (exiting 1) (calling 2 1) table space ≡ space
+  pub short : linkReturn (exiting 0) (calling 2 1) table (replicate 335 7) ≡ 983040
+  -- number 4 of the second image: its label 3 is none of its own, though the linked image would have it
+  pub own-labels : linkReturn (exiting 0) (calling 3 1) table space ≡ 262144
+
+pub links : Links
+unfolding num16 allFrom anyFrom firstBad blocks chunks every pad labels recordAt operationAt otherAt statementOf otherOk headOk slotOk
+    labelOk ruleOk recordOk rowOk imageLengthFault tableLengthFault tableFault recordFault firstOf shiftRecord records linked names
+    shareBlock sharedBlockFault tooManyRecordsFault outputLengthFault checkReturn linkReturn linkOut
+links = record {
+  accepted = refl;
+  linked = refl;
+  passes = refl;
+  shared = refl;
+  unwritten = refl;
+  short = refl;
+  own-labels = refl;
+}

@@ -1,0 +1,106 @@
+-- Every list of a guest's calls goes along on the linked image: its counterparts are a list of calls there, each accepted, of the guest's
+-- events with their labels shifted, and they read as the guest's calls do by themselves.
+use mathlib.Core.Path.{_≡_, refl, sym, ap, _∙_, subst}
+use mathlib.Core.List.{List, [], _∷_, map, map-map}
+use Prim.Native.Nat.{ℕ}
+use Rattle.rules.specs.Sizes.{wordTotal}
+use Rattle.rules.specs.Bytes.{num16}
+use Rattle.rules.specs.Check.{Checked}
+use Rattle.rules.specs.Machine.{fresh}
+use Rattle.rules.specs.Encoding.{encode, wordsFrom}
+use Rattle.rules.specs.Events.{eventBytes}
+use Rattle.rules.specs.Order.{ByteEntry}
+use Rattle.rules.specs.Link.{shiftMachine, shiftEvent, shiftEventBytes}
+use Rattle.rules.specs.Calls.{stateLengthFault, wordsLengthFault, checkReturn, freshReturn, freshState, linkReturn, linkOut}
+use Rattle.fields.specs.Each.{Each}
+use Rattle.laws.specs.Faults.{checked-rest}
+use Rattle.encoding.specs.Runs.{length-chunks}
+use Rattle.soundness.specs.StaysWellFormed.{sound-fresh}
+use Rattle.soundness.specs.StaysSized.{sized-fresh}
+use Rattle.calls_one_by_one.specs.CallList.{Run, returned, Follow, Calls, eventList}
+use Rattle.calls_one_by_one.specs.Joined.{Good}
+use Rattle.calls_one_by_one.specs.Whole as whole
+use Rattle.guests.specs.Passes.{linked-passes}
+use Rattle.guests.specs.Guests.{Guest}
+use Rattle.calls_guests.specs.Shifts.{each-sized}
+use Rattle.calls_guests.specs.Guests.{IsGuest, SameEvents, GuestReading}
+use Rattle.calls_guests.specs.Reading.{joint, each, event-bytes, all-shifted, guest-of, guest-reading}
+use Rattle.calls_guests.specs.Counterparts.{counterparts, AllAlong, all-along}
+
+-- the counterparts of a guest's Runs, after the Fresh of the linked image
+abbrev pub linkedRuns : ℕ → List ℕ → List ℕ → List ℕ → List ℕ → List Run → List Run
+linkedRuns d L table words state runs = counterparts d L (freshState L table words state) runs
+
+pub record GoesAlong (d : ℕ) (L table words state : List ℕ) (runs : List Run) : Type 0 where
+  pub calls : Calls L table words state (linkedRuns d L table words state runs)
+  pub accepted : Each (λ r. returned r ≡ 0) (linkedRuns d L table words state runs)
+  pub same : SameEvents d runs (linkedRuns d L table words state runs)
+
+-- a fresh machine keeps the rules of every checked image
+good-fresh : (image table words : List ℕ) → Checked image table → Good image table (fresh (wordsFrom words))
+unfolding wordsFrom
+good-fresh image table words checked = record {
+  sound = sound-fresh image table checked (wordsFrom words);
+  sized = sized-fresh (wordsFrom words) (length-chunks num16 2 wordTotal words);
+}
+
+module _ (first second table out : List ℕ) (accepted : linkReturn first second table out ≡ 0) (d : ℕ) (own other : List ℕ)
+    (guest : IsGuest first second d own other) (words state : List ℕ) (runs : List Run) (alone : Calls own table words state runs) where
+  abbrev L : List ℕ
+  L = linkOut first second table out
+
+  checked : Checked L table
+  unfolding checkReturn
+  checked = linked-passes first second table out accepted
+
+  beside : Guest d own other L table
+  beside = guest-of first second table out accepted d own other guest
+
+  -- Fresh is accepted on the linked image as on the guest's own
+  fresh-there : freshReturn L table words state ≡ 0
+  unfolding freshReturn
+  fresh-there =
+      let more : List ℕ = stateLengthFault state ∷ wordsLengthFault words ∷ [] in
+      checked-rest L table more checked ∙ sym (checked-rest own table more (beside .checked)) ∙ alone .fresh
+
+  -- and leaves the same bytes
+  start-there : freshState L table words state ≡ encode (shiftMachine d (fresh (wordsFrom words)))
+  unfolding freshState fresh
+  start-there = rw fresh-there refl
+
+  all : AllAlong d own other L table beside checked (fresh (wordsFrom words)) runs
+  unfolding fresh
+  all =
+      all-along d own other L table beside checked (fresh (wordsFrom words)) runs
+      (record { alone = good-fresh own table words (beside .checked); shifted = good-fresh L table words checked })
+      (alone .bytes)
+      (subst (λ (z : List ℕ). Follow own table z runs) (whole.start-bytes own table words state runs alone) (alone .follow))
+
+  calls-there : Calls L table words state (linkedRuns d L table words state runs)
+  calls-there = record {
+    fresh = fresh-there;
+    follow = rw start-there (all .follow);
+    bytes = rw start-there (all .bytes);
+  }
+
+  same-events : SameEvents d runs (linkedRuns d L table words state runs)
+  same-events =
+      let own-events = joint own table words state runs alone in
+      let values : joint L table words state (linkedRuns d L table words state runs) calls-there ≡ map (shiftEvent d) own-events =
+      rw start-there (all .values) in
+      event-bytes L table words state (linkedRuns d L table words state runs) calls-there
+      ∙ ap (map eventBytes) values
+      ∙ sym (all-shifted d own-events (each-sized own own-events (each own table words state runs alone)))
+      ∙ sym (ap (map (shiftEventBytes d)) (event-bytes own table words state runs alone))
+      ∙ map-map (shiftEventBytes d) (λ (n : ByteEntry). n .event) (eventList runs)
+
+  -- EVERY LIST OF A GUEST'S CALLS GOES ALONG ON THE LINKED IMAGE
+  pub goes-along : GoesAlong d L table words state runs
+  goes-along = record { calls = calls-there; accepted = rw start-there (all .accepted); same = same-events }
+
+  -- AND READS THERE AS BY ITSELF
+  pub reads-alike : GuestReading d (freshState own table words state) (freshState L table words state) runs
+      (linkedRuns d L table words state runs)
+  reads-alike =
+      guest-reading first second table out accepted d own other guest words state state runs (linkedRuns d L table words state runs) alone
+      calls-there same-events

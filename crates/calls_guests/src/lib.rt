@@ -1,0 +1,1 @@
+// A guest's calls on a linked image: theorems only, in specs/.

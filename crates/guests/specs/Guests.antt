@@ -1,0 +1,135 @@
+-- The two guests of a linked image. What holds of a guest is said once, over the shift of its labels: 0 for the first, the first's record
+-- count for the second.
+use mathlib.Core.Path.{_≡_, refl, sym, ap, _∙_}
+use mathlib.Core.Bool.{true, false, _&&_, true≢false}
+use mathlib.Core.List.{List, [], map}
+use Prim.Native.Nat.{ℕ, _<_}
+use native.Mathlib.Decide.{decLt}
+use native.Mathlib.Omega.{arith}
+use borrow.Author.Tests.{ne-eqb}
+use Rattle.rules.specs.Sizes.{blockCount}
+use Rattle.rules.specs.Image.{labels}
+use Rattle.rules.specs.Check.{Checked}
+use Rattle.rules.specs.Machine.{Machine, threadAt, fresh, window}
+use Rattle.rules.specs.Events.{Event}
+use Rattle.rules.specs.Steps.{blockAt, rulesBy, answers, final}
+use Rattle.rules.specs.Link.{names, shareBlock, shiftEvent}
+use Rattle.rules.specs.Calls.{linkReturn, linkOut}
+use Rattle.fields.specs.Each.{Each}
+use Rattle.fields.specs.Runs.{any-at, any-none}
+use Rattle.laws.specs.Logic.{not-true, both-hold}
+use Rattle.laws.specs.Passed.{Passed, passed}
+use Rattle.soundness.specs.Destinations.{block-below}
+use Rattle.soundness.specs.StaysWellFormed.{Accepted, sound-fresh}
+use Rattle.guests.specs.Parts.{Part, Fits, first-part, second-part}
+use Rattle.guests.specs.Passes.{fits, Linkable, linkable}
+use Rattle.guests.specs.Relabelled.{thread-shift, locks-shift}
+use Rattle.guests.specs.Reading.{GuestReading, guest-reading-fresh, all-accepted}
+use Rattle.guests.specs.Unshifted.{machine-same, events-same}
+use Rattle.guests.specs.OtherBlocks.{Free, words-of-unnamed-blocks-stay, locks-of-unnamed-blocks-stay-free, fresh-free}
+
+-- the guest G stands in L, d labels in, beside the guest H; both over one block table
+pub record Guest (d : ℕ) (G H L table : List ℕ) : Type 0 where
+  pub part : Part d G L
+  pub checked : Checked G table
+  pub apart : (b : ℕ) → names H b ≡ true → names G b ≡ false
+
+-- ---- the guests of a link that is not refused
+
+-- a checked image names blocks of the table only
+named-below : (image table : List ℕ) → Checked image table → (b : ℕ) → names image b ≡ true → b < blockCount
+unfolding names
+named-below image table checked b h = case (decLt b blockCount)
+  where
+    ok : Passed image table
+    ok = passed image table [] checked .0
+
+    case : Dec (b < blockCount) → b < blockCount
+    case (yes k) = k
+    case (no k) =
+        absurd (true≢false (sym h ∙ any-none _ 0 (labels image) (λ l p q.
+        ne-eqb (blockAt image l) b (λ e. absurd (omega (arith, block-below image table ok l (omega arith)))))))
+
+module _ (first second table out : List ℕ) (accepted : linkReturn first second table out ≡ 0) where
+  abbrev L : List ℕ
+  L = linkOut first second table out
+
+  given : Linkable first second table out
+  given = linkable first second table out accepted
+
+  together : Fits first second
+  together = fits first second table (given .checkedFirst) (given .checkedSecond) (given .few)
+
+  -- no block is named by both
+  not-both : (b : ℕ) → names first b ≡ true → names second b ≡ true → ⊥
+  unfolding shareBlock
+  not-both b e f =
+      let both : names first b && names second b ≡ true = both-hold (names first b) (names second b) e f in
+      let below : b < blockCount = named-below first table (given .checkedFirst) b e in
+      true≢false
+      (sym (any-at (λ c. names first c && names second c) 0 blockCount b both (omega arith) (omega arith)) ∙ given .apart)
+
+  -- THE FIRST IMAGE IS A GUEST, with its labels as they are
+  pub first-guest : Guest 0 first second L table
+  first-guest = record {
+    part = rw (given .result) (first-part first second together);
+    checked = given .checkedFirst;
+    apart = λ b h. not-true (names first b) (λ e. not-both b e h);
+  }
+
+  -- THE SECOND IMAGE IS A GUEST, with its labels shifted by the first's record count
+  pub second-guest : Guest (labels first) second first L table
+  second-guest = record {
+    part = rw (given .result) (second-part first second together);
+    checked = given .checkedSecond;
+    apart = λ b h. not-true (names second b) (λ e. not-both b h e);
+  }
+
+-- ---- what holds of a guest, from a fresh machine and with events that its own image accepts
+
+-- the other guest's block b, with these initial words
+pub record Untouched (table : List ℕ) (b : ℕ) (initial : List ℕ) (s : Machine) : Type 0 where
+  pub words : window b (s .words) ≡ window b initial
+  pub free : Free table b s
+
+module _ (d : ℕ) (G H L table : List ℕ) (guest : Guest d G H L table) (initial : List ℕ) (l : List Event)
+    (accepted : Each (Accepted G) l) where
+  -- THE READING: answers, words and state are those that the guest has by itself
+  pub reads-as-alone : GuestReading d G L table (fresh initial) (fresh initial) l
+  reads-as-alone = guest-reading-fresh d G L table (guest .part) (guest .checked) initial l accepted
+
+  -- the linked image accepts the events
+  pub accepted-there : Each (Accepted L) (map (shiftEvent d) l)
+  accepted-there = all-accepted d G L table (guest .part) (guest .checked) l accepted
+
+  -- NOTHING OF THE OTHER GUEST IS TOUCHED: the words of its blocks are the initial ones, and no thread holds a lock of its blocks
+  pub other-guest-untouched : (b : ℕ) → names H b ≡ true
+      → Untouched table b initial (final (rulesBy L table) (fresh initial) (map (shiftEvent d) l))
+  other-guest-untouched b h =
+      let n : names G b ≡ false = guest .apart b h in
+      let z : Machine = final (rulesBy G table) (fresh initial) l in
+      let k = sound-fresh G table (guest .checked) initial in
+      record {
+        words =
+            ap (window b) (reads-as-alone .words)
+            ∙ words-of-unnamed-blocks-stay G table b n (guest .checked) (fresh initial) l k accepted ∙ unfold fresh in refl;
+        free = λ t.
+            rw (reads-as-alone .state, thread-shift d (z .threads) t, locks-shift d (threadAt z t))
+            (locks-of-unnamed-blocks-stay-free G table b n (guest .checked) (fresh initial) l k accepted (fresh-free table b initial) t);
+      }
+
+-- ---- the first guest, whose labels are shifted by nothing
+
+pub record ReadsAlike (G L table : List ℕ) (s : Machine) (l : List Event) : Type 0 where
+  pub answers : answers (rulesBy L table) s l ≡ answers (rulesBy G table) s l
+  pub state : final (rulesBy L table) s l ≡ final (rulesBy G table) s l
+
+-- THE FIRST GUEST'S READING, with every label as it is
+pub first-reads-alike : (first second table out : List ℕ) → linkReturn first second table out ≡ 0 → (initial : List ℕ) (l : List Event)
+    → Each (Accepted first) l → ReadsAlike first (linkOut first second table out) table (fresh initial) l
+first-reads-alike first second table out h initial l accepted =
+    let k = reads-as-alone 0 first second _ table (first-guest first second table out h) initial l accepted in
+    record {
+      answers = rw (events-same l) at (k .answers);
+      state = (rw (events-same l) at (k .state)) ∙ machine-same (final (rulesBy first table) (fresh initial) l);
+    }
