@@ -1,6 +1,5 @@
--- The calls on the linked image that go with a guest's calls: `goes-along`. Each accepted Run of the guest has its counterpart on the linked
--- image, with its labels shifted in state and events alike, and the counterpart is accepted. So the reading is about every list of a
--- guest's calls.
+-- The calls on the linked image that go with a guest's calls: each accepted Run of the guest has its counterpart there, with its labels
+-- shifted in state and events alike, and the counterpart is accepted.
 use mathlib.Core.Path.{_≡_, refl, sym, ap, _∙_, subst}
 use mathlib.Core.Bool.{Bool, true, false, cond}
 use mathlib.Core.List.{List, [], _∷_, map, map-append, flatten}
@@ -119,7 +118,9 @@ module _ (d : ℕ) (own other L table : List ℕ) (guest : Guest d own other L t
     both-final : Both (final (rulesBy own table) s l)
     both-final = record {
       alone = good-final own table (guest .checked) s l (both .alone) a;
-      shifted = subst (Good L table) (reading .state) (good-final L table checked (shiftMachine d s) (map (shiftEvent d) l) (both .shifted) there);
+      shifted =
+          subst (Good L table) (reading .state)
+          (good-final L table checked (shiftMachine d s) (map (shiftEvent d) l) (both .shifted) there);
     }
 
   -- one accepted Run of the guest, and its counterpart
@@ -177,7 +178,9 @@ module _ (d : ℕ) (own other L table : List ℕ) (guest : Guest d own other L t
           let rest = more (final (rulesBy own table) s (eventsFrom (r .events)))
           (both-final s both (eventsFrom (r .events)) (a .events)) (rw (e, a .own-left) at (f .1)) in
           record {
-            follow = rw (e, a .accepted, a .left) (λ z. record { sameImage = refl; sameTable = k .sameTable; sameState = refl }, rest .follow);
+            follow =
+                rw (e, a .accepted, a .left)
+                (λ z. record { sameImage = refl; sameTable = k .sameTable; sameState = refl }, rest .follow);
             bytes = rw (e, a .left) (a .bytes, rest .bytes);
             accepted = rw (e, a .left) (a .accepted, rest .accepted);
             values = rw (e, a .accepted, a .left, a .values, rest .values) (sym (map-append (shiftEvent d) (eventsFrom (r .events)) _));

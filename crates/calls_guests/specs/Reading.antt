@@ -67,7 +67,8 @@ all-reread : (l : List Event) → Each SizedEvent l → map eventFrom (map event
 all-reread [] z = refl
 all-reread (e ∷ l) z = ap₂ (λ x y. x ∷ y) (reread e (z .0)) (all-reread l (z .1))
 
-pub all-shifted : (d : ℕ) (l : List Event) → Each SizedEvent l → map (shiftEventBytes d) (map eventBytes l) ≡ map eventBytes (map (shiftEvent d) l)
+pub all-shifted : (d : ℕ) (l : List Event) → Each SizedEvent l
+    → map (shiftEventBytes d) (map eventBytes l) ≡ map eventBytes (map (shiftEvent d) l)
 unfolding shiftEventBytes
 all-shifted d [] z = refl
 all-shifted d (e ∷ l) z = ap₂ (λ x y. eventBytes (shiftEvent d x) ∷ y) (reread e (z .0)) (all-shifted d l (z .1))

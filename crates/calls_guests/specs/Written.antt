@@ -40,9 +40,9 @@ module _ (image : List ℕ) where
       let s = signalBytes g ++ q in
       let b = arrivalCode ∷ 0 ∷ s in
       let n = getD s 2 0 in
-      let tidy = and-both (leb n registerCount) (isZeros (part s (valuesPlace + 2 * n) (2 * (registerCount - n)))) (signal-tidy g (h .1) q) in
-      let there : part b (eventSignalPlace + valuesPlace + 2 * n) (2 * (registerCount - n)) ≡ part s (valuesPlace + 2 * n)
-      (2 * (registerCount - n)) =
+      let unused = part s (valuesPlace + 2 * n) (2 * (registerCount - n)) in
+      let tidy = and-both (leb n registerCount) (isZeros unused) (signal-tidy g (h .1) q) in
+      let there : part b (eventSignalPlace + valuesPlace + 2 * n) (2 * (registerCount - n)) ≡ unused =
       let f : eventSignalPlace + valuesPlace + 2 * n ≡ eventSignalPlace + (valuesPlace + 2 * n) = omega arith in
       rw f (sym (part-drop b eventSignalPlace (valuesPlace + 2 * n) (2 * (registerCount - n)))) in
       let label : eqb (entry (recordAt image (num16 s))) externalCode ≡ true = rw (label-back g q) (eq-eqb _ externalCode (h .0)) in

@@ -131,7 +131,8 @@ pub any-at : (f : ℕ → Bool) (i n k : ℕ) → f k ≡ true → i ≤ k → k
 unfolding anyFrom
 any-at f i zero k e h l = absurd (omega arith)
 any-at f i (suc n) k e h l =
-    ⊎-elim (λ p. let g : f i ≡ true = ap f p ∙ e in rw g) (λ q. rw (any-at f (i + 1) n k e (omega arith) (omega arith)) (or-true (f i))) (eq-or-lt-of-le h)
+    ⊎-elim (λ p. let g : f i ≡ true = ap f p ∙ e in rw g)
+    (λ q. rw (any-at f (i + 1) n k e (omega arith) (omega arith)) (or-true (f i))) (eq-or-lt-of-le h)
 
 pub any-none : (f : ℕ → Bool) (i n : ℕ) → ((k : ℕ) → i ≤ k → k < i + n → f k ≡ false) → anyFrom f i n ≡ false
 unfolding anyFrom

@@ -12,7 +12,8 @@ use Rattle.rules.specs.Sizes.{threadCount, blockKindCount, lockCount, blockCoun
 use Rattle.rules.specs.Bytes.{allFrom, every}
 use Rattle.rules.specs.Image.{labels, recordAt, blockField, entry, labelA, labelB, Row, rowAt, fieldAt, threadField, kindField}
 use Rattle.rules.specs.Statements.{statementOf, roleA, roleB}
-use Rattle.rules.specs.Check.{headOk, slotOk, roleOk, labelOk, ruleOk, recordOk, fieldOk, rowOk, firstOf, imageFaults, imagesFaults, imageLengthFault, Checked}
+use Rattle.rules.specs.Check.{headOk, slotOk, roleOk, labelOk, ruleOk, recordOk, fieldOk, rowOk, firstOf, imageFaults, imagesFaults}
+use Rattle.rules.specs.Check.{imageLengthFault, Checked}
 use Rattle.rules.specs.Check.{tableLengthFault, tableFault, recordFault}
 use Rattle.rules.specs.Link.{used}
 use Rattle.rules.specs.declared.statement.Role.{Role}

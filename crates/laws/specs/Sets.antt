@@ -1,4 +1,5 @@
--- Sets of numbers, bit l for number l: the empty set has none; a number that is added is in it, and adding it changes nothing for the others.
+-- Sets of numbers, bit l for number l: the empty set has none; a number that is added is in it, and adding it changes nothing for the
+-- others.
 use mathlib.Core.Path.{_≡_, refl, sym, ap, _∙_}
 use mathlib.Core.Logic.{_≢_}
 use mathlib.Core.Bool.{true, false, _||_, or-true, or-false}

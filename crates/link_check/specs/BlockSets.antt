@@ -67,7 +67,8 @@ module _ (f g : ℕ → Bool) (x y : ℕ) (hx : SetOf f x) (hy : SetOf g y) (sma
 
       case : Dec (b < blockCount) → (c : Bool) → g b ≡ c → has b y ≡ false
       case (yes l) true k =
-          let z : anyFrom (λ b. f b && g b) 0 blockCount ≡ true = any-at (λ b. f b && g b) 0 blockCount b (rw (fb, k)) (omega arith) (omega arith) in
+          let z : anyFrom (λ b. f b && g b) 0 blockCount ≡ true =
+          any-at (λ b. f b && g b) 0 blockCount b (rw (fb, k)) (omega arith) (omega arith) in
           absurd (true≢false (sym z ∙ h))
       case (yes l) false k = hy b ∙ k
       case (no l) c k = absurd (true≢false (sym fb ∙ small b (omega arith)))

@@ -27,7 +27,8 @@ returns-2 : tie.Need-returns-2
 returns-2 c =
     let a = c .before .before .before .before .before .before .before .before .before .args in
     let xs : List ℕ = imageLengthFault (now (a .first)) ∷ imageLengthFault (now (a .second)) ∷ [] in
-    sym (after xs (rest (now (a .first)) (now (a .second)) (now (a .table))) (sym (lengths (c .before .before .before)) ∙ c .before .before .if1 .left)
+    sym (after xs (rest (now (a .first)) (now (a .second)) (now (a .table)))
+    (sym (lengths (c .before .before .before)) ∙ c .before .before .if1 .left)
     ∙ rw (← c .before .table-length-fault .ensures) (found _ _ (c .if2 .taken)))
 
 table-fault-requires : tie.Need-table-fault-requires
@@ -40,7 +41,8 @@ returns-3 c =
     sym (after xs (rest (now (a .first)) (now (a .second)) (now (a .table)))
     (sym (lengths (c .before .before .before .before .before .before)) ∙ c .before .before .before .before .before .if1 .left)
     ∙ rw (← c .before .before .before .before .table-length-fault .ensures) (passed _ _ (c .before .before .before .if2 .left))
-    ∙ sym (nested (tableFault (now (a .table))) (recordFaults (now (a .first)) (now (a .second)))) ∙ rw (← c .before .before .table-fault .ensures, ← c .before .record-faults .ensures) (sym (c .first-of2 .ensures)))
+    ∙ sym (nested (tableFault (now (a .table))) (recordFaults (now (a .first)) (now (a .second))))
+    ∙ rw (← c .before .before .table-fault .ensures, ← c .before .record-faults .ensures) (sym (c .first-of2 .ensures)))
 
 pub images-fault-spec : {M : Type 1} → statement M
 images-fault-spec =

@@ -16,10 +16,12 @@ returns c =
     let s = c .before .before .before .before .before .before .before .before in
     let e : s .args .n + s .args .m ≡ labels (s .args .first .now) + labels (s .args .second .now) = rw (s .pre .0, s .pre .2) refl in
     let z : recordSize * (s .args .n + s .args .m) ≡ length (s .args .first .now) + length (s .args .second .now) = omega arith in
-    let many : c .before .before .before .refuse .result ≡ tooManyRecordsFault (s .args .first .now) (s .args .second .now) = rw e at (c .before .before .before .refuse .ensures) in
+    let many : c .before .before .before .refuse .result ≡ tooManyRecordsFault (s .args .first .now) (s .args .second .now) =
+    rw e at (c .before .before .before .refuse .ensures) in
     let exact : c .before .before .refuse2 .result ≡ outputLengthFault (s .args .first .now) (s .args .second .now) (s .args .out .now) =
     rw z at (c .before .before .refuse2 .ensures) in
-    rw (← c .before .before .before .before .shared-block-fault .ensures, ← many, ← exact) (rw (c .before .first-of .ensures) at (c .first-of2 .ensures) ∙ nested _ _)
+    rw (← c .before .before .before .before .shared-block-fault .ensures, ← many, ← exact)
+    (rw (c .before .first-of .ensures) at (c .first-of2 .ensures) ∙ nested _ _)
 
 pub own-fault-spec : {M : Type 1} → statement M
 own-fault-spec =

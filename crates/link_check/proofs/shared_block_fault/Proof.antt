@@ -8,7 +8,9 @@ returns : tie.Need-returns
 unfolding sharedBlockFault
 returns c =
     let s = c .before .before .before .before .before in
-    rw (c .refuse .ensures, shared (s .args .first .now) (s .args .second .now) _ _ (s .pre .1) (c .before .before .block-set .ensures) (c .before .block-set2 .ensures))
+    let one = c .before .before .block-set in
+    let other = c .before .block-set2 in
+    rw (c .refuse .ensures, shared (s .args .first .now) (s .args .second .now) _ _ (s .pre .1) (one .ensures) (other .ensures))
 
 pub shared-block-fault-spec : {M : Type 1} → statement M
 shared-block-fault-spec =

@@ -1,4 +1,4 @@
-use mathlib.Core.Logic.{⊎-elim, inl, inr}
+use mathlib.Core.Logic.{⊎-elim}
 use borrow.Author.Needs.{needs}
 use Rattle.rules.specs.Statements.{otherAt}
 use Rattle.decoding.specs.OtherRows.{else-exits}
@@ -36,13 +36,8 @@ returns-7 c = rw (c .match .keys7)
 returns-8 : tie.Need-returns-8
 returns-8 c =
     let no = c .match .rest in
-    rw (else-exits _ (
-      λ h. no .0 .0 .0 .0 .0 .0 .1 (inl h),
-      (
-        λ h. no .0 .0 .0 .0 .0 .0 .1 (inr h),
-        (no .0 .0 .0 .0 .0 .1, (no .0 .0 .0 .0 .1, (no .0 .0 .0 .1, (no .0 .0 .1, (no .0 .1, (no .1, tt)))))),
-      ),
-    ))
+    rw (else-exits _ (no .0 .0 .0 .0 .0 .0 .1)
+    (no .0 .0 .0 .0 .0 .1, (no .0 .0 .0 .0 .1, (no .0 .0 .0 .1, (no .0 .0 .1, (no .0 .1, (no .1, tt)))))))
 
 pub other-uses-spec : {M : Type 1} → statement M
 other-uses-spec =

@@ -24,10 +24,11 @@ new-labels : (c : tie.After-shifted2) →
     let r = s .args .r .now in
     (c .before .before .shifted .result ≡ label (shiftLabel (s .args .d) (roleA (statementOf r)) (labelA r)))
     × (c .shifted2 .result ≡ label (shiftLabel (s .args .d) (roleB (statementOf r)) (labelB r)))
-new-labels c = (
-  rw (c .before .before .shifted .ensures, c .before .before .before .label-a .ensures, c .before .before .before .before .uses-of .ensures),
-  rw (c .shifted2 .ensures, c .before .label-b .ensures, c .before .before .before .before .uses-of .ensures),
-)
+new-labels c =
+    let uses = c .before .before .before .before .uses-of .ensures in (
+      rw (c .before .before .shifted .ensures, c .before .before .before .label-a .ensures, uses),
+      rw (c .shifted2 .ensures, c .before .label-b .ensures, uses),
+    )
 
 returns : tie.Need-returns
 unfolding shiftRecord part
@@ -35,7 +36,7 @@ returns c =
     let second = c .before .before .before in
     let first = second .before .before .before .before .before in
     let copied = first .before .before .before .before in
-    let s = c .before .before .before .before .before .before .before .before .before .before .before .before .before .before .before .before .before .before .before .before .before in
+    let s = copied .before .before .before .before .before .before .before .before .before in
     let r = s .args .r .now in
     let new = new-labels (copied .before .before) in
     let whole : part r 0 recordSize ≡ r = take-all recordSize r (omega arith) in

@@ -10,7 +10,8 @@ returns : tie.Need-returns
 unfolding statementOf
 returns c =
     let r = c .before .before .before .before .before .before .before .args .r .now in
-    rw (assigns-none (operationAt (opcode r) (operator r)) (sym (c .before .before .before .operation-at .ensures) ∙ c .before .enum-told .given .1)) (c .other-uses .ensures)
+    rw (assigns-none (operationAt (opcode r) (operator r))
+    (sym (c .before .before .before .operation-at .ensures) ∙ c .before .enum-told .given .1)) (c .other-uses .ensures)
 
 returns-2 : tie.Need-returns-2
 unfolding statementOf

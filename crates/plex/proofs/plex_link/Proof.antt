@@ -14,12 +14,14 @@ returns c =
 link-requires : tie.Need-link-requires
 link-requires c κs =
     let a = c .before .before .before .before .before .before .before .before .args in
-    link-lent (a .first .now) (a .second .now) (a .table .now) (a .out .now) (sym (c .before .before .link-fault .ensures) ∙ c .before .if1 .left)
+    link-lent (a .first .now) (a .second .now) (a .table .now) (a .out .now)
+    (sym (c .before .before .link-fault .ensures) ∙ c .before .if1 .left)
 
 returns-2 : tie.Need-returns-2
 returns-2 c =
     let a = c .before .before .before .before .before .before .before .before .before .before .before .args in
-    let h : linkReturn (a .first .now) (a .second .now) (a .table .now) (a .out .now) ≡ 0 = sym (c .before .before .before .before .before .link-fault .ensures) ∙ c .before .before .before .before .if1 .left in
+    let h : linkReturn (a .first .now) (a .second .now) (a .table .now) (a .out .now) ≡ 0 =
+    sym (c .before .before .before .before .before .link-fault .ensures) ∙ c .before .before .before .before .if1 .left in
     (sym h, c .before .before .link .ensures ∙ sym (link-out (a .first .now) (a .second .now) (a .table .now) (a .out .now) h))
 
 pub plex-link-spec : {M : Type 1} → statement M
