@@ -1,6 +1,5 @@
 -- The rows of the opcodes that are not of ASSIGN's kind, passed one by one.
 use mathlib.Core.Path.{_≡_, refl, ap, _∙_}
-use mathlib.Core.Logic.{_⊎_, inl, inr}
 use mathlib.Core.Bool.{Bool, true, false, cond}
 use mathlib.Core.Option.{none, some}
 use mathlib.Core.List.{List, [], _∷_, _++_}
@@ -8,7 +7,7 @@ use Prim.Native.Nat.{ℕ}
 use lib.Dec.{eqb}
 use lib.ListN.{take, drop}
 use borrow.Author.Tests.{ne-eqb}
-use Rattle.rules.specs.Codes.{skipCode, gotoCode, exitCode}
+use Rattle.rules.specs.Codes.{exitCode}
 use Rattle.rules.specs.Image.{opcode}
 use Rattle.rules.specs.Statements.{Other, others, otherIn, otherAt, otherOr, otherOf}
 use Rattle.rules.specs.declared.statement.Statement.the-variants.{Exit}
@@ -22,13 +21,10 @@ pub no-row : (r : List ℕ) (op : ℕ) (xs ys : List Other) → NoRow op xs → 
 no-row r op [] ys h = refl
 no-row r op (x ∷ xs) ys h = rw (ne-eqb op (x .opcode) (h .0)) (no-row r op xs ys (h .1))
 
--- what is not one of the first eight rows, of which the first two are tested together, reads as EXIT
-pub else-exits : (r : List ℕ) → ((opcode r ≡ skipCode) ⊎ (opcode r ≡ gotoCode) → ⊥) → NoRow (opcode r) (drop 2 (take 8 others))
-    → otherOf r ≡ Exit
+-- what is not one of the first eight rows reads as EXIT
+pub else-exits : (r : List ℕ) → NoRow (opcode r) (take 8 others) → otherOf r ≡ Exit
 unfolding otherAt
-else-exits r two h =
-    let all : NoRow (opcode r) (take 8 others) = (λ e. two (inl e), (λ e. two (inr e), h)) in
-    ap otherOr (no-row r (opcode r) (take 8 others) (drop 8 others) all) ∙ last (eqb (opcode r) exitCode)
+else-exits r h = ap otherOr (no-row r (opcode r) (take 8 others) (drop 8 others) h) ∙ last (eqb (opcode r) exitCode)
   where
     last : (b : Bool) → otherOr (cond b (some Exit) none) ≡ Exit
     last true = refl

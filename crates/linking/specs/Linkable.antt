@@ -1,5 +1,5 @@
--- Two images that can be linked into an output: each has records, the labels of the second leave room for a shift, and the output has
--- exactly their length. Images that pass the check can, where the output has that length.
+-- Two images that can be linked into an output: each has records, those of the second break no rule of their heads and have labels that
+-- leave room for a shift, and the output has exactly their length. Images that pass the check can, where the output has that length.
 use mathlib.Core.Path.{_≡_, refl}
 use mathlib.Core.Bool.{true}
 use mathlib.Core.List.{List}
@@ -10,7 +10,7 @@ use borrow.Author.Tests.{eqb-true}
 use Rattle.rules.specs.Sizes.{recordCount}
 use Rattle.rules.specs.Image.{labels, recordAt, labelA, labelB, blockField}
 use Rattle.rules.specs.Statements.{statementOf, roleA, roleB}
-use Rattle.rules.specs.Check.{labelOk, recordOk}
+use Rattle.rules.specs.Check.{headOk, labelOk, recordOk}
 use Rattle.rules.specs.declared.statement.Role.{Role}
 use Rattle.rules.specs.declared.statement.Role.the-variants.{Unused, Inner, Direct, Local, Buffered}
 use Rattle.laws.specs.Passed.{Passed, rule-parts, label-below}
@@ -19,6 +19,7 @@ use Rattle.image.specs.Records.{labels-small}
 pub record Linkable (first second out : List ℕ) : Type 0 where
   pub some : 0 < labels first
   pub more : 0 < labels second
+  pub heads : (l : ℕ) → l < labels second → headOk (recordAt second l) ≡ true
   pub lowA : (l : ℕ) → l < labels second → labelA (recordAt second l) ≤ recordCount
   pub lowB : (l : ℕ) → l < labels second → labelB (recordAt second l) ≤ recordCount
   pub exact : length out ≡ length first + length second
@@ -38,6 +39,7 @@ unfolding recordOk
 linkable-of first second table out p q e = record {
   some = p .someLabels;
   more = q .someLabels;
+  heads = λ l h. rule-parts second (recordAt second l) (q .records l h) .head;
   lowA = λ l h. label-low second (roleA (statementOf (recordAt second l))) (blockField (recordAt second l)) _
       (rule-parts second (recordAt second l) (q .records l h) .a);
   lowB = λ l h. label-low second (roleB (statementOf (recordAt second l))) (blockField (recordAt second l)) _

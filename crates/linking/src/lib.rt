@@ -1,15 +1,13 @@
 // Two images linked: the second laid behind the first, its used labels higher by the first's record count.
-use decoding::Assigns;
-use decoding::operation_at;
 use fields::write::copy;
 use fields::write::put16;
 use image::record_fields::label_a;
 use image::record_fields::label_b;
 use image::records::count_labels;
+use rules::codes::ASSIGN;
 use rules::codes::CALL;
 use rules::codes::GOTO;
 use rules::codes::IF;
-use rules::codes::RETURN;
 use rules::codes::SEND_BUFFERED;
 use rules::codes::SEND_DIRECT;
 use rules::codes::SKIP;
@@ -17,55 +15,41 @@ use rules::codes::TRANSFER;
 use rules::layout::LABEL_A_PLACE;
 use rules::layout::LABEL_B_PLACE;
 use rules::layout::OPCODE_PLACE;
-use rules::layout::OPERATOR_PLACE;
 use rules::layout::RECORD_SIZE;
 use rules::sorts::Label;
 use rules::sorts::label_number;
 use rules::sorts::label_of;
 ghost use mathlib.Core.Path.{_≡_};
-ghost use mathlib.Core.Bool.{cond};
+ghost use mathlib.Core.Bool.{true, cond};
 ghost use Prim.Native.Nat.{_+_, _<_, _≤_};
 ghost use lib.ListN.{length};
 ghost use Rattle.rules.specs.Sorts.{label};
 ghost use Rattle.rules.specs.Sizes.{recordSize};
+ghost use Rattle.rules.specs.Bytes.{has};
 ghost use Rattle.rules.specs.Image.{labelA, labelB};
-ghost use Rattle.rules.specs.Statements.{otherOf, statementOf};
+ghost use Rattle.rules.specs.Check.{headOk};
 ghost use Rattle.rules.specs.Link.{shiftRecord, linked};
 ghost use Rattle.fields.specs.Put.{put};
-ghost use Rattle.linking.specs.Uses.{usesOf};
 ghost use Rattle.linking.specs.Linkable.{Linkable};
 
-// Which of its labels A and B the statement in a record uses.
-pub struct Uses {
-    pub a: bool,
-    pub b: bool,
-}
+// The opcodes that use label A, and those that use label B, as sets: bit i for opcode i.
+const A_USERS: u16 = (1 << SKIP)
+    | (1 << ASSIGN)
+    | (1 << GOTO)
+    | (1 << IF)
+    | (1 << SEND_DIRECT)
+    | (1 << SEND_BUFFERED)
+    | (1 << CALL)
+    | (1 << TRANSFER);
 
-// Of an opcode that is not of ASSIGN's kind.
-pub fn other_uses(r: &[u8]) -> Uses
-    requires { ⌜ length (now r) ≡ recordSize ⌝ }
-    ensures { λ z. ⌜ z ≡ usesOf (otherOf (now (r .entry))) ⌝ }
-{
-    match r[OPCODE_PLACE] {
-        SKIP | GOTO => Uses { a: true, b: false },
-        IF => Uses { a: true, b: true },
-        SEND_DIRECT => Uses { a: true, b: false },
-        SEND_BUFFERED => Uses { a: true, b: true },
-        CALL => Uses { a: true, b: true },
-        RETURN => Uses { a: false, b: false },
-        TRANSFER => Uses { a: true, b: false },
-        _ => Uses { a: false, b: false },
-    }
-}
+const B_USERS: u16 = (1 << IF) | (1 << SEND_BUFFERED) | (1 << CALL);
 
-pub fn uses_of(r: &[u8]) -> Uses
-    requires { ⌜ length (now r) ≡ recordSize ⌝ }
-    ensures { λ z. ⌜ z ≡ usesOf (statementOf (now (r .entry))) ⌝ }
+// An opcode is one of these.
+pub fn is_user(users: u16, opcode: u8) -> bool
+    requires { ⌜ opcode < 16 ⌝ }
+    ensures { λ z. ⌜ z ≡ has opcode users ⌝ }
 {
-    match operation_at(r[OPCODE_PLACE], r[OPERATOR_PLACE]) {
-        Assigns::Nothing => other_uses(r),
-        Assigns::Work(_) => Uses { a: true, b: false },
-    }
+    (users >> opcode) % 2 == 1
 }
 
 // A label that is used, d higher; one that is not, as it is.
@@ -80,15 +64,15 @@ pub fn shifted(used: bool, at: Label, d: u16) -> Label
     }
 }
 
-// A record with its labels shifted goes to a place of the output.
+// A record that breaks no rule of its head goes to a place of the output, its labels shifted.
 pub fn shift_record(out: &mut [u8], at: usize, r: &[u8], d: u16)
     requires { ⌜ (at + recordSize ≤ length (now out)) × (length (now r) ≡ recordSize)
-        × (labelA (now r) + d < 65536) × (labelB (now r) + d < 65536) ⌝ }
+        × (labelA (now r) + d < 65536) × (labelB (now r) + d < 65536) × (headOk (now r) ≡ true) ⌝ }
     ensures { λ _. ⌜ now (out .exit) ≡ put (now (out .entry)) at (shiftRecord d (now (r .entry))) ⌝ }
 {
-    let uses = uses_of(r);
-    let a = shifted(uses.a, label_a(r), d);
-    let b = shifted(uses.b, label_b(r), d);
+    let opcode = r[OPCODE_PLACE];
+    let a = shifted(is_user(A_USERS, opcode), label_a(r), d);
+    let b = shifted(is_user(B_USERS, opcode), label_b(r), d);
     copy(out, at, r, 0, RECORD_SIZE);
     put16(out, at + LABEL_A_PLACE, label_number(a));
     put16(out, at + LABEL_B_PLACE, label_number(b));

@@ -1,6 +1,6 @@
 use Rattle.rules.specs.Statements.{otherAt}
 use mathlib.Core.Path.{sym}
-use mathlib.Core.Logic.{⊎-elim}
+use mathlib.Core.Logic.{⊎-elim, inl, inr}
 use borrow.Author.Needs.{needs}
 use Rattle.decoding.specs.OtherRows.{else-exits}
 use Rattle.decoding.proofs.other_of.Statement.{statement}
@@ -37,8 +37,13 @@ returns-7 c = rw (c .match .keys7)
 returns-8 : tie.Need-returns-8
 returns-8 c =
     let no = c .match .rest in
-    sym (else-exits _ (no .0 .0 .0 .0 .0 .0 .1)
-    (no .0 .0 .0 .0 .0 .1, (no .0 .0 .0 .0 .1, (no .0 .0 .0 .1, (no .0 .0 .1, (no .0 .1, (no .1, tt)))))))
+    sym (else-exits _ (
+      λ h. no .0 .0 .0 .0 .0 .0 .1 (inl h),
+      (
+        λ h. no .0 .0 .0 .0 .0 .0 .1 (inr h),
+        (no .0 .0 .0 .0 .0 .1, (no .0 .0 .0 .0 .1, (no .0 .0 .0 .1, (no .0 .0 .1, (no .0 .1, (no .1, tt)))))),
+      ),
+    ))
 
 pub other-of-spec : {M : Type 1} → statement M
 other-of-spec =

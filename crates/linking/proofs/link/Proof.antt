@@ -95,6 +95,7 @@ shift-record-requires c κs =
       length-record second l below,
       omega (arith, s .pre .lowA l below),
       omega (arith, s .pre .lowB l below),
+      s .pre .heads l below,
     )
 
 loop-again : tie.Need-loop-again Inv-loop μ-loop
@@ -109,7 +110,7 @@ loop-again c =
       omega arith,
       ap length taken ∙ simp length-put (l .inv .1),
       rw (one-more _ (l .l) second, ← record-part second (l .l) below)
-          (put-then _ _ _ _ _ (l .inv .2) taken (rw size refl)),
+          (put-then _ _ _ _ _ (l .inv .2) taken (omega (arith, size))),
     )
 
 same-length : tie.Need-same-length Inv-loop μ-loop
