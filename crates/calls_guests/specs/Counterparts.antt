@@ -103,7 +103,7 @@ accepted-from image table s l space checked g a few room =
 -- ---- a guest's Runs
 
 module _ (d : ℕ) (own other L table : List ℕ) (guest : Guest d own other L table) (checked : Checked L table) where
-  -- a machine of the guest, which its own image and, shifted, the linked image keep the rules with
+  -- a machine of the guest that keeps the rules of its own image and, shifted, those of the linked image
   pub record Both (s : Machine) : Type 0 where
     pub alone : Good own table s
     pub shifted : Good L table (shiftMachine d s)
@@ -124,7 +124,7 @@ module _ (d : ℕ) (own other L table : List ℕ) (guest : Guest d own other L t
     }
 
   -- one accepted Run of the guest, and its counterpart
-  record Along (s : Machine) (r : Run) : Type 0 where
+  record CounterpartAccepted (s : Machine) (r : Run) : Type 0 where
     events : Each (Accepted own) (eventsFrom (r .events))
     accepted : returned (counterpart d L (encode (shiftMachine d s)) r) ≡ 0
     bytes : AreBytes (shiftEvents d (r .events))
@@ -133,9 +133,10 @@ module _ (d : ℕ) (own other L table : List ℕ) (guest : Guest d own other L t
     left : stateLeft (counterpart d L (encode (shiftMachine d s)) r)
         ≡ encode (shiftMachine d (final (rulesBy own table) s (eventsFrom (r .events))))
 
-  along : (s : Machine) (r : Run) → Both s → EventsAreBytes r → returned r ≡ 0 → GoesOn own table (encode s) r → Along s r
+  counterpart-accepted : (s : Machine) (r : Run) → Both s → EventsAreBytes r → returned r ≡ 0
+      → GoesOn own table (encode s) r → CounterpartAccepted s r
   unfolding shiftEvents runState
-  along s r both b h k =
+  counterpart-accepted s r both b h k =
       let l = eventsFrom (r .events) in
       let mapped = map (shiftEvent d) l in
       let same : runReturn own table (encode s) (r .events) (r .space) ≡ 0 = rw (k .sameImage, k .sameTable, k .sameState) at h in
@@ -158,23 +159,25 @@ module _ (d : ℕ) (own other L table : List ℕ) (guest : Guest d own other L t
       }
 
   -- any number of Runs
-  pub record AllAlong (s : Machine) (runs : List Run) : Type 0 where
+  pub record CounterpartsAccepted (s : Machine) (runs : List Run) : Type 0 where
     pub follow : Follow L table (encode (shiftMachine d s)) (counterparts d L (encode (shiftMachine d s)) runs)
     pub bytes : Each EventsAreBytes (counterparts d L (encode (shiftMachine d s)) runs)
     pub accepted : Each (λ r. returned r ≡ 0) (counterparts d L (encode (shiftMachine d s)) runs)
     pub values : flatten (eventLists (counterparts d L (encode (shiftMachine d s)) runs)) ≡ map (shiftEvent d) (flatten (eventLists runs))
 
-  pub all-along : (s : Machine) (runs : List Run) → Both s → Each EventsAreBytes runs → Follow own table (encode s) runs → AllAlong s runs
+  pub counterparts-accepted : (s : Machine) (runs : List Run) → Both s → Each EventsAreBytes runs → Follow own table (encode s) runs
+      → CounterpartsAccepted s runs
   unfolding counterparts eventLists flatten Follow
-  all-along s [] both b f = record { follow = tt; bytes = tt; accepted = tt; values = refl }
-  all-along s (r ∷ l) both b f = case (accepted r) refl (all-along s l both (b .1)) (λ s′ both′ f′. all-along s′ l both′ (b .1) f′)
+  counterparts-accepted s [] both b f = record { follow = tt; bytes = tt; accepted = tt; values = refl }
+  counterparts-accepted s (r ∷ l) both b f =
+      case (accepted r) refl (counterparts-accepted s l both (b .1)) (λ s′ both′ f′. counterparts-accepted s′ l both′ (b .1) f′)
     where
-      case : (c : Bool) → accepted r ≡ c → (Follow own table (encode s) l → AllAlong s l)
-          → ((s′ : Machine) → Both s′ → Follow own table (encode s′) l → AllAlong s′ l) → AllAlong s (r ∷ l)
+      case : (c : Bool) → accepted r ≡ c → (Follow own table (encode s) l → CounterpartsAccepted s l)
+          → ((s′ : Machine) → Both s′ → Follow own table (encode s′) l → CounterpartsAccepted s′ l) → CounterpartsAccepted s (r ∷ l)
       case true e same more =
           let h : returned r ≡ 0 = eqb-true (returned r) 0 e in
           let k : GoesOn own table (encode s) r = f .0 h in
-          let a : Along s r = along s r both (b .0) h k in
+          let a : CounterpartAccepted s r = counterpart-accepted s r both (b .0) h k in
           let rest = more (final (rulesBy own table) s (eventsFrom (r .events)))
           (both-final s both (eventsFrom (r .events)) (a .events)) (rw (e, a .own-left) at (f .1)) in
           record {

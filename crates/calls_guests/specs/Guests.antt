@@ -6,7 +6,7 @@ use lib.ListN.{take}
 use Rattle.rules.specs.Sizes.{wordsSize}
 use Rattle.rules.specs.Image.{labels}
 use Rattle.rules.specs.Order.{ByteEntry}
-use Rattle.rules.specs.Link.{shiftState, shiftEventBytes}
+use Rattle.rules.specs.Link.{shiftState, shiftEvents}
 use Rattle.calls_one_by_one.specs.CallList.{Run, lastLeft, eventList, answersOf}
 
 -- a guest of two linked images, the shift of its labels, and the other guest: the first, whose labels stay, or the second, whose labels
@@ -18,7 +18,7 @@ pub data IsGuest (first second : List ℕ) : ℕ → List ℕ → List ℕ → T
 -- the event list of two lists of calls, of any number of Runs each: that of the second list is that of the first, with its labels shifted
 abbrev pub SameEvents : ℕ → List Run → List Run → Type 0
 SameEvents d runs runs′ =
-    map (λ (n : ByteEntry). n .event) (eventList runs′) ≡ map (λ (n : ByteEntry). shiftEventBytes d (n .event)) (eventList runs)
+    map (λ (n : ByteEntry). n .event) (eventList runs′) ≡ map (λ (n : ByteEntry). shiftEvents d (n .event)) (eventList runs)
 
 -- the guest's list of calls on its own image, from the state that its Fresh left, and a list of calls on the linked image: each event gets
 -- the same two answer bytes; the shared words left are the same bytes; and the state left is the guest's with its labels shifted

@@ -1,4 +1,5 @@
--- A guest's reading, of the calls: `guest-reading`. And nothing of the other guest is touched: `other-guest-untouched`.
+-- A guest's reading, of the calls: `guest-reading`, and `first-guest-state`. And nothing of the other guest is touched:
+-- `other-words-stay`, `other-locks-free`.
 use mathlib.Core.Path.{_≡_, refl, sym, ap, ap₂, _∙_, subst}
 use mathlib.Core.Bool.{true}
 use mathlib.Core.List.{List, [], _∷_, map, map-map}
@@ -7,13 +8,13 @@ use lib.ListN.{take}
 use lib.Seq.{take-at}
 use Rattle.rules.specs.Sizes.{wordTotal, wordsSize}
 use Rattle.rules.specs.Bytes.{le16, blocks, pad}
-use Rattle.rules.specs.Machine.{Machine, fresh}
+use Rattle.rules.specs.Machine.{Machine, fresh, window}
 use Rattle.rules.specs.Encoding.{encode, wordsFrom, machineFrom}
 use Rattle.rules.specs.Events.{Event, eventBytes, eventFrom}
 use Rattle.rules.specs.Answers.{answerBytes}
 use Rattle.rules.specs.Steps.{rulesBy, answers, final}
 use Rattle.rules.specs.Order.{Entry, log, events, ByteEntry}
-use Rattle.rules.specs.Link.{names, shiftMachine, shiftEvent, shiftState, shiftEventBytes}
+use Rattle.rules.specs.Link.{names, shiftMachine, shiftEvent, shiftState, shiftEvents}
 use Rattle.rules.specs.Calls.{freshState, linkReturn, linkOut}
 use Rattle.fields.specs.Each.{Each}
 use Rattle.laws.specs.EventLists.{log-events, log-answers}
@@ -24,9 +25,11 @@ use Rattle.one_by_one.specs.ByteOrder.{bytesOf}
 use Rattle.calls_one_by_one.specs.CallList.{Run, lastLeft, Calls, eventList, answersOf}
 use Rattle.calls_one_by_one.specs.Whole as whole
 use Rattle.guests.specs.Reading as of-values
+use Rattle.guests.specs.Unshifted.{machine-same, events-same}
+use Rattle.guests.specs.OtherBlocks.{Free}
 use Rattle.guests.specs.Guests as values
 use Rattle.guests.specs.Guests.{Guest, first-guest, second-guest}
-use Rattle.calls_guests.specs.Shifts.{each-sized, reread}
+use Rattle.calls_guests.specs.Shifts.{each-sized, reread, shift-one}
 use Rattle.calls_guests.specs.Guests.{IsGuest, the-first, the-second, SameEvents, GuestReading}
 
 -- ---- one list of calls, as values
@@ -38,8 +41,8 @@ module _ (image table words state : List ℕ) (runs : List Run) (calls : Calls i
   pub each : Each (Accepted image) joint
   each = whole.all image table words state runs calls .each
 
-  abbrev first : Machine
-  first = fresh (wordsFrom words)
+  abbrev begun : Machine
+  begun = fresh (wordsFrom words)
 
   events-written : (l : List Entry) → map (λ (n : ByteEntry). n .event) (map bytesOf l) ≡ map eventBytes (events l)
   events-written [] = refl
@@ -52,14 +55,14 @@ module _ (image table words state : List ℕ) (runs : List Run) (calls : Calls i
   pub event-bytes : map (λ (n : ByteEntry). n .event) (eventList runs) ≡ map eventBytes joint
   event-bytes =
       ap (map (λ (n : ByteEntry). n .event)) (whole.entries image table words state runs calls)
-      ∙ events-written (log (rulesBy image table) first joint)
-      ∙ ap (map eventBytes) (log-events (rulesBy image table) first joint)
+      ∙ events-written (log (rulesBy image table) begun joint)
+      ∙ ap (map eventBytes) (log-events (rulesBy image table) begun joint)
 
-  pub answer-bytes : answersOf (eventList runs) ≡ map answerBytes (answers (rulesBy image table) first joint)
+  pub answer-bytes : answersOf (eventList runs) ≡ map answerBytes (answers (rulesBy image table) begun joint)
   answer-bytes =
       ap answersOf (whole.entries image table words state runs calls)
-      ∙ answers-written (log (rulesBy image table) first joint)
-      ∙ ap (map answerBytes) (log-answers (rulesBy image table) first joint)
+      ∙ answers-written (log (rulesBy image table) begun joint)
+      ∙ ap (map answerBytes) (log-answers (rulesBy image table) begun joint)
 
 -- ---- the shifted events of a list
 
@@ -68,10 +71,9 @@ all-reread [] z = refl
 all-reread (e ∷ l) z = ap₂ (λ x y. x ∷ y) (reread e (z .0)) (all-reread l (z .1))
 
 pub all-shifted : (d : ℕ) (l : List Event) → Each SizedEvent l
-    → map (shiftEventBytes d) (map eventBytes l) ≡ map eventBytes (map (shiftEvent d) l)
-unfolding shiftEventBytes
+    → map (shiftEvents d) (map eventBytes l) ≡ map eventBytes (map (shiftEvent d) l)
 all-shifted d [] z = refl
-all-shifted d (e ∷ l) z = ap₂ (λ x y. eventBytes (shiftEvent d x) ∷ y) (reread e (z .0)) (all-shifted d l (z .1))
+all-shifted d (e ∷ l) z = ap₂ (λ x y. x ∷ y) (shift-one d e (z .0)) (all-shifted d l (z .1))
 
 -- two event lists whose bytes are the same
 same-events : (l m : List Event) → Each SizedEvent l → Each SizedEvent m → map eventBytes l ≡ map eventBytes m → l ≡ m
@@ -112,8 +114,8 @@ module _ (first second table out : List ℕ) (accepted : linkReturn first second
         (values.accepted-there d own other L table (guest-of d own other guest) (wordsFrom words) own-events own-accepted))
         (sym (event-bytes L table words state′ runs′ linked)
         ∙ same
-        ∙ sym (map-map (shiftEventBytes d) (λ (n : ByteEntry). n .event) (eventList runs))
-        ∙ ap (map (shiftEventBytes d)) (event-bytes own table words state runs alone)
+        ∙ sym (map-map (shiftEvents d) (λ (n : ByteEntry). n .event) (eventList runs))
+        ∙ ap (map (shiftEvents d)) (event-bytes own table words state runs alone)
         ∙ all-shifted d own-events (each-sized own own-events own-accepted))
 
     left-shifted : whole.last L table words state′ runs′ linked ≡ shiftMachine d (whole.last own table words state runs alone)
@@ -139,10 +141,45 @@ module _ (first second table out : List ℕ) (accepted : linkReturn first second
           ∙ sym (ap (λ z. encode (shiftMachine d z)) (whole.last-machine own table words state runs alone));
     }
 
-    -- NOTHING OF THE OTHER GUEST IS TOUCHED: the words of its blocks are those that Fresh was lent, and no thread holds their locks
-    pub other-guest-untouched : (b : ℕ) → names other b ≡ true
-        → values.Untouched table b (wordsFrom words) (machineFrom (lastLeft (freshState L table words state′) runs′))
-    other-guest-untouched b h =
-        subst (values.Untouched table b (wordsFrom words))
-        (sym (whole.last-machine L table words state′ runs′ linked ∙ ap (final (rulesBy L table) (fresh (wordsFrom words))) linked-events))
-        (values.other-guest-untouched d own other L table (guest-of d own other guest) (wordsFrom words) own-events own-accepted b h)
+    linked-machine : machineFrom (lastLeft (freshState L table words state′) runs′)
+        ≡ final (rulesBy L table) (fresh (wordsFrom words)) (map (shiftEvent d) own-events)
+    linked-machine =
+        whole.last-machine L table words state′ runs′ linked ∙ ap (final (rulesBy L table) (fresh (wordsFrom words))) linked-events
+
+    -- NOTHING OF THE OTHER GUEST IS TOUCHED: the words of its blocks are those that Fresh was lent
+    pub other-words-stay : (b : ℕ) → names other b ≡ true
+        → window b (wordsFrom (lastLeft (freshState L table words state′) runs′)) ≡ window b (wordsFrom words)
+    unfolding machineFrom
+    other-words-stay b h =
+        ap (λ (z : Machine). window b (z .words)) linked-machine
+        ∙ values.other-words-stay d own other L table (guest-of d own other guest) (wordsFrom words) own-events own-accepted b h
+
+    -- and no thread holds their locks
+    pub other-locks-free : (b : ℕ) → names other b ≡ true → Free table b (machineFrom (lastLeft (freshState L table words state′) runs′))
+    other-locks-free b h =
+        subst (Free table b) (sym linked-machine)
+        (values.other-locks-free d own other L table (guest-of d own other guest) (wordsFrom words) own-events own-accepted b h)
+
+  -- ---- the first guest, whose labels are shifted by nothing
+
+  module _ (words state state′ : List ℕ) (runs runs′ : List Run) (alone : Calls first table words state runs)
+      (linked : Calls L table words state′ runs′)
+      (same : map (λ (n : ByteEntry). n .event) (eventList runs′) ≡ map (λ (n : ByteEntry). n .event) (eventList runs)) where
+    unshifted : SameEvents 0 runs runs′
+    unshifted =
+        let l = joint first table words state runs alone in
+        same
+        ∙ event-bytes first table words state runs alone
+        ∙ ap (map eventBytes) (sym (events-same l))
+        ∙ sym (all-shifted 0 l (each-sized first l (each first table words state runs alone)))
+        ∙ sym (ap (map (shiftEvents 0)) (event-bytes first table words state runs alone))
+        ∙ map-map (shiftEvents 0) (λ (n : ByteEntry). n .event) (eventList runs)
+
+    -- THE FIRST GUEST'S STATE BYTES ARE THE VERY ONES, where the event bytes are
+    pub first-guest-state : lastLeft (freshState L table words state′) runs′ ≡ lastLeft (freshState first table words state) runs
+    unfolding shiftState
+    first-guest-state =
+        guest-reading 0 first second the-first words state state′ runs runs′ alone linked unshifted .state
+        ∙ ap encode (machine-same (machineFrom (lastLeft (freshState first table words state) runs)))
+        ∙ ap encode (whole.last-machine first table words state runs alone)
+        ∙ sym (whole.last-bytes first table words state runs alone)

@@ -1,13 +1,13 @@
 -- A list of events whose bytes a guest's image accepts, with its labels shifted: as many events, of the shifted values, in bytes, and
 -- accepted by the linked image.
-use mathlib.Core.Path.{_≡_}
+use mathlib.Core.Path.{_≡_, refl}
 use mathlib.Core.Bool.{true}
 use mathlib.Core.List.{List, [], _∷_, append-nil, map}
 use Prim.Native.Nat.{ℕ, _*_, _<_}
 use native.Mathlib.Omega.{arith}
 use lib.ListN.{length, getD, drop, length-drop}
 use Rattle.rules.specs.Sizes.{eventSize}
-use Rattle.rules.specs.Bytes.{blocks}
+use Rattle.rules.specs.Bytes.{blocks, chunks}
 use Rattle.rules.specs.Events.{stepping, Event, arrive, turn, eventBytes, eventFrom, eventsIn, eventAtOk, eventsFrom}
 use Rattle.rules.specs.Link.{shiftEvent, shiftEvents}
 use Rattle.fields.specs.Each.{Each, each-at}
@@ -21,7 +21,7 @@ use Rattle.soundness.specs.Members.{each-map}
 use Rattle.soundness.specs.StaysWellFormed.{Accepted}
 use Rattle.calls_one_by_one.specs.Whole.{accepted-sized}
 use Rattle.guests.specs.Reading.{accepted-below}
-use Rattle.calls_guests.specs.Written.{event-ok, Written, blocks-bytes, Fits, written-shift, bytes-take}
+use Rattle.calls_guests.specs.Written.{event-ok, Written, blocks-bytes, LabelFits, written-shift, bytes-take}
 
 -- ---- events, written down and read again
 
@@ -30,6 +30,13 @@ each-sized image l h = each-map (Accepted image) SizedEvent l (accepted-sized im
 
 pub reread : (e : Event) → SizedEvent e → eventFrom (eventBytes e) ≡ e
 reread e z = rw (append-nil (eventBytes e)) at (event-back e z [])
+
+-- the bytes of one event, shifted
+pub shift-one : (d : ℕ) (e : Event) → SizedEvent e → shiftEvents d (eventBytes e) ≡ eventBytes (shiftEvent d e)
+unfolding shiftEvents eventsFrom chunks blocks
+shift-one d e z =
+    let one : eventsIn (eventBytes e) ≡ 1 = rw (length-event e) refl in
+    rw (one, reread e z) (append-nil (eventBytes (shiftEvent d e)))
 
 -- ---- a list of them, and nothing behind it
 
@@ -70,7 +77,7 @@ lent-written image events whole ok b =
 
 -- below 512, a label has room for a shift
 module _ (d : ℕ) (L table : List ℕ) where
-  fits : (e : Event) → Accepted L (shiftEvent d e) → Fits d e
+  fits : (e : Event) → Accepted L (shiftEvent d e) → LabelFits d e
   fits (arrive g) h = omega (arith, accepted-below L table (shiftEvent d (arrive g)) h, labels-small L)
   fits (turn k t) h = tt
 

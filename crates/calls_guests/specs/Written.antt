@@ -73,6 +73,7 @@ bytes-append [] ys h k i = k i
 bytes-append (x ∷ xs) ys h k zero = h 0
 bytes-append (x ∷ xs) ys h k (suc i) = bytes-append xs ys (λ j. h (suc j)) k i
 
+-- every byte of an event is below 256
 abbrev pub Written : Event → Type 0
 Written e = AreBytes (eventBytes e)
 
@@ -82,11 +83,11 @@ blocks-bytes [] h i = omega arith
 blocks-bytes (e ∷ l) h i = bytes-append (eventBytes e) (blocks eventBytes l) (h .0) (blocks-bytes l (h .1)) i
 
 -- an arrival's label that still fits after the shift
-abbrev pub Fits : ℕ → Event → Type 0
-Fits d (arrive g) = g .label + d < 65536
-Fits d (turn k t) = Unit {0}
+abbrev pub LabelFits : ℕ → Event → Type 0
+LabelFits d (arrive g) = g .label + d < 65536
+LabelFits d (turn k t) = Unit {0}
 
-pub written-shift : (d : ℕ) (e : Event) → Fits d e → Written e → Written (shiftEvent d e)
+pub written-shift : (d : ℕ) (e : Event) → LabelFits d e → Written e → Written (shiftEvent d e)
 unfolding eventBytes signalBytes
 written-shift d (arrive g) f h zero = h 0
 written-shift d (arrive g) f h (suc zero) = h 1

@@ -6,8 +6,10 @@ use mathlib.Core.List.{List, [], _∷_, map, map-append, flatten}
 use Prim.Native.Nat.{ℕ}
 use borrow.Author.Tests.{eqb-true}
 use Rattle.rules.specs.Check.{Checked}
-use Rattle.rules.specs.Machine.{Machine}
-use Rattle.rules.specs.Encoding.{encode}
+use Rattle.rules.specs.Sizes.{wordTotal}
+use Rattle.rules.specs.Bytes.{num16}
+use Rattle.rules.specs.Machine.{Machine, fresh}
+use Rattle.rules.specs.Encoding.{encode, wordsFrom}
 use Rattle.rules.specs.Events.{Event, eventsIn, eventsFrom}
 use Rattle.rules.specs.Steps.{Rules, rulesBy, final}
 use Rattle.rules.specs.Order.{log, byteEntries}
@@ -17,11 +19,12 @@ use Rattle.one_by_one.specs.Calls.{logs, finals}
 use Rattle.one_by_one.specs.ByteOrder.{bytesOf}
 use Rattle.encoding.specs.Numbers.{AreBytes}
 use Rattle.encoding.specs.Sized.{Sized}
+use Rattle.encoding.specs.Runs.{length-chunks}
 use Rattle.encoding.specs.Machines.{machine-back}
 use Rattle.encoding.specs.Entries.{run-entries}
 use Rattle.soundness.specs.Sound.{Sound}
-use Rattle.soundness.specs.StaysWellFormed.{Accepted, sound-final}
-use Rattle.soundness.specs.StaysSized.{sized-final}
+use Rattle.soundness.specs.StaysWellFormed.{Accepted, sound-final, sound-fresh}
+use Rattle.soundness.specs.StaysSized.{sized-final, sized-fresh}
 use Rattle.soundness.specs.States.{events-accepted}
 use Rattle.calls_one_by_one.specs.CallList.{Run, returned, stateLeft, answersLeft, accepted, lastLeft, GoesOn, Follow}
 use Rattle.calls_one_by_one.specs.CallList.{EventsAreBytes, entriesOf, eventList}
@@ -40,6 +43,14 @@ pub record Good (image table : List ℕ) (s : Machine) : Type 0 where
 module _ (image table : List ℕ) (checked : Checked image table) where
   abbrev R : Rules
   R = rulesBy image table
+
+  -- a fresh machine is one
+  pub good-fresh : (words : List ℕ) → Good image table (fresh (wordsFrom words))
+  unfolding wordsFrom
+  good-fresh words = record {
+    sound = sound-fresh image table checked (wordsFrom words);
+    sized = sized-fresh (wordsFrom words) (length-chunks num16 2 wordTotal words);
+  }
 
   pub good-final : (s : Machine) (l : List Event) → Good image table s → Each (Accepted image) l → Good image table (final R s l)
   good-final s l g a = record {

@@ -2,10 +2,8 @@
 use mathlib.Core.Path.{_≡_, refl, sym, ap, ap₂, _∙_, subst}
 use mathlib.Core.Bool.{Bool, true, false, cond}
 use mathlib.Core.List.{List, [], _∷_, map, flatten}
-use Prim.Native.Nat.{ℕ, _*_}
+use Prim.Native.Nat.{ℕ}
 use borrow.Author.Tests.{eqb-true}
-use Rattle.rules.specs.Sizes.{blockCount, wordCount}
-use Rattle.rules.specs.Bytes.{num16}
 use Rattle.rules.specs.Check.{Checked, firstOf}
 use Rattle.rules.specs.Machine.{Machine, fresh}
 use Rattle.rules.specs.Encoding.{encode, wordsFrom, machineFrom}
@@ -23,16 +21,15 @@ use Rattle.one_by_one.specs.Calls as values
 use Rattle.laws.specs.EventLists.{log-events}
 use Rattle.one_by_one.specs.Calls.{logs, logs-flatten, finals-flatten}
 use Rattle.one_by_one.specs.ByteOrder.{bytesOf}
-use Rattle.encoding.specs.Runs.{length-chunks}
 use Rattle.encoding.specs.Events.{SizedEvent}
 use Rattle.encoding.specs.Machines.{machine-back}
 use Rattle.soundness.specs.Members.{each-map}
-use Rattle.soundness.specs.StaysWellFormed.{Accepted, accepted-valid, sound-fresh}
-use Rattle.soundness.specs.StaysSized.{sized-final, sized-fresh}
+use Rattle.soundness.specs.StaysWellFormed.{Accepted, accepted-valid}
+use Rattle.soundness.specs.StaysSized.{sized-final}
 use Rattle.soundness.specs.States.{Ready, fresh-leaves-ready, run-leaves-ready}
 use Rattle.calls_one_by_one.specs.CallList.{Run, returned, stateLeft, accepted, next, lastLeft, Follow, Calls, eventList, eventsOf}
 use Rattle.calls_one_by_one.specs.CallList.{answersOf, OneByOneCalls, NoChange}
-use Rattle.calls_one_by_one.specs.Joined.{eventLists, Good, Joined, joined}
+use Rattle.calls_one_by_one.specs.Joined.{eventLists, Good, good-fresh, Joined, joined}
 use Rattle.calls_one_by_one.specs.Ordered.{events-ordered, answers-ordered}
 
 -- what the reading of values asks of events that the image accepts: their threads are 0 to 7, and their bytes have room for them
@@ -77,11 +74,7 @@ module _ (image table words state : List ℕ) (runs : List Run) (calls : Calls i
   start-bytes = rw (calls .fresh) refl
 
   pub first-good : Good image table first
-  unfolding wordsFrom
-  first-good = record {
-    sound = sound-fresh image table checked (wordsFrom words);
-    sized = sized-fresh (wordsFrom words) (length-chunks num16 2 (blockCount * wordCount) words);
-  }
+  first-good = good-fresh image table checked words
 
   start-machine : machineFrom start ≡ first
   start-machine = ap machineFrom start-bytes ∙ machine-back first (first-good .sized)

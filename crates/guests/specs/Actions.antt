@@ -1,5 +1,5 @@
 -- A guest's statements on a linked image do what they do on its own, with their labels shifted: a statement speaks of no label that it
--- does not use, and each that it uses leads to the same record.
+-- does not use, and each that it uses leads to the record that it led to, with its labels shifted.
 use mathlib.Core.Path.{_≡_, refl, ap}
 use mathlib.Core.Logic.{_⊎_, inl, inr}
 use mathlib.Core.Bool.{Bool, true, false}

@@ -12,7 +12,7 @@ use Rattle.rules.specs.Image.{labels}
 use Rattle.rules.specs.Check.{Checked}
 use Rattle.rules.specs.Machine.{Machine, threadAt, fresh, window}
 use Rattle.rules.specs.Events.{Event}
-use Rattle.rules.specs.Steps.{blockAt, rulesBy, answers, final}
+use Rattle.rules.specs.Steps.{blockAt, rulesBy, final}
 use Rattle.rules.specs.Link.{names, shareBlock, shiftEvent}
 use Rattle.rules.specs.Calls.{linkReturn, linkOut}
 use Rattle.fields.specs.Each.{Each}
@@ -22,10 +22,9 @@ use Rattle.laws.specs.Passed.{Passed, passed}
 use Rattle.soundness.specs.Destinations.{block-below}
 use Rattle.soundness.specs.StaysWellFormed.{Accepted, sound-fresh}
 use Rattle.guests.specs.Parts.{Part, Fits, first-part, second-part}
-use Rattle.guests.specs.Passes.{fits, Linkable, linkable}
+use Rattle.guests.specs.Passes.{fits, LinkAccepted, link-accepted}
 use Rattle.guests.specs.Relabelled.{thread-shift, locks-shift}
 use Rattle.guests.specs.Reading.{GuestReading, guest-reading-fresh, all-accepted}
-use Rattle.guests.specs.Unshifted.{machine-same, events-same}
 use Rattle.guests.specs.OtherBlocks.{Free, words-of-unnamed-blocks-stay, locks-of-unnamed-blocks-stay-free, fresh-free}
 
 -- the guest G stands in L, d labels in, beside the guest H; both over one block table
@@ -54,8 +53,8 @@ module _ (first second table out : List ℕ) (accepted : linkReturn first second
   abbrev L : List ℕ
   L = linkOut first second table out
 
-  given : Linkable first second table out
-  given = linkable first second table out accepted
+  given : LinkAccepted first second table out
+  given = link-accepted first second table out accepted
 
   together : Fits first second
   together = fits first second table (given .checkedFirst) (given .checkedSecond) (given .few)
@@ -87,11 +86,6 @@ module _ (first second table out : List ℕ) (accepted : linkReturn first second
 
 -- ---- what holds of a guest, from a fresh machine and with events that its own image accepts
 
--- the other guest's block b, with these initial words
-pub record Untouched (table : List ℕ) (b : ℕ) (initial : List ℕ) (s : Machine) : Type 0 where
-  pub words : window b (s .words) ≡ window b initial
-  pub free : Free table b s
-
 module _ (d : ℕ) (G H L table : List ℕ) (guest : Guest d G H L table) (initial : List ℕ) (l : List Event)
     (accepted : Each (Accepted G) l) where
   -- THE READING: answers, words and state are those that the guest has by itself
@@ -102,34 +96,19 @@ module _ (d : ℕ) (G H L table : List ℕ) (guest : Guest d G H L table) (initi
   pub accepted-there : Each (Accepted L) (map (shiftEvent d) l)
   accepted-there = all-accepted d G L table (guest .part) (guest .checked) l accepted
 
-  -- NOTHING OF THE OTHER GUEST IS TOUCHED: the words of its blocks are the initial ones, and no thread holds a lock of its blocks
-  pub other-guest-untouched : (b : ℕ) → names H b ≡ true
-      → Untouched table b initial (final (rulesBy L table) (fresh initial) (map (shiftEvent d) l))
-  other-guest-untouched b h =
-      let n : names G b ≡ false = guest .apart b h in
+  -- NOTHING OF THE OTHER GUEST IS TOUCHED: the words of its blocks are the initial ones
+  pub other-words-stay : (b : ℕ) → names H b ≡ true
+      → window b (final (rulesBy L table) (fresh initial) (map (shiftEvent d) l) .words) ≡ window b initial
+  other-words-stay b h =
+      ap (window b) (reads-as-alone .words)
+      ∙ words-of-unnamed-blocks-stay G table b (guest .apart b h) (guest .checked) (fresh initial) l
+      (sound-fresh G table (guest .checked) initial) accepted
+      ∙ unfold fresh in refl
+
+  -- and no thread holds their locks
+  pub other-locks-free : (b : ℕ) → names H b ≡ true → Free table b (final (rulesBy L table) (fresh initial) (map (shiftEvent d) l))
+  other-locks-free b h t =
       let z : Machine = final (rulesBy G table) (fresh initial) l in
-      let k = sound-fresh G table (guest .checked) initial in
-      record {
-        words =
-            ap (window b) (reads-as-alone .words)
-            ∙ words-of-unnamed-blocks-stay G table b n (guest .checked) (fresh initial) l k accepted ∙ unfold fresh in refl;
-        free = λ t.
-            rw (reads-as-alone .state, thread-shift d (z .threads) t, locks-shift d (threadAt z t))
-            (locks-of-unnamed-blocks-stay-free G table b n (guest .checked) (fresh initial) l k accepted (fresh-free table b initial) t);
-      }
-
--- ---- the first guest, whose labels are shifted by nothing
-
-pub record ReadsAlike (G L table : List ℕ) (s : Machine) (l : List Event) : Type 0 where
-  pub answers : answers (rulesBy L table) s l ≡ answers (rulesBy G table) s l
-  pub state : final (rulesBy L table) s l ≡ final (rulesBy G table) s l
-
--- THE FIRST GUEST'S READING, with every label as it is
-pub first-reads-alike : (first second table out : List ℕ) → linkReturn first second table out ≡ 0 → (initial : List ℕ) (l : List Event)
-    → Each (Accepted first) l → ReadsAlike first (linkOut first second table out) table (fresh initial) l
-first-reads-alike first second table out h initial l accepted =
-    let k = reads-as-alone 0 first second _ table (first-guest first second table out h) initial l accepted in
-    record {
-      answers = rw (events-same l) at (k .answers);
-      state = (rw (events-same l) at (k .state)) ∙ machine-same (final (rulesBy first table) (fresh initial) l);
-    }
+      rw (reads-as-alone .state, thread-shift d (z .threads) t, locks-shift d (threadAt z t))
+      (locks-of-unnamed-blocks-stay-free G table b (guest .apart b h) (guest .checked) (fresh initial) l
+      (sound-fresh G table (guest .checked) initial) accepted (fresh-free table b initial) t)

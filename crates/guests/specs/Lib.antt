@@ -1,6 +1,6 @@
--- A guest on a linked image, proved of the rules: theorems only. The main theorems: `linked-passes` of Passes (the link's result passes
--- the image check); `react-shift` of Relabelled (any rules); `guest-reading` of Reading (any image of which the guest's is a part);
--- `first-guest`, `second-guest`, `reads-as-alone`, `other-guest-untouched` and `first-reads-alike` of Guests.
+-- A guest on a linked image, of the rules: `linked-passes` of Passes (the link's result passes the image check); `react-shift` of
+-- Relabelled (any rules); `guest-reading` of Reading (any image of which the guest's is a part); `first-guest`, `second-guest`,
+-- `reads-as-alone`, `other-words-stay` and `other-locks-free` of Guests.
 
 -- the linked image: its records, its parts, its check
 pub mod Shifted

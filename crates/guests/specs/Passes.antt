@@ -1,5 +1,5 @@
 -- The linked image passes the image check: a record that breaks no rule in its guest's image breaks none where it stands in the linked
--- image, for its used labels lead to the same records there.
+-- image, for its used labels lead there to the records that they led to, with their labels shifted.
 use mathlib.Core.Path.{_≡_, refl, sym, _∙_}
 use mathlib.Core.Logic.{_⊎_, inl, inr}
 use mathlib.Core.Bool.{true, false}
@@ -8,20 +8,19 @@ use Prim.Native.Nat.{ℕ, _+_, _≤_, _<_}
 use native.Mathlib.Nat.{add-zero}
 use native.Mathlib.Omega.{arith}
 use lib.Dec.{ltb}
-use lib.ListN.{length}
-use borrow.Author.Tests.{leb-true, eqb-true, lt-ltb, not-true}
+use borrow.Author.Tests.{leb-true, lt-ltb, not-true}
 use Rattle.rules.specs.Sizes.{recordCount}
-use Rattle.rules.specs.Codes.{badRecordNumber, sharedBlockNumber, tooManyRecordsNumber, badOutputLengthNumber}
+use Rattle.rules.specs.Codes.{badRecordNumber, sharedBlockNumber, tooManyRecordsNumber}
 use Rattle.rules.specs.Image.{labels, recordAt, blockField, labelA, labelB}
 use Rattle.rules.specs.Statements.{statementOf, roleA, roleB}
 use Rattle.rules.specs.Check.{labelOk, ruleOk, recordOk, imageLengthFault, recordFault, Checked}
-use Rattle.rules.specs.Calls.{sharedBlockFault, tooManyRecordsFault, outputLengthFault, checkReturn, linkReturn, linkOut}
+use Rattle.rules.specs.Calls.{sharedBlockFault, tooManyRecordsFault, checkReturn, linkReturn, linkOut}
 use Rattle.rules.specs.Link.{shiftLabel, linked, shareBlock}
 use Rattle.rules.specs.declared.statement.Role.{Role}
 use Rattle.rules.specs.declared.statement.Role.the-variants.{Unused, Inner, Direct, Local, Buffered}
 use Rattle.fields.specs.Runs.{no-fault}
 use Rattle.laws.specs.Faults.{first-of-zero, refusal-zero}
-use Rattle.laws.specs.Passed.{Passed, passed, faultless, checked-by, both-checked, Parts, rule-parts, label-below}
+use Rattle.laws.specs.Passed.{Passed, passed, faultless, checked-by, both-checked, rule-parts, label-below}
 use Rattle.guests.specs.Shifted.{Shifted}
 use Rattle.guests.specs.Parts.{Part, Fits, labels-linked, first-part, second-part, either}
 
@@ -54,7 +53,7 @@ module _ (d : ℕ) (G L : List ℕ) (part : Part d G L) where
   record-passes l h ok =
       let r = recordAt G l in
       let k : Shifted d r (recordAt L (l + d)) = part .at l h in
-      let p : Parts G r = rule-parts G r ok in
+      let p = rule-parts G r ok in
       rw (
         k .head,
         p .head,
@@ -114,27 +113,24 @@ module _ (first second table : List ℕ) (checked-first : Checked first table) (
 -- ---- the call
 
 -- what is known of two images, a block table and an output whose link is not refused
-pub record Linkable (first second table out : List ℕ) : Type 0 where
+pub record LinkAccepted (first second table out : List ℕ) : Type 0 where
   pub checkedFirst : Checked first table
   pub checkedSecond : Checked second table
   pub apart : shareBlock first second ≡ false
   pub few : labels first + labels second ≤ recordCount
-  pub size : length out ≡ length first + length second
   pub result : linkOut first second table out ≡ linked first second
 
-pub linkable : (first second table out : List ℕ) → linkReturn first second table out ≡ 0 → Linkable first second table out
-unfolding linkReturn linkOut sharedBlockFault tooManyRecordsFault outputLengthFault
-linkable first second table out h =
-    let six = both-checked first second table _ h in
-    let seven = first-of-zero _ _ (six .2) in
-    let eight = first-of-zero _ _ (seven .1) in
-    let nine = first-of-zero _ _ (eight .1) in
+pub link-accepted : (first second table out : List ℕ) → linkReturn first second table out ≡ 0 → LinkAccepted first second table out
+unfolding linkReturn linkOut sharedBlockFault tooManyRecordsFault
+link-accepted first second table out h =
+    let four = both-checked first second table _ h in
+    let thirteen = first-of-zero _ _ (four .2) in
+    let fourteen = first-of-zero _ _ (thirteen .1) in
     record {
-      checkedFirst = six .0;
-      checkedSecond = six .1;
-      apart = not-true (shareBlock first second) (refusal-zero _ sharedBlockNumber 0 (omega arith) (seven .0));
-      few = leb-true _ recordCount (refusal-zero _ tooManyRecordsNumber 0 (omega arith) (eight .0));
-      size = eqb-true _ _ (refusal-zero _ badOutputLengthNumber 0 (omega arith) (nine .0));
+      checkedFirst = four .0;
+      checkedSecond = four .1;
+      apart = not-true (shareBlock first second) (refusal-zero _ sharedBlockNumber 0 (omega arith) (thirteen .0));
+      few = leb-true _ recordCount (refusal-zero _ tooManyRecordsNumber 0 (omega arith) (fourteen .0));
       result = rw h refl;
     }
 
@@ -143,5 +139,5 @@ pub linked-passes : (first second table out : List ℕ) → linkReturn first sec
     → checkReturn (linkOut first second table out) table ≡ 0
 unfolding checkReturn
 linked-passes first second table out h =
-    let k : Linkable first second table out = linkable first second table out h in
+    let k : LinkAccepted first second table out = link-accepted first second table out h in
     rw (k .result) (linked-checked first second table (k .checkedFirst) (k .checkedSecond) (k .few))

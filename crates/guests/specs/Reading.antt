@@ -8,7 +8,6 @@ use Rattle.rules.specs.Check.{Checked}
 use Rattle.rules.specs.Machine.{Tree, ThreadState, idle, running, Machine, threadAt, fresh}
 use Rattle.rules.specs.Events.{Event, arrive, turn}
 use Rattle.rules.specs.Steps.{Reply, blockAt, actBy, rulesBy, react, answers, final}
-use Rattle.rules.specs.Order.{Entry, log}
 use Rattle.rules.specs.WellFormed.{pendingOk}
 use Rattle.rules.specs.Link.{shiftMachine, shiftEvent}
 use Rattle.rules.specs.declared.answer.Answer.{Answer}
@@ -22,16 +21,11 @@ use Rattle.guests.specs.Parts.{Part}
 use Rattle.guests.specs.Relabelled.{shiftReply, ThreadBelow, SignalBelow, TreeBelow, EventBelow, Below, react-shift}
 use Rattle.guests.specs.Actions.{relabels}
 
--- an event and its answer, the event's labels shifted
-abbrev pub shiftEntry : ℕ → Entry → Entry
-shiftEntry d n = record { event = shiftEvent d (n .event); answer = n .answer }
-
 -- the events l of the guest G from the machine s on its own image, and shifted by d from the machine s′ on the image L
 pub record GuestReading (d : ℕ) (G L table : List ℕ) (s s′ : Machine) (l : List Event) : Type 0 where
   pub answers : answers (rulesBy L table) s′ (map (shiftEvent d) l) ≡ answers (rulesBy G table) s l
   pub words : final (rulesBy L table) s′ (map (shiftEvent d) l) .words ≡ final (rulesBy G table) s l .words
   pub state : final (rulesBy L table) s′ (map (shiftEvent d) l) ≡ shiftMachine d (final (rulesBy G table) s l)
-  pub log : log (rulesBy L table) s′ (map (shiftEvent d) l) ≡ map (shiftEntry d) (log (rulesBy G table) s l)
 
 -- ---- every label of a well formed machine and of an accepted event is below n
 
@@ -80,15 +74,6 @@ module _ (d : ℕ) (G L table : List ℕ) (part : Part d G L) (checked : Checked
       ap (λ (r : Reply). final (rulesBy L table) (r .state) (map (shiftEvent d) l)) (react-guest s e k (h .0))
       ∙ (final-guest (react (rulesBy G table) s e .state) l (sound-react G table checked s e k (h .0)) (h .1))
 
-  log-guest : (s : Machine) (l : List Event) → Sound G table s → Each (Accepted G) l
-      → log (rulesBy L table) (shiftMachine d s) (map (shiftEvent d) l) ≡ map (shiftEntry d) (log (rulesBy G table) s l)
-  unfolding log
-  log-guest s [] k h = refl
-  log-guest s (e ∷ l) k h =
-      rw (react-guest s e k (h .0))
-      (ap (λ (z : List Entry). record { event = shiftEvent d e; answer = react (rulesBy G table) s e .answer } ∷ z)
-      (log-guest (react (rulesBy G table) s e .state) l (sound-react G table checked s e k (h .0)) (h .1)))
-
   -- A GUEST'S READING, from any well formed machine of its own
   pub guest-reading : (s : Machine) (l : List Event) → Sound G table s → Each (Accepted G) l
       → GuestReading d G L table s (shiftMachine d s) l
@@ -96,7 +81,6 @@ module _ (d : ℕ) (G L table : List ℕ) (part : Part d G L) (checked : Checked
     answers = answers-guest s l k h;
     words = ap (λ (z : Machine). z .words) (final-guest s l k h);
     state = final-guest s l k h;
-    log = log-guest s l k h;
   }
 
   -- a fresh machine has no labels

@@ -1,5 +1,5 @@
--- Rules that do to every label l below n, d higher, what other rules do to l: an event with its labels shifted does to a machine with its
--- labels shifted what the event does to the machine.
+-- Two sets of rules, of which the second says of label l + d what the first says of label l, for every l below n. Then an event with its
+-- labels shifted by d does by the second rules, to a machine with its labels shifted, what the event does by the first to the machine.
 use mathlib.Core.Path.{_≡_, refl, sym, ap, _∙_}
 use mathlib.Core.Bool.{Bool, true, false, cond}
 use mathlib.Core.Logic.{ite}

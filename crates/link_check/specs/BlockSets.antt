@@ -50,7 +50,7 @@ pub all-among : (image : List ℕ) (l set : ℕ) → l ≡ labels image → SetO
 unfolding names
 all-among image l set e h b = rw e at (h b)
 
--- what a set of two tests has in common
+-- two sets, each of the numbers that pass a test
 module _ (f g : ℕ → Bool) (x y : ℕ) (hx : SetOf f x) (hy : SetOf g y) (small : (b : ℕ) → blockCount ≤ b → f b ≡ false) where
   none-shared : Disjoint x y → anyFrom (λ b. f b && g b) 0 blockCount ≡ false
   none-shared d = any-none (λ b. f b && g b) 0 blockCount (λ b p q. case b (f b) refl)

@@ -24,9 +24,9 @@ ghost use Rattle.rules.specs.Sizes.{blockCount, recordSize};
 ghost use Rattle.rules.specs.Image.{labels};
 ghost use Rattle.rules.specs.Check.{firstOf, imagesFaults};
 ghost use Rattle.rules.specs.Link.{names};
-ghost use Rattle.rules.specs.Calls.{sharedBlockFault, linkReturn};
+ghost use Rattle.rules.specs.Calls.{sharedBlockFault, linkFaults, linkReturn};
 ghost use Rattle.link_check.specs.BlockSets.{BlocksIn, SetOf};
-ghost use Rattle.link_check.specs.Faults.{recordFaults, ownFaults};
+ghost use Rattle.link_check.specs.Faults.{recordFaults};
 
 // A set of blocks with one block more.
 pub fn with_block(set: u16, b: Block) -> u16
@@ -90,7 +90,7 @@ pub fn images_fault(first: &[u8], n: usize, second: &[u8], m: usize, table: &[u8
 pub fn own_fault(first: &[u8], n: usize, second: &[u8], m: usize, out: &[u8]) -> u32
     requires { ⌜ (n ≡ labels (now first)) × BlocksIn (now first) × (m ≡ labels (now second)) × BlocksIn (now second)
         × (length (now first) ≡ recordSize * n) × (length (now second) ≡ recordSize * m) ⌝ }
-    ensures { λ r. ⌜ r ≡ firstOf (ownFaults (now (first .entry)) (now (second .entry)) (now (out .entry))) ⌝ }
+    ensures { λ r. ⌜ r ≡ firstOf (linkFaults (now (first .entry)) (now (second .entry)) (now (out .entry))) ⌝ }
 {
     let shared = shared_block_fault(first, n, second, m);
     let many = refuse(n + m <= Image::RECORDS, TOO_MANY_RECORDS, 0);

@@ -5,10 +5,10 @@ use Prim.Native.Nat.{ℕ, _+_, _*_, _≤_}
 use native.Mathlib.Omega.{arith}
 use lib.ListN.{length, take, drop, length-append}
 use lib.Seq.{length-take-le, sets-eq}
-use Rattle.rules.specs.Sizes.{recordSize, labelAPlace, labelBPlace, operandCountPlace}
+use Rattle.rules.specs.Sizes.{recordSize, labelAPlace, labelBPlace}
 use Rattle.rules.specs.Bytes.{le16}
 use Rattle.rules.specs.Image.{labels}
-use Rattle.rules.specs.Link.{records, linked}
+use Rattle.rules.specs.Link.{withLabels, records, linked}
 use Rattle.fields.specs.Put.{put, length-put, put-more, put-inside, put-whole}
 use Rattle.image.specs.Shifts.{shiftedRun, length-run}
 
@@ -27,17 +27,14 @@ put-within s at x j a h k =
 
 -- a record, and over its labels two others
 module _ (r : List ℕ) (size : length r ≡ recordSize) (a b : ℕ) where
-  abbrev relabelled : List ℕ
-  relabelled = take labelAPlace r ++ (le16 a ++ (le16 b ++ drop operandCountPlace r))
-
-  labels-put : put (put r labelAPlace (le16 a)) labelBPlace (le16 b) ≡ relabelled
+  labels-put : put (put r labelAPlace (le16 a)) labelBPlace (le16 b) ≡ withLabels a b r
   labels-put =
       put-more r labelAPlace (le16 a) labelBPlace (le16 b) refl
       ∙ cut r labelAPlace (le16 a ++ le16 b) (omega arith)
       ∙ simp append-assoc
 
   pub labels-stored : (s : List ℕ) (at : ℕ) → at + recordSize ≤ length s
-      → put (put (put s at r) (at + labelAPlace) (le16 a)) (at + labelBPlace) (le16 b) ≡ put s at relabelled
+      → put (put (put s at r) (at + labelAPlace) (le16 a)) (at + labelBPlace) (le16 b) ≡ put s at (withLabels a b r)
   labels-stored s at h =
       ap (λ z. put z (at + labelBPlace) (le16 b)) (put-within s at r labelAPlace (le16 a) (omega arith) (omega arith))
       ∙ put-within s at (put r labelAPlace (le16 a)) labelBPlace (le16 b) (rw (length-put r labelAPlace (le16 a)) (omega arith))

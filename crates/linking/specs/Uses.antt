@@ -19,12 +19,12 @@ use Rattle.rules.specs.declared.statement.Statement.the-variants.{Skip, Assign}
 use Rattle.laws.specs.Logic.{and-both, never}
 use Rattle.laws.specs.Heads.{head-fields}
 
-abbrev pub aUsers : ℕ
-aUsers =
+abbrev pub usingA : ℕ
+usingA =
     2 ^ skipCode + 2 ^ assignCode + 2 ^ gotoCode + 2 ^ ifCode + 2 ^ sendDirectCode + 2 ^ sendBufferedCode + 2 ^ callCode + 2 ^ transferCode
 
-abbrev pub bUsers : ℕ
-bUsers = 2 ^ ifCode + 2 ^ sendBufferedCode + 2 ^ callCode
+abbrev pub usingB : ℕ
+usingB = 2 ^ ifCode + 2 ^ sendBufferedCode + 2 ^ callCode
 
 abbrev same : Bool → Bool → Bool
 same true b = b
@@ -36,9 +36,9 @@ same-is true false h = absurd (false≢true h)
 same-is false true h = absurd (false≢true h)
 same-is false false h = refl
 
--- the sets have an opcode of this statement by the roles of its labels
+-- an opcode is in each set exactly if this statement of it uses that label
 abbrev agrees : ℕ → Statement → Bool
-agrees op s = same (used (roleA s)) (has op aUsers) && same (used (roleB s)) (has op bUsers) && ltb op 16
+agrees op s = same (used (roleA s)) (has op usingA) && same (used (roleB s)) (has op usingB) && ltb op 16
 
 -- of a statement in a row: the roles do not depend on what is read from the record
 abbrev other-agrees : List ℕ → Other → Bool
@@ -86,34 +86,34 @@ form-found (f ∷ fs) op o k h e =
     case true p false q more = more q
     case false p c q more = more q
 
--- the sets have the opcode of a record that breaks no rule of its head by the roles of its labels
-pub record Users (r : List ℕ) : Type 0 where
-  pub a : has (opcode r) aUsers ≡ used (roleA (statementOf r))
-  pub b : has (opcode r) bUsers ≡ used (roleB (statementOf r))
+-- the opcode of a record that breaks no rule of its head is in each set exactly if its statement uses that label
+pub record Using (r : List ℕ) : Type 0 where
+  pub a : has (opcode r) usingA ≡ used (roleA (statementOf r))
+  pub b : has (opcode r) usingB ≡ used (roleB (statementOf r))
   pub small : opcode r < 16
 
-users-by : (r : List ℕ) (s : Statement) → agrees (opcode r) s ≡ true → statementOf r ≡ s → Users r
-users-by r s h e =
-    let both = same (used (roleA s)) (has (opcode r) aUsers) && same (used (roleB s)) (has (opcode r) bUsers) in
+using-by : (r : List ℕ) (s : Statement) → agrees (opcode r) s ≡ true → statementOf r ≡ s → Using r
+using-by r s h e =
+    let both = same (used (roleA s)) (has (opcode r) usingA) && same (used (roleB s)) (has (opcode r) usingB) in
     let k = and-both both (ltb (opcode r) 16) h in
-    let l = and-both (same (used (roleA s)) (has (opcode r) aUsers)) (same (used (roleB s)) (has (opcode r) bUsers)) (k .0) in
+    let l = and-both (same (used (roleA s)) (has (opcode r) usingA)) (same (used (roleB s)) (has (opcode r) usingB)) (k .0) in
     record {
       a = rw e (sym (same-is (used (roleA s)) _ (l .0)));
       b = rw e (sym (same-is (used (roleB s)) _ (l .1)));
       small = ltb-true (opcode r) 16 (k .1);
     }
 
-other-users : (r : List ℕ) (x : Option Statement) → otherAt r ≡ x → operationAt (opcode r) (operator r) ≡ none
-    → usageOk x (operator r) (operands r) ≡ true → Users r
+other-using : (r : List ℕ) (x : Option Statement) → otherAt r ≡ x → operationAt (opcode r) (operator r) ≡ none
+    → usageOk x (operator r) (operands r) ≡ true → Using r
 unfolding otherAt statementOf
-other-users r none e n h = absurd (false≢true h)
-other-users r (some s) e n h = users-by r s (other-found others r (opcode r) s (others-agree r) e) (rw (n, e) refl)
+other-using r none e n h = absurd (false≢true h)
+other-using r (some s) e n h = using-by r s (other-found others r (opcode r) s (others-agree r) e) (rw (n, e) refl)
 
-users-of : (r : List ℕ) (x : Option Operation) → operationAt (opcode r) (operator r) ≡ x → shapeOk x r ≡ true → Users r
+using-of : (r : List ℕ) (x : Option Operation) → operationAt (opcode r) (operator r) ≡ x → shapeOk x r ≡ true → Using r
 unfolding operationAt otherOk statementOf
-users-of r none e h = other-users r (otherAt r) refl e h
-users-of r (some k) e h =
-    users-by r (Assign (assignmentOf k r)) (form-found forms (opcode r) (operator r) k forms-agree e) (rw e refl)
+using-of r none e h = other-using r (otherAt r) refl e h
+using-of r (some k) e h =
+    using-by r (Assign (assignmentOf k r)) (form-found forms (opcode r) (operator r) k forms-agree e) (rw e refl)
 
-pub users : (r : List ℕ) → headOk r ≡ true → Users r
-users r h = users-of r (operationAt (opcode r) (operator r)) refl (head-fields r h .shaped)
+pub uses-of : (r : List ℕ) → headOk r ≡ true → Using r
+uses-of r h = using-of r (operationAt (opcode r) (operator r)) refl (head-fields r h .shaped)

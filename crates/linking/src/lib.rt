@@ -33,7 +33,7 @@ ghost use Rattle.fields.specs.Put.{put};
 ghost use Rattle.linking.specs.Linkable.{Linkable};
 
 // The opcodes that use label A, and those that use label B, as sets: bit i for opcode i.
-const A_USERS: u16 = (1 << SKIP)
+const USING_A: u16 = (1 << SKIP)
     | (1 << ASSIGN)
     | (1 << GOTO)
     | (1 << IF)
@@ -42,14 +42,14 @@ const A_USERS: u16 = (1 << SKIP)
     | (1 << CALL)
     | (1 << TRANSFER);
 
-const B_USERS: u16 = (1 << IF) | (1 << SEND_BUFFERED) | (1 << CALL);
+const USING_B: u16 = (1 << IF) | (1 << SEND_BUFFERED) | (1 << CALL);
 
-// An opcode is one of these.
-pub fn is_user(users: u16, opcode: u8) -> bool
+// Whether an opcode is in a set.
+pub fn is_in(set: u16, opcode: u8) -> bool
     requires { ⌜ opcode < 16 ⌝ }
-    ensures { λ z. ⌜ z ≡ has opcode users ⌝ }
+    ensures { λ z. ⌜ z ≡ has opcode set ⌝ }
 {
-    (users >> opcode) % 2 == 1
+    (set >> opcode) % 2 == 1
 }
 
 // A label that is used, d higher; one that is not, as it is.
@@ -71,8 +71,8 @@ pub fn shift_record(out: &mut [u8], at: usize, r: &[u8], d: u16)
     ensures { λ _. ⌜ now (out .exit) ≡ put (now (out .entry)) at (shiftRecord d (now (r .entry))) ⌝ }
 {
     let opcode = r[OPCODE_PLACE];
-    let a = shifted(is_user(A_USERS, opcode), label_a(r), d);
-    let b = shifted(is_user(B_USERS, opcode), label_b(r), d);
+    let a = shifted(is_in(USING_A, opcode), label_a(r), d);
+    let b = shifted(is_in(USING_B, opcode), label_b(r), d);
     copy(out, at, r, 0, RECORD_SIZE);
     put16(out, at + LABEL_A_PLACE, label_number(a));
     put16(out, at + LABEL_B_PLACE, label_number(b));

@@ -115,11 +115,11 @@ walkMet image table state t met =
 
 -- ---- the link: 1 to 4, of both images and the table, the first image before the second within a number; then 13 to 15
 
+abbrev pub linkFaults : List ℕ → List ℕ → List ℕ → List ℕ
+linkFaults first second out = sharedBlockFault first second ∷ tooManyRecordsFault first second ∷ outputLengthFault first second out ∷ []
+
 unfoldable pub linkReturn : List ℕ → List ℕ → List ℕ → List ℕ → ℕ
-linkReturn first second table out =
-    firstOf
-    (imagesFaults first second table
-    (sharedBlockFault first second ∷ tooManyRecordsFault first second ∷ outputLengthFault first second out ∷ []))
+linkReturn first second table out = firstOf (imagesFaults first second table (linkFaults first second out))
 
 unfoldable pub linkOut : List ℕ → List ℕ → List ℕ → List ℕ → List ℕ
 linkOut first second table out = cond (accepts (linkReturn first second table out)) (linked first second) out

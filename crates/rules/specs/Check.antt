@@ -121,7 +121,7 @@ unfoldable pub firstOf : List ℕ → ℕ
 firstOf [] = 0
 firstOf (x ∷ xs) = cond (eqb x 0) (firstOf xs) x
 
--- the refusals that every call has, before its own
+-- the refusals that a call on one image has, before its own
 abbrev pub imageFaults : List ℕ → List ℕ → List ℕ → List ℕ
 imageFaults image table more = imageLengthFault image ∷ tableLengthFault table ∷ tableFault table ∷ recordFault image ∷ more
 

@@ -10,7 +10,7 @@ use Rattle.rules.specs.Image.{labels, recordAt, blockField, labelA, labe
 use Rattle.rules.specs.Statements.{statementOf, roleA, roleB}
 use Rattle.rules.specs.Machine.{Signal, Tree, Job, job, ThreadState, idle, running, Machine}
 use Rattle.rules.specs.Encoding.{encode, machineFrom}
-use Rattle.rules.specs.Events.{Event, arrive, turn, eventBytes, eventFrom, eventsFrom}
+use Rattle.rules.specs.Events.{Event, arrive, turn, eventBytes, eventsFrom}
 use Rattle.rules.specs.declared.statement.Role.{Role}
 use Rattle.rules.specs.declared.statement.Role.the-variants.{Unused, Inner, Direct, Local, Buffered}
 
@@ -28,13 +28,13 @@ used Buffered = true
 abbrev pub shiftLabel : ℕ → Role → ℕ → ℕ
 shiftLabel d role v = cond (used role) (v + d) v
 
--- a record with its labels shifted: A and B by the roles that its statement has for them, and every other byte as it is
+-- a record with other labels A and B, and every other byte as it is
+abbrev pub withLabels : ℕ → ℕ → List ℕ → List ℕ
+withLabels a b r = take labelAPlace r ++ (le16 a ++ (le16 b ++ drop operandCountPlace r))
+
+-- a record with its labels shifted, by the roles that its statement has for them
 unfoldable pub shiftRecord : ℕ → List ℕ → List ℕ
-shiftRecord d r =
-    take labelAPlace r
-    ++ (le16 (shiftLabel d (roleA (statementOf r)) (labelA r))
-    ++ (le16 (shiftLabel d (roleB (statementOf r)) (labelB r))
-    ++ drop operandCountPlace r))
+shiftRecord d r = withLabels (shiftLabel d (roleA (statementOf r)) (labelA r)) (shiftLabel d (roleB (statementOf r)) (labelB r)) r
 
 -- the records of an image, in label order
 unfoldable pub records : List ℕ → List (List ℕ)
@@ -79,12 +79,9 @@ abbrev pub shiftEvent : ℕ → Event → Event
 shiftEvent d (arrive g) = arrive (shiftSignal d g)
 shiftEvent d (turn k t) = turn k t
 
--- the same of the bytes of a state, of an event and of a list of events
+-- the same of the bytes of a state, and of a list of events
 unfoldable pub shiftState : ℕ → List ℕ → List ℕ
 shiftState d state = encode (shiftMachine d (machineFrom state))
-
-unfoldable pub shiftEventBytes : ℕ → List ℕ → List ℕ
-shiftEventBytes d b = eventBytes (shiftEvent d (eventFrom b))
 
 unfoldable pub shiftEvents : ℕ → List ℕ → List ℕ
 shiftEvents d events = blocks eventBytes (map (shiftEvent d) (eventsFrom events))

@@ -4,12 +4,11 @@ use Prim.Native.Nat.{ℕ}
 use borrow.Author.Needs.{needs}
 use denote.Ref.{now}
 use Rattle.rules.specs.Check.{firstOf, imagesFaults}
-use Rattle.rules.specs.Calls.{linkReturn}
+use Rattle.rules.specs.Calls.{linkFaults, linkReturn}
 use Rattle.refusals.specs.FirstOf.{before, after}
 use Rattle.laws.specs.Passed.{both-passed}
 use Rattle.image.specs.Records.{labels-whole}
 use Rattle.link_check.specs.BlockSets.{blocks-in}
-use Rattle.link_check.specs.Faults.{ownFaults}
 use Rattle.link_check.proofs.link_fault.Statement.{statement}
 use Rattle.link_check.proofs.link_fault.Tie as tie
 
@@ -19,7 +18,7 @@ returns c =
     let a = c .before .before .before .before .before .before .before .before .args in
     let xs : List ℕ = imagesFaults (now (a .first)) (now (a .second)) (now (a .table)) [] in
     let e : c .before .images-fault .result ≡ firstOf xs = c .before .images-fault .ensures in
-    e ∙ sym (before xs (ownFaults (now (a .first)) (now (a .second)) (now (a .out))) (λ z. c .if1 .taken (e ∙ z)))
+    e ∙ sym (before xs (linkFaults (now (a .first)) (now (a .second)) (now (a .out))) (λ z. c .if1 .taken (e ∙ z)))
 
 own-fault-requires : tie.Need-own-fault-requires
 own-fault-requires c κs =
@@ -40,7 +39,7 @@ unfolding linkReturn
 returns-2 c =
     let a = c .before .before .before .before .before .before .before .before .before .args in
     let xs : List ℕ = imagesFaults (now (a .first)) (now (a .second)) (now (a .table)) [] in
-    c .own-fault .ensures ∙ sym (after xs (ownFaults (now (a .first)) (now (a .second)) (now (a .out)))
+    c .own-fault .ensures ∙ sym (after xs (linkFaults (now (a .first)) (now (a .second)) (now (a .out)))
     (sym (c .before .before .images-fault .ensures) ∙ c .before .if1 .left))
 
 pub link-fault-spec : {M : Type 1} → statement M

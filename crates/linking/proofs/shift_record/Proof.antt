@@ -8,19 +8,19 @@ use Rattle.rules.specs.Bytes.{part}
 use Rattle.rules.specs.Image.{labelA, labelB}
 use Rattle.rules.specs.Statements.{statementOf, roleA, roleB}
 use Rattle.rules.specs.Link.{used, shiftLabel, shiftRecord}
-use Rattle.linking.specs.Uses.{users}
+use Rattle.linking.specs.Uses.{uses-of}
 use Rattle.linking.specs.Stores.{labels-stored}
 use Rattle.linking.proofs.shift_record.Statement.{statement}
 use Rattle.linking.proofs.shift_record.Tie as tie
 
-is-user-requires : tie.Need-is-user-requires
-is-user-requires c κs = users _ (c .before .before .before .pre .4) .small
+is-in-requires : tie.Need-is-in-requires
+is-in-requires c κs = uses-of _ (c .before .before .before .pre .4) .small
 
 shifted-requires : tie.Need-shifted-requires
 shifted-requires c κs = rw (c .label-a .ensures) (c .before .before .before .before .before .pre .2)
 
-is-user-requires-2 : tie.Need-is-user-requires-2
-is-user-requires-2 c κs = users _ (c .before .before .before .before .before .before .pre .4) .small
+is-in-requires-2 : tie.Need-is-in-requires-2
+is-in-requires-2 c κs = uses-of _ (c .before .before .before .before .before .before .pre .4) .small
 
 shifted-requires-2 : tie.Need-shifted-requires-2
 shifted-requires-2 c κs = rw (c .label-b .ensures) (c .before .before .before .before .before .before .before .before .pre .3)
@@ -35,9 +35,9 @@ new-labels c =
     let first = c .before .before .before in
     let s = first .before .before .before .before .before .before in
     let r = s .args .r .now in
-    let k = users r (s .pre .4) in
-    let a : first .before .before .is-user .result ≡ used (roleA (statementOf r)) = first .before .before .is-user .ensures ∙ k .a in
-    let b : c .before .before .is-user2 .result ≡ used (roleB (statementOf r)) = c .before .before .is-user2 .ensures ∙ k .b in
+    let k = uses-of r (s .pre .4) in
+    let a : first .before .before .is-in .result ≡ used (roleA (statementOf r)) = first .before .before .is-in .ensures ∙ k .a in
+    let b : c .before .before .is-in2 .result ≡ used (roleB (statementOf r)) = c .before .before .is-in2 .ensures ∙ k .b in
     (rw (first .shifted .ensures, first .before .label-a .ensures, a), rw (c .shifted2 .ensures, c .before .label-b .ensures, b))
 
 returns : tie.Need-returns
@@ -67,10 +67,10 @@ shift-record-spec =
     tie.close
     (tie.spec
     (λ c. search needs)
-    is-user-requires
+    is-in-requires
     (λ c κs. search needs)
     shifted-requires
-    is-user-requires-2
+    is-in-requires-2
     (λ c κs. search needs)
     shifted-requires-2
     (λ c κs. search needs)

@@ -1,48 +1,35 @@
--- Every list of a guest's calls goes along on the linked image: its counterparts are a list of calls there, each accepted, of the guest's
--- events with their labels shifted, and they read as the guest's calls do by themselves.
+-- Every list of a guest's calls has its counterpart on the linked image: a list of calls there, each accepted, of the guest's events with
+-- their labels shifted, `has-counterparts`; it reads as the guest's calls do by themselves, `counterparts-read-alike`.
 use mathlib.Core.Path.{_≡_, refl, sym, ap, _∙_, subst}
 use mathlib.Core.List.{List, [], _∷_, map, map-map}
 use Prim.Native.Nat.{ℕ}
-use Rattle.rules.specs.Sizes.{wordTotal}
-use Rattle.rules.specs.Bytes.{num16}
 use Rattle.rules.specs.Check.{Checked}
 use Rattle.rules.specs.Machine.{fresh}
 use Rattle.rules.specs.Encoding.{encode, wordsFrom}
 use Rattle.rules.specs.Events.{eventBytes}
 use Rattle.rules.specs.Order.{ByteEntry}
-use Rattle.rules.specs.Link.{shiftMachine, shiftEvent, shiftEventBytes}
+use Rattle.rules.specs.Link.{shiftMachine, shiftEvent, shiftEvents}
 use Rattle.rules.specs.Calls.{stateLengthFault, wordsLengthFault, checkReturn, freshReturn, freshState, linkReturn, linkOut}
 use Rattle.fields.specs.Each.{Each}
 use Rattle.laws.specs.Faults.{checked-rest}
-use Rattle.encoding.specs.Runs.{length-chunks}
-use Rattle.soundness.specs.StaysWellFormed.{sound-fresh}
-use Rattle.soundness.specs.StaysSized.{sized-fresh}
 use Rattle.calls_one_by_one.specs.CallList.{Run, returned, Follow, Calls, eventList}
-use Rattle.calls_one_by_one.specs.Joined.{Good}
+use Rattle.calls_one_by_one.specs.Joined.{good-fresh}
 use Rattle.calls_one_by_one.specs.Whole as whole
 use Rattle.guests.specs.Passes.{linked-passes}
 use Rattle.guests.specs.Guests.{Guest}
 use Rattle.calls_guests.specs.Shifts.{each-sized}
 use Rattle.calls_guests.specs.Guests.{IsGuest, SameEvents, GuestReading}
 use Rattle.calls_guests.specs.Reading.{joint, each, event-bytes, all-shifted, guest-of, guest-reading}
-use Rattle.calls_guests.specs.Counterparts.{counterparts, AllAlong, all-along}
+use Rattle.calls_guests.specs.Counterparts.{counterparts, CounterpartsAccepted, counterparts-accepted}
 
 -- the counterparts of a guest's Runs, after the Fresh of the linked image
 abbrev pub linkedRuns : ℕ → List ℕ → List ℕ → List ℕ → List ℕ → List Run → List Run
 linkedRuns d L table words state runs = counterparts d L (freshState L table words state) runs
 
-pub record GoesAlong (d : ℕ) (L table words state : List ℕ) (runs : List Run) : Type 0 where
+pub record HasCounterparts (d : ℕ) (L table words state : List ℕ) (runs : List Run) : Type 0 where
   pub calls : Calls L table words state (linkedRuns d L table words state runs)
   pub accepted : Each (λ r. returned r ≡ 0) (linkedRuns d L table words state runs)
   pub same : SameEvents d runs (linkedRuns d L table words state runs)
-
--- a fresh machine keeps the rules of every checked image
-good-fresh : (image table words : List ℕ) → Checked image table → Good image table (fresh (wordsFrom words))
-unfolding wordsFrom
-good-fresh image table words checked = record {
-  sound = sound-fresh image table checked (wordsFrom words);
-  sized = sized-fresh (wordsFrom words) (length-chunks num16 2 wordTotal words);
-}
 
 module _ (first second table out : List ℕ) (accepted : linkReturn first second table out ≡ 0) (d : ℕ) (own other : List ℕ)
     (guest : IsGuest first second d own other) (words state : List ℕ) (runs : List Run) (alone : Calls own table words state runs) where
@@ -68,11 +55,11 @@ module _ (first second table out : List ℕ) (accepted : linkReturn first second
   unfolding freshState fresh
   start-there = rw fresh-there refl
 
-  all : AllAlong d own other L table beside checked (fresh (wordsFrom words)) runs
+  all : CounterpartsAccepted d own other L table beside checked (fresh (wordsFrom words)) runs
   unfolding fresh
   all =
-      all-along d own other L table beside checked (fresh (wordsFrom words)) runs
-      (record { alone = good-fresh own table words (beside .checked); shifted = good-fresh L table words checked })
+      counterparts-accepted d own other L table beside checked (fresh (wordsFrom words)) runs
+      (record { alone = good-fresh own table (beside .checked) words; shifted = good-fresh L table checked words })
       (alone .bytes)
       (subst (λ (z : List ℕ). Follow own table z runs) (whole.start-bytes own table words state runs alone) (alone .follow))
 
@@ -91,16 +78,16 @@ module _ (first second table out : List ℕ) (accepted : linkReturn first second
       event-bytes L table words state (linkedRuns d L table words state runs) calls-there
       ∙ ap (map eventBytes) values
       ∙ sym (all-shifted d own-events (each-sized own own-events (each own table words state runs alone)))
-      ∙ sym (ap (map (shiftEventBytes d)) (event-bytes own table words state runs alone))
-      ∙ map-map (shiftEventBytes d) (λ (n : ByteEntry). n .event) (eventList runs)
+      ∙ sym (ap (map (shiftEvents d)) (event-bytes own table words state runs alone))
+      ∙ map-map (shiftEvents d) (λ (n : ByteEntry). n .event) (eventList runs)
 
-  -- EVERY LIST OF A GUEST'S CALLS GOES ALONG ON THE LINKED IMAGE
-  pub goes-along : GoesAlong d L table words state runs
-  goes-along = record { calls = calls-there; accepted = rw start-there (all .accepted); same = same-events }
+  -- EVERY LIST OF A GUEST'S CALLS HAS ITS COUNTERPART ON THE LINKED IMAGE
+  pub has-counterparts : HasCounterparts d L table words state runs
+  has-counterparts = record { calls = calls-there; accepted = rw start-there (all .accepted); same = same-events }
 
-  -- AND READS THERE AS BY ITSELF
-  pub reads-alike : GuestReading d (freshState own table words state) (freshState L table words state) runs
+  -- WHICH READS AS THE GUEST'S CALLS DO BY THEMSELVES
+  pub counterparts-read-alike : GuestReading d (freshState own table words state) (freshState L table words state) runs
       (linkedRuns d L table words state runs)
-  reads-alike =
+  counterparts-read-alike =
       guest-reading first second table out accepted d own other guest words state state runs (linkedRuns d L table words state runs) alone
       calls-there same-events
