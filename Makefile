@@ -25,8 +25,9 @@ SOURCES_demo = $(wildcard host/demo/*.c) $(COMMON)
 SOURCES_plex = $(wildcard host/command/*.c) $(COMMON)
 SOURCES_bench = $(wildcard host/bench/*.c) host/common/build.c
 SOURCES_words = tests/words.c $(COMMON)
-SOURCES_explanations = tests/explanations.c $(wildcard host/command/explain*.c) \
+SOURCES_explanations = tests/explanations.c tests/damage.c $(wildcard host/command/explain*.c) \
     host/bench/bench_image.c $(COMMON)
+SOURCES_plain = tests/plain.c tests/damage.c host/bench/bench_image.c $(wildcard host/bench/plain_*.c)
 SOURCES_lending = tests/lending.c tests/cases.c host/common/build.c
 SOURCES_stack = tests/stack.c tests/cases.c host/common/build.c
 SOURCES_header = tests/header.c
@@ -92,11 +93,11 @@ map:
 
 # what the library asks of a host and of the system; the demo's output is held to a file
 CASES = $(sort $(basename $(wildcard crates/trials/data/[0-9]*.image)))
-HOST_TESTS = header header++ words-safe explanations-safe lending lending-safe pictures-safe
+HOST_TESTS = header header++ words-safe explanations-safe plain-safe lending lending-safe pictures-safe
 host: $(addprefix build/,$(HOST_TESTS) stack demo-safe)
 	sh tests/progress.sh
 	sh tests/library.sh $(LIBRARY)
-	@for program in header header++ words-safe explanations-safe "lending $(CASES)" "lending-safe $(CASES)" \
+	@for program in header header++ words-safe explanations-safe plain-safe "lending $(CASES)" "lending-safe $(CASES)" \
 	    "pictures-safe build/pictures"; do ./build/$$program || exit 1; done
 	@sh tests/stack.sh $(CASES)
 	./build/demo-safe | diff - host/demo/expected.txt
@@ -142,7 +143,7 @@ toolchains:
 	MAKEFLAGS= $(MAKE) --no-print-directory style try sorts second compare
 
 hosts:
-	MAKEFLAGS= $(MAKE) --no-print-directory host command examples papers installed
+	MAKEFLAGS= $(MAKE) --no-print-directory build/bench host command examples papers installed
 
 # ---- installation: the places have GNU's names; DESTDIR goes before each of them
 PREFIX ?= /usr/local

@@ -91,23 +91,34 @@ static void move_state(uint8_t *state, uint32_t by)
     }
 }
 
-static int carry_out(struct run *run, const uint8_t *image, size_t size)
+/* Whether a call was accepted; a line if not. */
+static int is_accepted(const char *call, const char *where, uint32_t result)
 {
-    return plex_fresh(image, size, table, sizeof table, words, sizeof words, run->state, PLEX_STATE_SIZE) == 0 &&
-           plex_run(image, size, table, sizeof table, run->state, PLEX_STATE_SIZE, run->events, sizeof run->events,
-                    run->answers, sizeof run->answers) == 0;
+    if (result != 0)
+        printf("%s, %s: refused with number %u, place %u\n", call, where, PLEX_NUMBER(result), PLEX_PLACE(result));
+    return result == 0;
+}
+
+static int carry_out(struct run *run, const char *where, const uint8_t *image, size_t size)
+{
+    return is_accepted(
+               "fresh", where,
+               plex_fresh(image, size, table, sizeof table, words, sizeof words, run->state, PLEX_STATE_SIZE)) &&
+           is_accepted("run", where,
+                       plex_run(image, size, table, sizeof table, run->state, PLEX_STATE_SIZE, run->events,
+                                sizeof run->events, run->answers, sizeof run->answers));
 }
 
 static void print_events(const struct run *alone, const struct run *both)
 {
     for (uint32_t i = 0; i < EVENTS; i++) {
         const uint8_t *answer = both->answers + PLEX_ANSWER_SIZE * i;
-        struct line event = {0}, moved = {0}, words = {0};
+        struct line event = {0}, moved = {0}, answered = {0};
         add_event(&event, alone->events + PLEX_EVENT_SIZE * i);
         add_event(&moved, both->events + PLEX_EVENT_SIZE * i);
-        add_answer(&words, answer);
+        add_answer(&answered, answer);
         printf("%4u  %-20s  %-20s  %02x %02x  %s\n", i, event.text, moved.text, answer[PLEX_ANSWER_CODE],
-               answer[PLEX_ANSWER_DETAIL], words.text);
+               answer[PLEX_ANSWER_DETAIL], answered.text);
     }
 }
 
@@ -146,7 +157,7 @@ static int try_guest(const char *name, const uint8_t *image, size_t size, void (
     make_events(alone.events);
     make_events(both.events);
     move_events(both.events, by);
-    if (!carry_out(&alone, image, size) || !carry_out(&both, linked, sizeof linked))
+    if (!carry_out(&alone, "alone", image, size) || !carry_out(&both, "linked", linked, sizeof linked))
         return 0;
     printf("%s, alone and linked (labels + %u)\n", name, by);
     print_events(&alone, &both);
@@ -162,11 +173,9 @@ int main(void)
 {
     put_statements(first, first_program, FIRST_RECORDS);
     put_statements(second, second_program, SECOND_RECORDS);
-    uint32_t result = plex_link(first, sizeof first, second, sizeof second, table, sizeof table, linked, sizeof linked);
-    if (result != 0) {
-        printf("refused with number %u, place %u\n", PLEX_NUMBER(result), PLEX_PLACE(result));
+    if (!is_accepted("link", "both guests",
+                     plex_link(first, sizeof first, second, sizeof second, table, sizeof table, linked, sizeof linked)))
         return 1;
-    }
     for (uint32_t label = 0; label < LINKED_RECORDS; label++) {
         struct line line = {0};
         add_record(&line, linked, label);

@@ -228,7 +228,7 @@ uint32_t plex_walk(const uint8_t *image, size_t image_len, const uint8_t *table,
  * first's record count. Otherwise returns a refusal with number 1 to 4 or 13 to 15; of two images
  * at fault by one number, the first counts. Numbers 1 and 4 do not say whose fault it is: the
  * first's exactly if plex_check of the first image and the table returns the same, else the
- * second's; the place is a label of that image. Alters nothing but the output. */
+ * second's; the place of number 4 is a label of that image. Alters nothing but the output. */
 uint32_t plex_link(const uint8_t *first, size_t first_len, const uint8_t *second, size_t second_len,
                    const uint8_t *table, size_t table_len, uint8_t *out, size_t out_len);
 

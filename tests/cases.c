@@ -28,15 +28,21 @@ void load_trial(struct trial *trial, const char *name)
     trial->answers_len = load(name, "answers", trial->answers, sizeof trial->answers);
 }
 
+void put_caller(uint8_t *image, uint32_t block, uint32_t first_label, uint32_t called)
+{
+    uint8_t own = (uint8_t)block;
+    uint16_t to = (uint16_t)called, back = (uint16_t)(first_label + 1);
+    const struct statement caller[CALLER_RECORDS] = {{own, PLEX_EXTERNAL, PLEX_CALL, 0, to, back, 0, {NUMBER(0)}},
+                                                     {own, PLEX_NO_ENTRY, PLEX_EXIT, 0, 0, 0, 0, {NUMBER(0)}},
+                                                     {own, PLEX_DIRECT, PLEX_RETURN, 0, 0, 0, 0, {NUMBER(0)}}};
+    put_statements(image, caller, CALLER_RECORDS);
+}
+
 void make_guest(uint8_t *image, const struct trial *trial, uint32_t first_label)
 {
     uint32_t named = named_blocks(trial->image, (uint32_t)(trial->image_len / PLEX_RECORD_SIZE));
-    uint8_t block = 0;
+    uint32_t block = 0;
     while (named >> block & 1)
         block++;
-    uint16_t after = (uint16_t)(first_label + 1), called = (uint16_t)(first_label + 2);
-    const struct statement guest[GUEST_RECORDS] = {{block, PLEX_EXTERNAL, PLEX_CALL, 0, called, after, 0, {NUMBER(0)}},
-                                                   {block, PLEX_NO_ENTRY, PLEX_EXIT, 0, 0, 0, 0, {NUMBER(0)}},
-                                                   {block, PLEX_DIRECT, PLEX_RETURN, 0, 0, 0, 0, {NUMBER(0)}}};
-    put_statements(image, guest, GUEST_RECORDS);
+    put_caller(image, block, first_label, first_label + CALLED);
 }

@@ -14,9 +14,14 @@ struct trial {
 /* Reads NAME.image, NAME.table and so on, or ends the program with status 2. */
 void load_trial(struct trial *trial, const char *name);
 
-/* A guest to be linked with the case, in the first block that the case leaves free: its records call
- * each other, by labels from the given one on. */
-enum { GUEST_RECORDS = 3, GUEST_SIZE = GUEST_RECORDS * PLEX_RECORD_SIZE };
+/* Three records of a block, with labels from the given one on: CALL of entry external, the EXIT that
+ * it returns to, and a RETURN of entry direct, for a CALL to go to. */
+enum { CALLED = 2, CALLER_RECORDS = 3 };
+void put_caller(uint8_t *image, uint32_t block, uint32_t first_label, uint32_t called);
+
+/* A guest to be linked with the case, in the first block that the case leaves free: its block calls
+ * itself. */
+enum { GUEST_SIZE = CALLER_RECORDS * PLEX_RECORD_SIZE };
 void make_guest(uint8_t *image, const struct trial *trial, uint32_t first_label);
 
 #endif

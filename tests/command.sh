@@ -25,6 +25,17 @@ tried() {
     holds "$name: no '$pattern'" grep -qe "$pattern" said
 }
 
+# ran NAME OUT ANSWERS ARGUMENT..: a quiet run goes through and says nothing; both files are new
+ran() {
+    name=$1 out=$2 answers=$3
+    shift 3
+    rm -f "$out" "$answers"
+    "$plex" run "$@" --quiet --out "$out" --answers "$answers" >said 2>&1
+    got=$?
+    holds "$name: status $got, expected 0" [ "$got" = 0 ]
+    holds "$name: it speaks" [ ! -s said ]
+}
+
 # holds NAME COMMAND..: the command succeeds
 holds() {
     what=$1

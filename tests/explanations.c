@@ -2,6 +2,7 @@
  * where the library refuses, and for no part before that. */
 #include "bench_image.h"
 #include "build.h"
+#include "damage.h"
 #include "explain.h"
 
 #include <stdio.h>
@@ -10,28 +11,7 @@
 enum { RECORDS = 128, TRIALS = 40000 };
 
 static uint8_t image[RECORDS * PLEX_RECORD_SIZE], table[PLEX_TABLE_SIZE], state[PLEX_STATE_SIZE];
-static uint32_t failures, refusals[PLEX_BAD_OUTPUT_LENGTH + 1];
-
-/* A number below the limit, from a fixed sequence. */
-static uint32_t below(uint32_t limit)
-{
-    static uint64_t chance = 88172645463325252u;
-    chance ^= chance << 13;
-    chance ^= chance >> 7;
-    chance ^= chance << 17;
-    return (uint32_t)(chance >> 32) % limit;
-}
-
-/* Sets a byte to a number at or beside a limit, or flips a bit of it. */
-static void damage(uint8_t *bytes, size_t size)
-{
-    static const uint8_t telling[] = {0, 1, 2, 3, 4, 7, 8, 9, 10, 11, 15, 16, 24, 25, 26, 255};
-    uint8_t *byte = bytes + below((uint32_t)size);
-    if (below(2) == 0)
-        *byte = telling[below(sizeof telling)];
-    else
-        *byte ^= (uint8_t)(1u << below(8));
-}
+static uint32_t failures, refusals[PLEX_BAD_OUTPUT_LENGTH + 1], link_refusals[PLEX_BAD_OUTPUT_LENGTH + 1];
 
 /* Of a part: it is explained if it is refused, and if not, not. */
 static void expect(const char *what, const struct line *why, int is_refused)
@@ -48,10 +28,8 @@ static void try_image(void)
     uint32_t edits = below(3);
     memcpy(tried, image, sizeof image);
     memcpy(tried_table, table, sizeof table);
-    for (uint32_t i = 0; i < edits; i++) {
-        size_t width = below(2) ? PLEX_RECORD_SIZE : 16;
-        damage(tried + PLEX_RECORD_SIZE * below(RECORDS), width);
-    }
+    for (uint32_t i = 0; i < edits; i++)
+        damage_record(tried, RECORDS);
     if (below(16) == 0)
         damage(tried_table, sizeof tried_table);
     uint32_t result = plex_check(tried, sizeof tried, tried_table, sizeof tried_table);
@@ -71,6 +49,15 @@ static void try_image(void)
     }
 }
 
+/* What is said of a link with this number has to have these words. */
+static void expect_words(uint32_t number, const struct line *why, uint32_t spoken_of, const char *words)
+{
+    if (number != spoken_of || strstr(why->text, words) != NULL)
+        return;
+    failures++;
+    printf("explanations: number %u without '%s': '%s'\n", number, words, why->text);
+}
+
 /* Two guests of any length; the second one's blocks begin after the first's, or before their end. */
 static void try_link(void)
 {
@@ -80,11 +67,22 @@ static void try_link(void)
     struct line why = {0};
     bench_guest_image(first, first_records, 0);
     bench_guest_image(second, second_records, GUEST_BLOCKS - (below(4) == 0 ? below(GUEST_BLOCKS + 1) : 0));
-    uint32_t number =
-        PLEX_NUMBER(plex_link(first, size, second, second_size, table, sizeof table, linked, size + second_size));
-    explain_link(&why, first, first_records, second, second_records);
-    expect("link", &why, number == PLEX_SHARED_BLOCK || number == PLEX_TOO_MANY_RECORDS);
-    refusals[number]++;
+    if (below(4) == 0)
+        damage_record(first, first_records);
+    if (below(4) == 0)
+        damage_record(second, second_records);
+    uint32_t result = plex_link(first, size, second, second_size, table, sizeof table, linked, size + second_size);
+    uint32_t number = PLEX_NUMBER(result);
+    if (number != PLEX_BAD_RECORD)
+        explain_link(&why, first, first_records, second, second_records);
+    else if (plex_check(first, size, table, sizeof table) == result)
+        explain_record(&why, first, first_records, PLEX_PLACE(result));
+    else
+        explain_record(&why, second, second_records, PLEX_PLACE(result));
+    expect("link", &why, number != 0);
+    expect_words(number, &why, PLEX_SHARED_BLOCK, "both have records in block");
+    expect_words(number, &why, PLEX_TOO_MANY_RECORDS, "records are");
+    link_refusals[number]++;
 }
 
 static uint32_t run(uint8_t *tried, const uint8_t *event, size_t size)
@@ -146,11 +144,12 @@ int main(void)
         if (trial % 64 == 0)
             try_link();
     }
-    uint32_t links = refusals[PLEX_SHARED_BLOCK] + refusals[PLEX_TOO_MANY_RECORDS];
-    printf("explanations: refused images %u, tables %u, links %u, events %u, states %u; %u failures\n",
-           refusals[PLEX_BAD_RECORD], refusals[PLEX_BAD_TABLE_FIELD], links, refusals[PLEX_BAD_EVENT],
-           refusals[PLEX_BAD_STATE], failures);
+    printf("explanations: refused images %u, tables %u, events %u, states %u; links by a record %u, by a block %u, by "
+           "their record count %u; %u failures\n",
+           refusals[PLEX_BAD_RECORD], refusals[PLEX_BAD_TABLE_FIELD], refusals[PLEX_BAD_EVENT],
+           refusals[PLEX_BAD_STATE], link_refusals[PLEX_BAD_RECORD], link_refusals[PLEX_SHARED_BLOCK],
+           link_refusals[PLEX_TOO_MANY_RECORDS], failures);
     return failures != 0 || refusals[PLEX_BAD_RECORD] == 0 || refusals[PLEX_BAD_TABLE_FIELD] == 0 ||
-           refusals[PLEX_SHARED_BLOCK] == 0 || refusals[PLEX_TOO_MANY_RECORDS] == 0 || refusals[PLEX_BAD_EVENT] == 0 ||
-           refusals[PLEX_BAD_STATE] == 0;
+           refusals[PLEX_BAD_EVENT] == 0 || refusals[PLEX_BAD_STATE] == 0 || link_refusals[PLEX_BAD_RECORD] == 0 ||
+           link_refusals[PLEX_SHARED_BLOCK] == 0 || link_refusals[PLEX_TOO_MANY_RECORDS] == 0;
 }

@@ -158,7 +158,32 @@ static uint32_t link_number(const uint8_t *first, size_t first_len, const uint8_
     return PLEX_NUMBER(plex_link(first, first_len, second, second_len, trial.table, sizeof trial.table, out, out_len));
 }
 
-/* The same of links, by each of their numbers. */
+/* The same of links, by the numbers that the check has too. */
+static void try_bad_links(uint8_t *room, uint8_t *nowhere)
+{
+    uint8_t guest[GUEST_SIZE], bad_guest[GUEST_SIZE], bad_table[PLEX_TABLE_SIZE];
+    const uint8_t *image = trial.image;
+    size_t size = trial.image_len, both = size + GUEST_SIZE;
+    make_guest(guest, &trial, 0);
+    memcpy(bad_guest, guest, sizeof guest);
+    bad_guest[PLEX_RECORD_OPCODE] = 0;
+    memcpy(bad_table, trial.table, sizeof bad_table);
+    bad_table[PLEX_ROW_THREAD] = PLEX_THREADS;
+    protect(room, PROT_READ);
+    expect("no first image", link_number(nowhere, 0, guest, GUEST_SIZE, room, GUEST_SIZE) == PLEX_BAD_IMAGE_LENGTH);
+    expect("no second image", link_number(image, size, nowhere, 0, room, size) == PLEX_BAD_IMAGE_LENGTH);
+    expect("no table",
+           PLEX_NUMBER(plex_link(image, size, guest, GUEST_SIZE, nowhere, 0, room, both)) == PLEX_BAD_TABLE_LENGTH);
+    expect("thread 8 in the table", PLEX_NUMBER(plex_link(image, size, guest, GUEST_SIZE, bad_table, sizeof bad_table,
+                                                          room, both)) == PLEX_BAD_TABLE_FIELD);
+    expect("opcode 0 in the first image",
+           link_number(bad_guest, GUEST_SIZE, image, size, room, both) == PLEX_BAD_RECORD);
+    expect("opcode 0 in the second image",
+           link_number(image, size, bad_guest, GUEST_SIZE, room, both) == PLEX_BAD_RECORD);
+    protect(room, PROT_READ | PROT_WRITE);
+}
+
+/* And by their own numbers. */
 static void try_refused_links(uint8_t *room, uint8_t *nowhere)
 {
     static uint8_t full[sizeof trial.image];
@@ -172,10 +197,6 @@ static void try_refused_links(uint8_t *room, uint8_t *nowhere)
         record[PLEX_RECORD_BLOCK] = guest[PLEX_RECORD_BLOCK] ^ 1;
     }
     protect(room, PROT_READ);
-    expect("no first image", link_number(nowhere, 0, guest, GUEST_SIZE, room, GUEST_SIZE) == PLEX_BAD_IMAGE_LENGTH);
-    expect("no second image", link_number(image, size, nowhere, 0, room, size) == PLEX_BAD_IMAGE_LENGTH);
-    expect("no table",
-           PLEX_NUMBER(plex_link(image, size, guest, GUEST_SIZE, nowhere, 0, room, both)) == PLEX_BAD_TABLE_LENGTH);
     expect("a block of both",
            link_number(guest, GUEST_SIZE, same, GUEST_SIZE, room, 2 * GUEST_SIZE) == PLEX_SHARED_BLOCK);
     expect("too many records",
@@ -237,6 +258,8 @@ int main(int count, char **names)
         try_places(rooms);
         try_empty(rooms[4], NULL);
         try_empty(rooms[4], rooms[0] - 1);
+        try_bad_links(rooms[4], NULL);
+        try_bad_links(rooms[4], rooms[0] - 1);
         try_refused_links(rooms[4], NULL);
         try_refused_links(rooms[4], rooms[0] - 1);
     }

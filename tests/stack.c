@@ -85,18 +85,15 @@ static void make_ring(void)
 {
     memset(&trial, 0, sizeof trial);
     for (uint32_t t = 0; t < PLEX_THREADS; t++) {
-        uint16_t after = (uint16_t)(3 * t + 1), called = (uint16_t)(3 * ((t + 1) % PLEX_THREADS) + 2);
-        struct statement block[] = {{(uint8_t)t, PLEX_EXTERNAL, PLEX_CALL, 0, called, after, 0, {NUMBER(0)}},
-                                    {(uint8_t)t, PLEX_NO_ENTRY, PLEX_EXIT, 0, 0, 0, 0, {NUMBER(0)}},
-                                    {(uint8_t)t, PLEX_DIRECT, PLEX_RETURN, 0, 0, 0, 0, {NUMBER(0)}}};
-        put_statements(trial.image + PLEX_RECORD_SIZE * 3 * t, block, 3);
+        uint32_t first = CALLER_RECORDS * t, next = CALLER_RECORDS * ((t + 1) % PLEX_THREADS);
+        put_caller(trial.image + PLEX_RECORD_SIZE * first, t, first, next + CALLED);
         trial.table[PLEX_ROW_SIZE * t + PLEX_ROW_THREAD] = (uint8_t)t;
         trial.table[PLEX_ROW_SIZE * t + PLEX_ROW_KIND] = PLEX_CMX;
-        put_arrival(trial.events + PLEX_EVENT_SIZE * t, 3 * t, NULL, 0);
+        put_arrival(trial.events + PLEX_EVENT_SIZE * t, first, NULL, 0);
         put_step(trial.events + PLEX_EVENT_SIZE * (PLEX_THREADS + t), t);
         put_step(trial.events + PLEX_EVENT_SIZE * (2 * PLEX_THREADS + t), t);
     }
-    trial.image_len = 3 * PLEX_THREADS * PLEX_RECORD_SIZE;
+    trial.image_len = PLEX_THREADS * CALLER_RECORDS * PLEX_RECORD_SIZE;
     trial.events_len = RING_EVENTS * PLEX_EVENT_SIZE;
     trial.answers_len = RING_EVENTS * PLEX_ANSWER_SIZE;
 }

@@ -45,11 +45,13 @@ pub struct Seen {
     pub traps: [u64; 6],
     pub rings: u64,
     /// Threads of the longest walk.
-    pub longest: u32,
+    pub longest_walk: u32,
     /// Pairs of images that were linked.
     pub links: u64,
+    /// Of the refusals those of links.
+    pub link_refusals: [u64; 16],
     /// Records of the largest linked image.
-    pub largest: usize,
+    pub largest_link: usize,
 }
 
 impl Seen {
@@ -64,7 +66,7 @@ impl Seen {
             Call::Run if returned == 0 => lent.answers.chunks(2).for_each(|a| self.note_answer(a)),
             Call::Walk if returned < 65_536 => {
                 self.rings += u64::from(returned >= 256);
-                self.longest = self.longest.max(returned % 256);
+                self.longest_walk = self.longest_walk.max(returned % 256);
             }
             _ => {}
         }
@@ -80,28 +82,31 @@ impl Seen {
 
     fn note_link(&mut self, returned: u32, pair: &Pair) {
         self.note_return(returned);
+        self.link_refusals[(returned >> 16) as usize] += 1;
         if returned == 0 {
             self.links += 1;
-            self.largest = self.largest.max(pair.out.len() / RECORD);
+            self.largest_link = self.largest_link.max(pair.out.len() / RECORD);
         }
     }
 
     /// What should have been seen in a comparison of many cases and was not.
     pub fn missing(&self) -> Vec<String> {
         let sorts = [
-            ("refusal", &self.refusals[1..]),
-            ("code", &self.codes[1..]),
-            ("trap", &self.traps[1..]),
+            ("refusal", 1, &self.refusals[1..]),
+            ("code", 1, &self.codes[1..]),
+            ("trap", 1, &self.traps[1..]),
+            ("refusal of a link", 1, &self.link_refusals[1..=4]),
+            ("refusal of a link", 13, &self.link_refusals[13..]),
         ];
         let mut missing: Vec<String> = Vec::new();
-        for (sort, counts) in sorts {
-            let unseen = (1..).zip(counts).filter(|(_, &count)| count == 0);
+        for (sort, first, counts) in sorts {
+            let unseen = (first..).zip(counts).filter(|(_, &count)| count == 0);
             missing.extend(unseen.map(|(number, _)| format!("{sort} {number}")));
         }
-        if self.rings == 0 || self.longest < 8 {
+        if self.rings == 0 || self.longest_walk < 8 {
             missing.push("a ring and a walk of 8 threads".into());
         }
-        if self.largest < RECORDS {
+        if self.largest_link < RECORDS {
             missing.push(format!("a link of {RECORDS} records"));
         }
         missing

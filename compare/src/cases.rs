@@ -8,7 +8,7 @@ use second::second_order;
 /// Events of one Run.
 const LIMIT: usize = 1_024;
 const THREADS: u32 = 8;
-/// Damaged copies of what a case lends, each given to all four calls.
+/// Damaged copies of what a case lends, each given to every call but the link.
 const DAMAGED: usize = 6;
 /// The fewest events of a long list.
 const LONG: usize = 10_000;

@@ -31,12 +31,12 @@ fn main() -> ExitCode {
         ["replay", seed] => number(seed).and_then(|seed| replay(&mut seen, seed)),
         _ => Err("use: compare | compare soak SECONDS | compare replay SEED".into()),
     };
-    let Seen { calls, events, rings, longest, links, largest, .. } = seen;
+    let Seen { calls, events, rings, longest_walk, links, largest_link, .. } = seen;
     match compared {
         Ok(what) => {
             println!(
                 "compare: {what}, {calls} calls, {events} events, {rings} rings, walks of up to \
-                 {longest} threads, {links} links of up to {largest} records: no difference"
+                 {longest_walk} threads, {links} links of up to {largest_link} records: no difference"
             );
             ExitCode::SUCCESS
         }

@@ -25,7 +25,7 @@ static const struct {
     [CHECK_PLOT] = {"check.svg", "Check of an image", RECORDS_AXIS},
     [FRESH_PLOT] = {"fresh.svg", "Fresh", RECORDS_AXIS},
     [WALK_PLOT] = {"walk.svg", "Walk along a ring of 8 threads", RECORDS_AXIS},
-    [LINK_PLOT] = {"link.svg", "Link of two images of the same length", RECORDS_AXIS},
+    [LINK_PLOT] = {"link.svg", "Link of two images of the same length", PAIR_AXIS},
     [SMALL_RUN_PLOT] = {"run-small.svg", "Run with an image of 16 records", EVENTS_AXIS},
     [FULL_RUN_PLOT] = {"run-full.svg", "Run with an image of 512 records", EVENTS_AXIS},
 };

@@ -12,6 +12,13 @@ enum engine { PLEX, PLAIN, ENGINES };
 static const char *const colours[] = {[PLEX] = "#1f5fa8", [PLAIN] = "#c4571b"};
 static const char *const names[] = {[PLEX] = "proved engine (plex)", [PLAIN] = "plain C engine"};
 
+/* What is counted across, and what is timed. */
+static const struct {
+    const char *across, *timed;
+} axis_words[] = {[RECORDS_AXIS] = {"records in the image", "a call"},
+                  [PAIR_AXIS] = {"records in each image", "a call"},
+                  [EVENTS_AXIS] = {"events in a call", "an event"}};
+
 /* The ends of the axes, as logarithms to base ten. */
 struct axes {
     double number_low, number_high, ns_low, ns_high;
@@ -47,7 +54,6 @@ static double ns_of(const struct bench_point *point, enum engine engine)
 
 static void draw_frame(FILE *file, const char *title, enum bench_axis axis)
 {
-    int by_call = axis == RECORDS_AXIS;
     fprintf(file,
             "<svg xmlns=\"http://www.w3.org/2000/svg\" width=\"%d\" height=\"%d\" "
             "viewBox=\"0 0 %d %d\" font-family=\"sans-serif\" font-size=\"13\">\n",
@@ -61,11 +67,11 @@ static void draw_frame(FILE *file, const char *title, enum bench_axis axis)
     fprintf(file,
             "<text x=\"%d\" y=\"%d\" text-anchor=\"middle\">"
             "%s (logarithmic)</text>\n",
-            (LEFT + RIGHT) / 2, BOTTOM + 45, by_call ? "records in the image" : "events in a call");
+            (LEFT + RIGHT) / 2, BOTTOM + 45, axis_words[axis].across);
     fprintf(file,
             "<text transform=\"translate(16 %d) rotate(-90)\" "
             "text-anchor=\"middle\">time %s, ns (logarithmic)</text>\n",
-            (TOP + BOTTOM) / 2, by_call ? "a call" : "an event");
+            (TOP + BOTTOM) / 2, axis_words[axis].timed);
 }
 
 static void draw_ticks(FILE *file, const struct axes *axes, const struct bench_point *points, size_t count)

@@ -4,8 +4,9 @@
 
 #include <stddef.h>
 
-/* Time a call against the records of the image, or time an event against the events of a call. */
-enum bench_axis { RECORDS_AXIS, EVENTS_AXIS };
+/* Time a call against the records of the image, or of each of two images, or time an event against
+ * the events of a call. */
+enum bench_axis { RECORDS_AXIS, PAIR_AXIS, EVENTS_AXIS };
 
 struct bench_point {
     size_t number; /* of records or events */

@@ -1,17 +1,6 @@
 /* The image check: refusals 1 to 4, with one pass over the image. */
 #include "plain.h"
-#include "plain_program.h"
-
-/* What an opcode allows in a record's first nine bytes. */
-struct opcode_rule {
-    uint8_t zero_bits[8]; /* bits that are zero in bytes 0 to 7 */
-    uint16_t bound_at_a;  /* what is fixed of the record at label A */
-    uint16_t entry_at_a;  /* the entry it must have, in the high byte */
-    uint8_t bound_at_b;   /* what is fixed of the record at label B */
-    uint8_t operators;    /* bit o: operator o is allowed */
-    uint8_t fewest_operands;
-    uint8_t further_operands; /* how many more there may be */
-};
+#include "plain_rules.h"
 
 /* Of the record at a label, the block is the low byte and the entry the high. */
 enum { BLOCK_BOUND = 0x00FF, ENTRY_BOUND = 0xFF00 };
@@ -25,8 +14,7 @@ enum { USED = 0, UNUSED = 0xFF, BELOW_8 = 0xF8, BELOW_16 = 0xF0, BELOW_4 = 0xFC 
     }
 enum { ONLY_ZERO = 1 << 0, ONE_TO_FOUR = 0x1E, ONE_OR_TWO = 0x06 };
 
-/* Rule 0 stands for every unknown opcode: no operator suits it. */
-static const struct opcode_rule opcode_rules[] = {
+const struct opcode_rule plain_opcode_rules[PLEX_EXIT + 1] = {
     [0] = {ZERO_BITS(UNUSED, UNUSED, UNUSED), 0, 0, 0, 0, 0, 0},
     [PLEX_SKIP] = {ZERO_BITS(UNUSED, USED, UNUSED), BLOCK_BOUND, 0, 0, ONLY_ZERO, 0, 0},
     [PLEX_ASSIGN] = {ZERO_BITS(BELOW_8, USED, UNUSED), BLOCK_BOUND, 0, 0, ONE_TO_FOUR, 2, 1},
@@ -117,7 +105,7 @@ static inline bool assign_holds(const uint8_t *record)
 static inline bool record_holds(const uint8_t *image, uint32_t records, const uint8_t *record)
 {
     uint32_t opcode = record[PLEX_RECORD_OPCODE];
-    const struct opcode_rule *rule = &opcode_rules[opcode <= PLEX_EXIT ? opcode : 0];
+    const struct opcode_rule *rule = &plain_opcode_rules[opcode <= PLEX_EXIT ? opcode : 0];
     return header_holds(record, rule) && labels_hold(image, records, record, rule) && operands_hold(record) &&
            (opcode != PLEX_ASSIGN || assign_holds(record));
 }

@@ -1,14 +1,6 @@
 /* Link: both images checked, copied one behind the other, and the second's labels moved along. */
 #include "plain.h"
-#include "plain_program.h"
-
-/* What is added to the labels of a record, as one number, for each record of the first image: label A
- * is the low half and B the high one. No sum reaches 512, so none runs over into the other. */
-enum { NEITHER = 0, ONLY_A = 1, BOTH = 0x10001 };
-static const uint32_t labels_used[] = {
-    [PLEX_SKIP] = ONLY_A,        [PLEX_ASSIGN] = ONLY_A,      [PLEX_GOTO] = ONLY_A, [PLEX_IF] = BOTH,
-    [PLEX_SEND_DIRECT] = ONLY_A, [PLEX_SEND_BUFFERED] = BOTH, [PLEX_CALL] = BOTH,   [PLEX_RETURN] = NEITHER,
-    [PLEX_TRANSFER] = ONLY_A,    [PLEX_EXIT] = NEITHER};
+#include "plain_rules.h"
 
 /* The lower number counts, and of two that are the same the first. */
 static uint32_t first_refusal(uint32_t of_first, uint32_t of_second)
@@ -18,10 +10,15 @@ static uint32_t first_refusal(uint32_t of_first, uint32_t of_second)
     return of_first;
 }
 
+/* Given a checked image. Labels A and B are the halves of one number, and so is what is added to them:
+ * nothing to a label that has to be zero. No sum reaches 512, so A's does not run over into B's. */
 static void move_labels(uint8_t *image, uint32_t records, uint32_t by)
 {
-    for (uint32_t label = 0; label < records; label++, image += PLEX_RECORD_SIZE)
-        put32(image + PLEX_RECORD_A, get32(image + PLEX_RECORD_A) + by * labels_used[image[PLEX_RECORD_OPCODE]]);
+    for (uint32_t label = 0; label < records; label++, image += PLEX_RECORD_SIZE) {
+        const struct opcode_rule *rule = &plain_opcode_rules[image[PLEX_RECORD_OPCODE]];
+        uint32_t used = ~get32(rule->zero_bits + PLEX_RECORD_A);
+        put32(image + PLEX_RECORD_A, get32(image + PLEX_RECORD_A) + ((by << 16 | by) & used));
+    }
 }
 
 uint32_t plain_link(const uint8_t *first, size_t first_len, const uint8_t *second, size_t second_len,

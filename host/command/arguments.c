@@ -110,7 +110,8 @@ bool are_so_many(int count, int wanted)
 
 bool are_different(const char *name, const char *path, const char *other_name, const char *other_path)
 {
-    bool same = path != NULL && other_path != NULL && lead_to_same_file(path, other_path);
+    bool same = path != NULL && other_path != NULL &&
+                (strcmp(other_path, "-") == 0 ? leads_to_standard_input(path) : lead_to_same_file(path, other_path));
     if (same)
         complain("%s and %s name the same file", name, other_name);
     return !same;

@@ -25,8 +25,7 @@ int check_command(int argc, char **argv)
     if (!are_so_many(take_arguments(argc, argv, no_options, paths, 2), 2))
         return MISUSED;
     bool accepted =
-        lend(&lent.image, paths[0], PLEX_RECORD_SIZE * PLEX_RECORDS_MAX) &&
-        lend(&lent.table, paths[1], PLEX_TABLE_SIZE) &&
+        lend(&lent.image, paths[0], LONGEST_IMAGE) && lend(&lent.table, paths[1], PLEX_TABLE_SIZE) &&
         was_accepted(&lent, plex_check(lent.image.bytes, lent.image.size, lent.table.bytes, lent.table.size));
     if (accepted)
         print_accepted(&lent);

@@ -37,7 +37,7 @@ int take_arguments(int argc, char **argv, const struct option *options, const ch
 bool are_so_many(int count, int wanted);
 
 /* Whether two arguments, called by these names and NULL if not there, lead to different files; a
- * sentence if not. */
+ * sentence if not. The other one may be "-", standard input. */
 bool are_different(const char *name, const char *path, const char *other_name, const char *other_path);
 
 /* ---- Standard output. */
@@ -58,6 +58,9 @@ void complain(const char *format, ...) __attribute__((format(printf, 1, 2)));
 /* Whether no error came up; a sentence about the file if one did. */
 bool is_read(const struct file *file, int failed);
 bool is_written(const char *path, int failed);
+
+/* The most bytes that an image has. */
+enum { LONGEST_IMAGE = PLEX_RECORD_SIZE * PLEX_RECORDS_MAX };
 
 /* Whether the file could be read; a sentence if not. */
 bool lend(struct file *file, const char *path, size_t limit);

@@ -2,10 +2,6 @@
 #include "command.h"
 #include "outputs.h"
 
-#include <string.h>
-
-enum { LONGEST_IMAGE = PLEX_RECORD_SIZE * PLEX_RECORDS_MAX };
-
 /* A refusal of the one or the other image does not say which: it is that of the first exactly if the
  * check of the first says the same. */
 static bool was_linked(const struct lent *lent, uint32_t result)
@@ -62,7 +58,7 @@ int link_command(int argc, char **argv)
     const char *paths[3], *out = NULL;
     const struct option options[] = {{.name = "--out", .written = &out}, {0}};
     if (!are_so_many(take_arguments(argc, argv, options, paths, 3), 3) || !is_out_named(out) ||
-        !are_different("--out", out, "TABLE", strcmp(paths[2], "-") == 0 ? NULL : paths[2]))
+        !are_different("--out", out, "TABLE", paths[2]))
         return MISUSED;
     bool done = lend(&lent.image, paths[0], LONGEST_IMAGE) && lend(&lent.second_image, paths[1], LONGEST_IMAGE) &&
                 lend(&lent.table, paths[2], PLEX_TABLE_SIZE) && link_images(&lent, out);

@@ -128,8 +128,7 @@ static void report(const struct lent *lent, uint32_t number, uint32_t place)
 {
     switch (number) {
     case PLEX_BAD_IMAGE_LENGTH:
-        report_length(&lent->image, PLEX_RECORD_SIZE * PLEX_RECORDS_MAX,
-                      "an image is 84 bytes a record, 1 to 512 records");
+        report_length(&lent->image, LONGEST_IMAGE, "an image is 84 bytes a record, 1 to 512 records");
         break;
     case PLEX_BAD_TABLE_LENGTH:
         report_length(&lent->table, PLEX_TABLE_SIZE, "a block table is 32 bytes");

@@ -170,10 +170,9 @@ int run_command(int argc, char **argv)
     if (!are_so_many(count, run.state_path != NULL ? 3 : 4) ||
         !are_different("--out", run.output_paths[STATE_LEFT], "--answers", run.output_paths[ANSWERS]))
         return MISUSED;
-    bool done = lend(&run.lent.image, paths[0], PLEX_RECORD_SIZE * PLEX_RECORDS_MAX) &&
-                lend(&run.lent.table, paths[1], PLEX_TABLE_SIZE) && begin_machine(&run, paths[2]) &&
-                open_events(&run.source, &run.lent.events, paths[count - 1]) && begin_outputs(&run) &&
-                carry_out_file(&run) && complete_outputs(&run) && finish(&run);
+    bool done = lend(&run.lent.image, paths[0], LONGEST_IMAGE) && lend(&run.lent.table, paths[1], PLEX_TABLE_SIZE) &&
+                begin_machine(&run, paths[2]) && open_events(&run.source, &run.lent.events, paths[count - 1]) &&
+                begin_outputs(&run) && carry_out_file(&run) && complete_outputs(&run) && finish(&run);
     clear_progress();
     end_run(&run);
     return done ? DONE : TURNED_BACK;

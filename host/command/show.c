@@ -35,7 +35,7 @@ int show_command(int argc, char **argv)
     struct lent lent = {0};
     if (!are_so_many(take_arguments(argc, argv, no_options, &path, 1), 1))
         return MISUSED;
-    if (!lend(&lent.image, path, PLEX_RECORD_SIZE * PLEX_RECORDS_MAX)) {
+    if (!lend(&lent.image, path, LONGEST_IMAGE)) {
         free_lent(&lent);
         return TURNED_BACK;
     }

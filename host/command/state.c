@@ -137,9 +137,9 @@ int state_command(int argc, char **argv)
     bool has_image = count > 1;
     if (!are_so_many(count, has_image ? 3 : 1))
         return MISUSED;
-    bool done = (!has_image || (lend(&lent.image, paths[0], PLEX_RECORD_SIZE * PLEX_RECORDS_MAX) &&
-                                lend(&lent.table, paths[1], PLEX_TABLE_SIZE))) &&
-                lend(&lent.state, paths[count - 1], PLEX_STATE_SIZE) && show_state(&lent, has_image);
+    bool done =
+        (!has_image || (lend(&lent.image, paths[0], LONGEST_IMAGE) && lend(&lent.table, paths[1], PLEX_TABLE_SIZE))) &&
+        lend(&lent.state, paths[count - 1], PLEX_STATE_SIZE) && show_state(&lent, has_image);
     free_lent(&lent);
     return done ? DONE : TURNED_BACK;
 }

@@ -135,8 +135,8 @@ int waits_command(int argc, char **argv)
     if (!are_so_many(take_arguments(argc, argv, options, paths, 3), 3))
         return MISUSED;
     int status = TURNED_BACK;
-    if (lend(&lent.image, paths[0], PLEX_RECORD_SIZE * PLEX_RECORDS_MAX) &&
-        lend(&lent.table, paths[1], PLEX_TABLE_SIZE) && lend(&lent.state, paths[2], PLEX_STATE_SIZE))
+    if (lend(&lent.image, paths[0], LONGEST_IMAGE) && lend(&lent.table, paths[1], PLEX_TABLE_SIZE) &&
+        lend(&lent.state, paths[2], PLEX_STATE_SIZE))
         status = show_waits(&lent, as_graph, picture);
     free_lent(&lent);
     return status;

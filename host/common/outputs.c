@@ -32,6 +32,12 @@ bool lead_to_same_file(const char *one, const char *other)
     return same;
 }
 
+bool leads_to_standard_input(const char *path)
+{
+    struct stat file, input;
+    return stat(path, &file) == 0 && fstat(STDIN_FILENO, &input) == 0 && are_same_file(&file, &input);
+}
+
 static int open_in_place(struct output *output)
 {
     free(output->target);

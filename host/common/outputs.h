@@ -24,6 +24,9 @@ struct output {
 /* Whether the names lead to the same file, be it there yet or not. */
 bool lead_to_same_file(const char *one, const char *other);
 
+/* Whether the name leads to the file that standard input is. */
+bool leads_to_standard_input(const char *path);
+
 /* A file that is there keeps its mode, and its owner and group where the system allows it; a new
  * one has the rights that the process gives new files. */
 int begin_output(struct output *output, const char *path);

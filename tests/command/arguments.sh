@@ -41,9 +41,7 @@ done
 "$plex" check --quiet "$image" "$table" >said 2>&1
 holds 'a quiet check: status' [ $? = 0 ]
 holds 'a quiet check speaks' [ ! -s said ]
-"$plex" run "$image" "$table" "$words" "$events" --quiet --out after-2 --answers answered-2 >said 2>&1
-holds 'a quiet run: status' [ $? = 0 ]
-holds 'a quiet run speaks' [ ! -s said ]
+ran 'a quiet run' after-2 answered-2 "$image" "$table" "$words" "$events"
 same 'the state of a quiet run' after after-2
 same 'the answers of a quiet run' answered answered-2
 "$plex" check "$table" "$table" --quiet >printed 2>said
@@ -54,11 +52,11 @@ holds 'a quiet refusal does not say why' grep -q 'case.table: 32 bytes; an image
 # ---- standard input
 "$plex" check - "$table" <"$image" >said 2>&1
 holds 'an image from standard input' grep -q '^accepted: standard input, 13 records' said
-"$plex" run "$image" "$table" - "$events" --quiet --out after-2 <"$words"
+ran 'words from standard input' after-2 answered-2 "$image" "$table" - "$events" <"$words"
 same 'words from standard input' after after-2
 "$plex" run "$image" "$table" --state - "$events" --summary <left >said 2>&1
 holds 'a state from standard input' grep -q '^15 events' said
-"$plex" run "$image" "$table" "$words" - --quiet --out after-2 <"$events"
+ran 'events from standard input' after-2 answered-2 "$image" "$table" "$words" - <"$events"
 same 'events from standard input' after after-2
 tried 'standard input twice' 2 'stands for one file alone' check - -
 tried 'standard input twice, once in an option' 2 'stands for one file alone' \

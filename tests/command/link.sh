@@ -11,26 +11,39 @@ tail -c 84 "$east" >exit
 same 'labels that are not used' part exit
 
 # ---- each guest's events on the linked image
-"$plex" run "$image" "$table" "$words" "$events" --quiet --out alone --answers answered
-"$plex" run both "$table" "$words" "$events" --quiet --out linked --answers answered-2
+# altered FILE NEW OFFSET:OCTAL..: a copy with these bytes changed
+altered() {
+    cp "$1" "$2"
+    new=$2
+    shift 2
+    for change; do
+        byte "$new" "${change%:*}" "${change#*:}" part
+        mv part "$new"
+    done
+}
+ran 'the first guest alone' alone answered "$image" "$table" "$words" "$events"
+ran 'the first guest' linked answered-2 both "$table" "$words" "$events"
 same 'answers of the first guest' answered answered-2
 same 'state of the first guest' alone linked
 tried 'the other way round' 0 '^linked: turned, 15 records, 2 of .*; labels of good/case.image are 2 higher$' \
     link "$east" "$image" "$table" --out turned
-byte "$events" 2 2 moved-1
-byte moved-1 57 12 moved-2
-byte moved-2 112 13 moved
-"$plex" run turned "$table" "$words" moved --quiet --out linked --answers answered-2
+altered "$events" moved 2:2 57:12 112:13
+ran 'the second guest' linked answered-2 turned "$table" "$words" moved
 same 'answers of the second guest' answered answered-2
 same 'state of the second guest' alone linked
+# after eight events thread 0 is inside two calls, thread 1 inside a job, and tree 1 has a signal
+head -c 440 moved >moved-eight
+altered waiting waiting-2 512:10 517:3 519:6 587:13 1541:12
+ran 'the second guest at work' linked answered-2 turned "$table" "$words" moved-eight
+same 'state of the second guest at work' waiting-2 linked
 
 # ---- a machine that runs goes on with a guest linked behind its image, and back without it
 tail -c +441 "$events" >rest
-"$plex" run both "$table" rest --state waiting --quiet --out linked
+ran 'a machine that runs' linked answered-2 both "$table" rest --state waiting
 same 'a machine that runs' alone linked
-"$plex" run both "$table" eight --state linked --quiet --out left-2
-"$plex" run "$image" "$table" rest --state left-2 --quiet --out left-3
-"$plex" run "$image" "$table" "$events" --state alone --quiet --out left-2
+ran 'eight more events' left-2 answered-2 both "$table" eight --state linked
+ran 'the rest on the shorter image' left-3 answered-2 "$image" "$table" rest --state left-2
+ran 'all of them on the shorter image' left-2 answered-2 "$image" "$table" "$events" --state alone
 same 'back to the shorter image' left-2 left-3
 
 # ---- refused, with nothing altered
@@ -88,7 +101,15 @@ cp "$table" own
 ln own own-2
 tried 'the table in place' 2 '--out and TABLE name the same file' link "$image" "$east" own --out own-2
 same 'the table in place' own "$table"
+"$plex" link "$image" "$east" - --out own <own-2 >said 2>&1
+holds 'the table in place, from standard input: status' [ $? = 2 ]
+holds 'the table in place, from standard input' grep -q -- '--out and TABLE name the same file' said
+same 'the table in place, from standard input' own "$table"
+"$plex" link "$image" "$east" - --out new-link <"$table" >said 2>&1
+holds 'a table from standard input: status' [ $? = 0 ]
+same 'a table from standard input' new-link both
 "$plex" link - "$east" "$table" --out=own <"$image" >said 2>&1
+holds 'an image from standard input: status' [ $? = 0 ]
 holds 'an image from standard input' grep -q '13 of standard input and 2 of good/east.image' said
 same 'an image from standard input' own both
 tried 'standard input twice' 2 'stands for one file alone' link - - "$table" --out own
@@ -100,6 +121,8 @@ tried 'a link to a full device' 1 '/dev/full: cannot be written: No space left' 
     link "$image" "$east" "$table" --out /dev/full
 tried 'no linked image' 1 'nowhere/image: cannot be written' link "$image" "$east" "$table" --out nowhere/image
 nothing_left 'links that are not written'
+rm own
 "$plex" link "$image" "$east" "$table" --quiet --out own >said 2>&1
+holds 'a quiet link: status' [ $? = 0 ]
 holds 'a quiet link speaks' [ ! -s said ]
 same 'a quiet link' own both

@@ -1,0 +1,17 @@
+/* Damaged bytes, the same in every run. */
+#ifndef DAMAGE_H
+#define DAMAGE_H
+
+#include <stddef.h>
+#include <stdint.h>
+
+/* A number below the limit, from a fixed sequence. */
+uint32_t below(uint32_t limit);
+
+/* Sets a byte to a number at or beside a limit, or flips a bit of it. */
+void damage(uint8_t *bytes, size_t size);
+
+/* Damages one of so many records of an image, half of the time near its begin. */
+void damage_record(uint8_t *image, uint32_t records);
+
+#endif

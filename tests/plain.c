@@ -1,0 +1,99 @@
+/* The plain engine of the benchmark refuses what the library refuses: on good and damaged bytes, check
+ * and link of both return the same, and the links leave the same bytes. Each number has to be met. */
+#include "plain.h"
+#include "bench_image.h"
+#include "damage.h"
+#include "plex.h"
+
+#include <stdio.h>
+#include <string.h>
+
+enum { TRIALS = 6000, LONGEST = PLEX_RECORDS_MAX * PLEX_RECORD_SIZE };
+
+/* Bytes that are lent, with room for one record too many. */
+struct lent {
+    uint8_t bytes[LONGEST + PLEX_RECORD_SIZE];
+    size_t size;
+};
+
+static struct lent first, second, table;
+static uint8_t by_plex[2 * sizeof first.bytes + PLEX_RECORD_SIZE], by_plain[sizeof by_plex];
+static uint32_t failures, checks[PLEX_BAD_OUTPUT_LENGTH + 1], links[PLEX_BAD_OUTPUT_LENGTH + 1];
+
+static void expect(const char *what, uint32_t of_plex, uint32_t of_plain)
+{
+    if (of_plex == of_plain)
+        return;
+    failures++;
+    printf("plain: %s: number %u, place %u, expected %u, %u\n", what, PLEX_NUMBER(of_plain), PLEX_PLACE(of_plain),
+           PLEX_NUMBER(of_plex), PLEX_PLACE(of_plex));
+}
+
+/* A guest of any length, mostly a short one, in 8 blocks. */
+static void make_guest(struct lent *image, uint32_t first_block)
+{
+    uint32_t records = 32 * (1 + below(below(4) == 0 ? 16 : 2));
+    bench_guest_image(image->bytes, records, first_block);
+    image->size = PLEX_RECORD_SIZE * records;
+    if (below(3) == 0)
+        damage_record(image->bytes, records);
+}
+
+static void damage_length(size_t *size)
+{
+    const size_t lengths[] = {0, *size - 1, *size + 1, *size + PLEX_RECORD_SIZE};
+    *size = lengths[below(4)];
+}
+
+/* The blocks of the second guest begin after the first's, or before their end. */
+static void make_pair(void)
+{
+    make_guest(&first, 0);
+    make_guest(&second, GUEST_BLOCKS - (below(4) == 0 ? below(GUEST_BLOCKS + 1) : 0));
+    memset(table.bytes, 0, sizeof table.bytes);
+    table.size = PLEX_TABLE_SIZE;
+    if (below(8) == 0)
+        damage(table.bytes, PLEX_TABLE_SIZE);
+}
+
+static void try_pair(void)
+{
+    make_pair();
+    size_t *sizes[] = {&first.size, &second.size, &table.size};
+    if (below(6) == 0)
+        damage_length(sizes[below(3)]);
+    size_t size = first.size + second.size;
+    if (below(6) == 0)
+        damage_length(&size);
+    uint32_t result = plex_check(first.bytes, first.size, table.bytes, table.size);
+    checks[PLEX_NUMBER(result)]++;
+    expect("check", result, plain_check(first.bytes, first.size, table.bytes, table.size));
+    memset(by_plex, 7, sizeof by_plex);
+    memset(by_plain, 7, sizeof by_plain);
+    result = plex_link(first.bytes, first.size, second.bytes, second.size, table.bytes, table.size, by_plex, size);
+    links[PLEX_NUMBER(result)]++;
+    expect("link", result,
+           plain_link(first.bytes, first.size, second.bytes, second.size, table.bytes, table.size, by_plain, size));
+    expect("bytes of a link", 0, memcmp(by_plex, by_plain, sizeof by_plex) != 0);
+}
+
+/* Whether calls that may refuse with numbers in this range were accepted, and refused by each of them. */
+static int were_met(const uint32_t *results, uint32_t lowest, uint32_t highest)
+{
+    int all = results[0] != 0;
+    for (uint32_t number = lowest; number <= highest; number++)
+        all = all && results[number] != 0;
+    return all;
+}
+
+int main(void)
+{
+    for (uint32_t trial = 0; trial < TRIALS; trial++)
+        try_pair();
+    int all_met = were_met(checks, PLEX_BAD_IMAGE_LENGTH, PLEX_BAD_RECORD) &&
+                  were_met(links, PLEX_BAD_IMAGE_LENGTH, PLEX_BAD_RECORD) &&
+                  were_met(links, PLEX_SHARED_BLOCK, PLEX_BAD_OUTPUT_LENGTH);
+    printf("plain: %u checks and links, %u and %u of them accepted%s; %u failures\n", TRIALS, checks[0], links[0],
+           all_met ? ", refused by every number" : ", NOT refused by every number", failures);
+    return failures != 0 || !all_met;
+}
