@@ -12,7 +12,7 @@ use Rattle.rules.specs.Sizes.{wordCount}
 use Rattle.rules.specs.Codes.{assignCode, addCode, subtractCode, multiplyCode}
 use Rattle.rules.specs.Image.{recordAt, opcode, operator}
 use Rattle.rules.specs.Statements.{operandAt, operationAt, shape, optional, assignmentBy, assignmentOf, statementOf}
-use Rattle.rules.specs.Machine.{Job, running, Machine, threadAt, cells, stores, window, keep}
+use Rattle.rules.specs.Machine.{Job, job, withHeld, running, Machine, threadAt, cells, stores, window, keep}
 use Rattle.rules.specs.Effects.{got, Cells, read, readAll, one, compute, store, perform}
 use Rattle.rules.specs.Steps.{Reply, blockAt, blocked}
 use Rattle.rules.specs.declared.statement.Operand.{Operand}
@@ -106,7 +106,7 @@ module _ (image table : List ℕ) (s : Machine) (t locks : ℕ) (j : Job) (o p q
     left = store d v (cellsOf image s j)
 
     abbrev next : Job
-    next = record { label = A image j; returns = j .returns; registers = left .registers }
+    next = withHeld (j .held) (job (A image j) (j .returns) (left .registers))
 
     after : MovesOn (stepOf image table s t) t locks next
     unfolding perform blocked assignmentBy optional

@@ -1,6 +1,6 @@
 -- What holds of every event, by any rules: an end clears its own thread to idle; no other answer releases a lock; and a thread
 -- that runs starts nothing.
-use mathlib.Core.Path.{_≡_, refl}
+use mathlib.Core.Path.{_≡_, refl, _∙_}
 use mathlib.Core.Bool.{Bool, true, false, cond, false≢true}
 use mathlib.Core.Option.{Option, none, some}
 use mathlib.Core.List.{List, [], _∷_}
@@ -10,11 +10,12 @@ use lib.Bits.{bitOr, or-shr, or-step}
 use lib.ListN.{getD, set}
 use borrow.Author.Tests.{eqb-true, eq-eqb}
 use Rattle.rules.specs.Bytes.{has}
-use Rattle.rules.specs.Machine.{Signal, Job, ThreadState, idle, running, Machine, threadAt, locksOf, treeThreads}
+use Rattle.rules.specs.Machine.{Signal, Job, ThreadState, idle, running, Machine, threadAt, locksOf}
 use Rattle.rules.specs.Answers.{close, sort}
 use Rattle.rules.specs.Events.{Kind, stepping, cutting, Event, arrive, turn, step, cut, threadOf}
-use Rattle.rules.specs.Steps.{Effect, traps, exits, moves, Rules, Move, Plan, stay, grow, move, finish, planArrive, planIdle}
-use Rattle.rules.specs.Steps.{planRunning, planStep, planCut, planTurn, plan, blocked, grant, attempt, carry, react, home, founded}
+use Rattle.rules.specs.Steps.{Effect, traps, exits, moves, Rules, Move, Plan, stay, grow, move, finish, leave, admits, planArrive}
+use Rattle.rules.specs.Steps.{planIdle, planRunning, planStep, planCut, planTurn, plan, blocked, grant, grown, finished, admit}
+use Rattle.rules.specs.Steps.{admitted, attempt, carry, react, founded}
 use Rattle.rules.specs.declared.answer.Answer.the-variants.{ListFull, Started, WasCut}
 
 -- ---- one thread of the list is set
@@ -46,6 +47,7 @@ Ends o (stay a) = sort a ≡ close → ⊥
 Ends o (grow x) = Unit {0}
 Ends o (move t m) = sort (m .answer) ≡ close → ⊥
 Ends o (finish t a) = (sort a ≡ close) × (o ≡ some t)
+Ends o (leave t gs) = o ≡ some t
 
 module _ (R : Rules) where
   arrive-ends : (g : Signal) (room : Bool) → Ends none (cond room (grow (founded R g)) (stay ListFull))
@@ -61,7 +63,7 @@ module _ (R : Rules) where
   running-ends : (t b : ℕ) (p : List Signal) (x : Effect) → Ends (some t) (planRunning t b p x)
   unfolding planRunning
   running-ends t b p (traps r) = (refl, refl)
-  running-ends t b p exits = (refl, refl)
+  running-ends t b p (exits gs) = refl
   running-ends t b p (moves j words g want) = λ e. absurd (false≢true (cc))
 
   step-ends : (t : ℕ) (w : ThreadState) (f : Option (List Signal)) (words : List ℕ) → Ends (some t) (planStep R t w f words)
@@ -80,10 +82,20 @@ module _ (R : Rules) where
 
   plan-ends : (s : Machine) (e : Event) → Ends (threadOf e) (plan R s e)
   unfolding plan planArrive
-  plan-ends s (arrive g) = arrive-ends g (R .room (treeThreads (s .trees)) (home R g))
+  plan-ends s (arrive g) = arrive-ends g (admits R (s .trees) g)
   plan-ends s (turn k t) = turn-ends k t _ _ _
 
   -- ---- and its doing
+
+  -- the signals that found trees change no thread
+  admit-threads : (c : Bool) (g : Signal) (s : Machine) → cond c (grown (founded R g) s) s .threads ≡ s .threads
+  admit-threads true g s = refl
+  admit-threads false g s = refl
+
+  admitted-threads : (gs : List Signal) (s : Machine) → admitted R gs s .threads ≡ s .threads
+  unfolding admitted
+  admitted-threads [] s = refl
+  admitted-threads (g ∷ gs) s = admitted-threads gs (admit R g s) ∙ admit-threads (admits R (s .trees) g) g s
 
   waiting-ends : (s : Machine) (t : ℕ) (m : Move) (o : Option ℕ) → (sort (m .answer) ≡ close → ⊥)
       → sort (attempt R t m s o .answer) ≡ close → ⊥
@@ -98,6 +110,8 @@ module _ (R : Rules) where
   carry-ends s e t h (grow x) n c = absurd (false≢true (cc))
   carry-ends s e t h (move u m) n c = absurd (waiting-ends s u m (blocked R u (s .threads) (m .want)) n c)
   carry-ends s e t h (finish u a) n c = let same : t ≡ u = cc (h, n .1) in rw same (set-idle (s .threads) u)
+  carry-ends s e t h (leave u gs) n c =
+      let same : t ≡ u = cc (h, n) in rw (same, admitted-threads gs (finished R u s)) (set-idle (s .threads) u)
 
   -- an end of any of the three sorts clears the thread to idle
   pub ends : (s : Machine) (e : Event) (t : ℕ) → threadOf e ≡ some t → sort (react R s e .answer) ≡ close
@@ -122,6 +136,7 @@ module _ (R : Rules) where
   carry-locks s e u l (grow x) n c h = h
   carry-locks s e u l (move t m) n c h = attempt-locks s t u l m (blocked R t (s .threads) (m .want)) h
   carry-locks s e u l (finish t a) n c h = absurd (c (n .0))
+  carry-locks s e u l (leave t gs) n c h = absurd (c refl)
 
   -- no lock is released but at an end
   pub locks-kept : (s : Machine) (e : Event) → (sort (react R s e .answer) ≡ close → ⊥)
@@ -138,7 +153,7 @@ module _ (R : Rules) where
   running-starts : (s : Machine) (t b : ℕ) (p : List Signal) (x : Effect) → carry R s (planRunning t b p x) .answer ≡ Started → ⊥
   unfolding planRunning carry
   running-starts s t b p (traps r) e = absurd (false≢true (cc))
-  running-starts s t b p exits e = absurd (false≢true (cc))
+  running-starts s t b p (exits gs) e = absurd (false≢true (cc))
   running-starts s t b p (moves j words g want) e = attempt-starts s t _ (blocked R t (s .threads) want) (λ q. absurd (false≢true (cc))) e
 
   pub starts-nothing : (s : Machine) (t locks : ℕ) (j : Job) → threadAt s t ≡ running locks j → react R s (step t) .answer ≡ Started → ⊥

@@ -4,4 +4,5 @@ pub mod Ends
 pub mod Opcodes
 pub mod Assigning
 pub mod Waits
+pub mod Founding
 pub mod Trials

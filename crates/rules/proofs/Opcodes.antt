@@ -1,4 +1,5 @@
--- The steps of a running thread that the trials are about, each over the number: of return labels, of pending signals, of values.
+-- The steps of a running thread that the trials are about, each over the number: of return labels, of pending and held signals, of
+-- values.
 use mathlib.Core.Path.{_≡_, refl, ap, _∙_}
 use mathlib.Core.Bool.{Bool, true, false, cond}
 use mathlib.Core.Option.{Option, none, some}
@@ -9,15 +10,16 @@ use lib.Bits.{bitOr}
 use lib.ListN.{length, getD, drop, replicate, length-map}
 use lib.Seq.{getD-append-add, getD-drop}
 use borrow.Author.Tests.{le-leb, lt-leb}
-use Rattle.rules.specs.Sizes.{registerCount, returnCount, pendingCount}
+use Rattle.rules.specs.Sizes.{registerCount, returnCount, heldCount, pendingCount}
 use Rattle.rules.specs.Image.{recordAt, labelA, labelB, rowAt}
-use Rattle.rules.specs.Machine.{Signal, Job, job, ThreadState, idle, running, Machine, threadAt, fill, first, put}
+use Rattle.rules.specs.Machine.{Signal, Job, job, withHeld, ThreadState, idle, running, Machine, threadAt, fill, first, put}
 use Rattle.rules.specs.Events.{step}
 use Rattle.rules.specs.Effects.{holds, perform}
-use Rattle.rules.specs.Steps.{Reply, newest, older, alien, blockAt, rulesBy, blocked, react}
+use Rattle.rules.specs.Steps.{Reply, newest, older, alien, blockAt, rulesBy, leave, blocked, carry, react}
 use Rattle.rules.specs.declared.statement.Condition.{Condition}
 use Rattle.rules.specs.declared.statement.Statement.the-variants.{If, SendDirect, SendBuffered, Call, Return, Transfer, Exit}
-use Rattle.rules.specs.declared.answer.Answer.the-variants.{Exited, Trapped}
+use Rattle.rules.specs.declared.statement.Statement.the-variants.{SendTree}
+use Rattle.rules.specs.declared.answer.Answer.the-variants.{Trapped}
 use Rattle.rules.proofs.Running.{wordsOf, Runs, MovesOn, trapped, exited, moves-on, own-tree}
 
 -- the answer to a step of thread t, and the machine after it
@@ -42,7 +44,7 @@ module _ (image table : List ℕ) {s : Machine} {t locks : ℕ} {j : Job} {value
   return-trap r e = trapped image table r 2 (rw e)
 
   pub return : Runs image s t locks j Return values → (a : ℕ) (l : List ℕ) → j .returns ≡ a ∷ l
-      → MovesOn (stepOf image table s t) t locks (job (newest a l) (older a l) (fill values))
+      → MovesOn (stepOf image table s t) t locks (withHeld (j .held) (job (newest a l) (older a l) (fill values)))
   unfolding perform blocked
   return r a l e = moves-on image table r _ (wordsOf image s j) none none (rw e) refl
 
@@ -52,7 +54,7 @@ module _ (image table : List ℕ) {s : Machine} {t locks : ℕ} {j : Job} {value
 
   pub call : Runs image s t locks j Call values → length (j .returns) < returnCount → Open image table s t (A image j)
       → MovesOn (stepOf image table s t) t (bitOr locks (2 ^ rowAt table (blockAt image (A image j)) .lock))
-      (job (A image j) (j .returns ++ B image j ∷ []) (fill values))
+      (withHeld (j .held) (job (A image j) (j .returns ++ B image j ∷ []) (fill values)))
   unfolding perform
   call r h o =
       moves-on image table r _ (wordsOf image s j) none (some (blockAt image (A image j)))
@@ -65,7 +67,7 @@ module _ (image table : List ℕ) {s : Machine} {t locks : ℕ} {j : Job} {value
   send-trap r p e h = trapped image table r 4 (rw (e, le-leb pendingCount (length p) h))
 
   pub send : Runs image s t locks j SendBuffered values → (p : List Signal) → first t (s .trees) ≡ some p → length p < pendingCount
-      → MovesOn (stepOf image table s t) t locks (job (B image j) (j .returns) (j .registers))
+      → MovesOn (stepOf image table s t) t locks (withHeld (j .held) (job (B image j) (j .returns) (j .registers)))
   unfolding perform blocked
   send r p e h =
       moves-on image table r _ (wordsOf image s j) (some (record { label = A image j; values = values })) none
@@ -75,20 +77,20 @@ module _ (image table : List ℕ) {s : Machine} {t locks : ℕ} {j : Job} {value
       → stepOf image table s t .state .trees ≡ put t (some (p ++ record { label = A image j; values = values } ∷ [])) (s .trees)
   unfolding perform blocked
   send-kept r p e h =
-      own-tree image table r (job (B image j) (j .returns) (j .registers)) (wordsOf image s j)
+      own-tree image table r (withHeld (j .held) (job (B image j) (j .returns) (j .registers))) (wordsOf image s j)
       (some (record { label = A image j; values = values })) none
       (rw (e, lt-leb pendingCount (length p) h)) refl
       ∙ rw e
 
   pub direct : Runs image s t locks j SendDirect values → Open image table s t (A image j)
       → MovesOn (stepOf image table s t) t (bitOr locks (2 ^ rowAt table (blockAt image (A image j)) .lock))
-      (job (A image j) (j .returns) (fill values))
+      (withHeld (j .held) (job (A image j) (j .returns) (fill values)))
   unfolding perform
   direct r o = moves-on image table r _ (wordsOf image s j) none (some (blockAt image (A image j))) (rw (o .own)) (o .free)
 
   pub transfer : Runs image s t locks j Transfer values
       → MovesOn (stepOf image table s t) t locks
-      (job (A image j) (j .returns) (map some values ++ drop (length values) (j .registers)))
+      (withHeld (j .held) (job (A image j) (j .returns) (map some values ++ drop (length values) (j .registers))))
   unfolding perform blocked
   transfer r = moves-on image table r _ (wordsOf image s j) none none refl refl
 
@@ -102,14 +104,26 @@ module _ (image table : List ℕ) {s : Machine} {t locks : ℕ} {j : Job} {value
   pub branch : (c : Condition) (b : Bool) → Runs image s t locks j (If c) values
       → holds (c .relation) (getD values 0 0) (getD values 1 0) ≡ b
       → MovesOn (stepOf image table s t) t locks
-      (record { label = cond b (A image j) (B image j); returns = j .returns; registers = j .registers })
+      (withHeld (j .held) (job (cond b (A image j) (B image j)) (j .returns) (j .registers)))
   unfolding perform blocked
   branch c true r h = moves-on image table r _ (wordsOf image s j) none none (rw h) refl
   branch c false r h = moves-on image table r _ (wordsOf image s j) none none (rw h) refl
 
-  pub exit : Runs image s t locks j Exit values → stepOf image table s t .answer ≡ Exited
+  -- EXIT: the job's own tree is settled, then the signals that it held found trees
+  pub exit : Runs image s t locks j Exit values → stepOf image table s t ≡ carry (rulesBy image table) s (leave t (j .held))
   unfolding perform
   exit r = exited image table r refl
+
+  -- SEND .. JOBTREE with four signals held, and with fewer
+  pub hold-trap : Runs image s t locks j SendTree values → heldCount ≤ length (j .held) → stepOf image table s t .answer ≡ Trapped 6
+  unfolding perform
+  hold-trap r h = trapped image table r 6 (rw (le-leb heldCount (length (j .held)) h))
+
+  pub hold : Runs image s t locks j SendTree values → length (j .held) < heldCount
+      → MovesOn (stepOf image table s t) t locks
+      (withHeld (j .held ++ record { label = A image j; values = values } ∷ []) (job (B image j) (j .returns) (j .registers)))
+  unfolding perform blocked
+  hold r h = moves-on image table r _ (wordsOf image s j) none none (rw (lt-leb heldCount (length (j .held)) h)) refl
 
 -- ---- the registers from the number of values on
 

@@ -15,10 +15,10 @@ use Rattle.rules.specs.Answers.{code, detail, answerBytes}
 use Rattle.rules.specs.Events.{step}
 use Rattle.rules.specs.Effects.{got, Cells, readAll, perform, outcome}
 use Rattle.rules.specs.Steps.{Effect, traps, exits, moves, resolve, view, blockAt, actBy, rulesBy, Reply, added, pendingOf}
-use Rattle.rules.specs.Steps.{planRunning, planStep, plan, blocked, grant, applied, attempt, carry, react}
+use Rattle.rules.specs.Steps.{leave, planRunning, planStep, plan, blocked, grant, applied, attempt, carry, react}
 use Rattle.rules.specs.declared.statement.Statement.{Statement}
 use Rattle.rules.specs.declared.answer.Answer.{Answer}
-use Rattle.rules.specs.declared.answer.Answer.the-variants.{Moved, Exited, Trapped}
+use Rattle.rules.specs.declared.answer.Answer.the-variants.{Moved, Trapped}
 
 -- the words of the block that a job is in, and its registers beside them
 abbrev pub wordsOf : List ℕ → Machine → Job → List ℕ
@@ -57,7 +57,7 @@ module _ (image table : List ℕ) (s : Machine) (t : ℕ) (j : Job) where
   abbrev pub effect : Statement → List ℕ → Effect
   effect x values =
       let r = recordAt image (j .label) in
-      resolve (blockAt image) (rowAt table) t (j .returns) (labelA r) (labelB r)
+      resolve (blockAt image) (rowAt table) t (j .returns) (j .held) (labelA r) (labelB r)
       (perform (view j (wordsOf image s j) (length (pendingOf (first t (s .trees))))) x values)
 
 module _ (image table : List ℕ) {s : Machine} {t locks : ℕ} {j : Job} {x : Statement} {values : List ℕ}
@@ -78,8 +78,9 @@ module _ (image table : List ℕ) {s : Machine} {t locks : ℕ} {j : Job} {x : S
   unfolding planRunning carry
   trapped reason e = rw (stepped, e)
 
-  pub exited : effect image table s t j x values ≡ exits → react (rulesBy image table) s (step t) .answer ≡ Exited
-  unfolding planRunning carry
+  pub exited : effect image table s t j x values ≡ exits (j .held)
+      → react (rulesBy image table) s (step t) ≡ carry (rulesBy image table) s (leave t (j .held))
+  unfolding planRunning
   exited e = rw (stepped, e)
 
   -- the job goes on as k, and no other thread holds the lock that it wants

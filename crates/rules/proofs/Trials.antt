@@ -6,28 +6,30 @@ use mathlib.Core.Path.{_≡_, refl, ap, _∙_}
 use mathlib.Core.Logic.{_≢_}
 use mathlib.Core.Bool.{true, false, cond, and-false}
 use mathlib.Core.Option.{Option, none, some}
-use mathlib.Core.List.{List, [], _∷_, _++_}
-use Prim.Native.Nat.{ℕ, _+_, _*_, _^_, _<_, _≤_}
+use mathlib.Core.List.{List, [], _∷_, _++_, map}
+use Prim.Native.Nat.{ℕ, _+_, _*_, _-_, _^_, _<_, _≤_}
 use native.Mathlib.Omega.{arith}
 use lib.Bits.{bitOr}
-use lib.ListN.{length, getD, drop, length-map}
+use lib.ListN.{length, getD, take, drop, length-map}
 use lib.Dec.{eqb}
 use borrow.Author.Tests.{lt-ltb, le-ltb, eq-eqb, ne-eqb}
 use Rattle.rules.specs.Bytes.{num16, num32, firstBad, blocks, pad, chunks, has}
 use Rattle.rules.specs.Image.{Row, rowAt}
 use Rattle.rules.specs.Codes.{addCode, subtractCode, multiplyCode}
 use Rattle.rules.specs.Check.{firstOf, imageFaults}
-use Rattle.rules.specs.Machine.{Signal, Job, job, ThreadState, idle, running, Machine, threadAt, locksOf, jobOf, fill, first, put}
+use Rattle.rules.specs.Machine.{Signal, Tree, Job, job, withHeld, ThreadState, idle, running, Machine, threadAt, locksOf, jobOf, fill}
+use Rattle.rules.specs.Machine.{first, put}
 use Rattle.rules.specs.Encoding.{threadRaw, threadBytes, encode, machineFrom}
 use Rattle.rules.specs.Answers.{code, detail, close, sort}
 use Rattle.rules.specs.Events.{Event, arrive, step, cut, threadOf, eventsFrom}
 use Rattle.rules.specs.Steps.{Rules, rulesBy, newest, older, alien, blockAt, held, blocked}
-use Rattle.rules.specs.Steps.{planArrive, plan, carry, react, final, grown, founded}
+use Rattle.rules.specs.Steps.{planArrive, plan, leave, carry, react, final, grown, founded, finished, admitted, lost}
 use Rattle.rules.specs.Walk.{walk, metCount}
 use Rattle.rules.specs.Calls.{stateLengthFault, stateFault, eventsLengthFault, eventFault, answersLengthFault, runReturn, runState}
 use Rattle.rules.specs.declared.statement.Relation.the-variants.{Equal, Less}
 use Rattle.rules.specs.declared.statement.Condition.{Condition}
 use Rattle.rules.specs.declared.statement.Statement.the-variants.{If, SendDirect, SendBuffered, Call, Return, Transfer, Exit}
+use Rattle.rules.specs.declared.statement.Statement.the-variants.{SendTree}
 use Rattle.rules.specs.declared.answer.Answer.the-variants.{Taken, ListFull, Started, Exited, Trapped, WasCut}
 use Rattle.rules.proofs.Running.{Runs, Answered, answered, MovesOn}
 use Rattle.rules.proofs.Opcodes as opcodes
@@ -35,12 +37,14 @@ use Rattle.rules.proofs.Opcodes.{stepOf, Open, A, B, register}
 use Rattle.rules.proofs.Ends.{ends, locks-kept, starts-nothing, cut-answer, cut-idle}
 use Rattle.rules.proofs.Assigning.{Stores, sum, difference, product}
 use Rattle.rules.proofs.Waits as waits
+use Rattle.rules.proofs.Founding.{founds, two-appended, one-appended}
 
--- in the bytes of a thread the lock set, the return count and the presence set are 0
+-- in the bytes of a thread the lock set, the return count, the presence set and the held count are 0
 pub record Cleared (w : ThreadState) : Type 0 where
   pub locks : num16 (drop 2 (threadBytes w)) ≡ 0
   pub returns : getD (threadBytes w) 4 0 ≡ 0
   pub presence : num32 (drop 21 (threadBytes w)) ≡ 0
+  pub held : getD (threadBytes w) 75 0 ≡ 0
 
 -- an FD block of another thread is alien; a CMX block and a block of its own are not
 foreign : (r : Row) (t : ℕ) → r .kind ≡ 0 → r .thread ≢ t → alien r t ≡ true
@@ -57,7 +61,7 @@ own r t h = rw (eq-eqb (r .thread) t h) (and-false (eqb (r .kind) 0))
 
 cleared-idle : (w : ThreadState) → w ≡ idle → Cleared w
 unfolding num16 num32 blocks pad threadRaw threadBytes
-cleared-idle w e = rw e (record { locks = refl; returns = refl; presence = refl })
+cleared-idle w e = rw e (record { locks = refl; returns = refl; presence = refl; held = refl })
 
 -- an arrival beside fewer than 16 trees, and beside more
 module _ (image table : List ℕ) (s : Machine) (g : Signal) where
@@ -69,6 +73,24 @@ module _ (image table : List ℕ) (s : Machine) (g : Signal) where
   refused : 16 ≤ length (s .trees) → react (rulesBy image table) s (arrive g) ≡ record { state = s; answer = ListFull }
   unfolding react plan planArrive carry
   refused h = rw (length-map, le-ltb (length (s .trees)) 16 h)
+
+-- the thread of a signal's block, and a tree with this signal on it
+abbrev homeBy : List ℕ → List ℕ → Signal → ℕ
+homeBy image table g = rowAt table (blockAt image (g .label)) .thread
+
+abbrev foundedBy : List ℕ → List ℕ → Signal → Tree
+foundedBy image table g = record { thread = homeBy image table g; pending = g ∷ [] }
+
+-- EXIT by a job that holds these signals
+left-by : (image table : List ℕ) (s : Machine) (t : ℕ) (gs : List Signal)
+    → Answered (carry (rulesBy image table) s (leave t gs)) 7 (length gs - (16 - length (finished (rulesBy image table) t s .trees)))
+    × (carry (rulesBy image table) s (leave t gs) .state .trees
+    ≡ finished (rulesBy image table) t s .trees
+    ++ map (foundedBy image table) (take (16 - length (finished (rulesBy image table) t s .trees)) gs))
+unfolding carry code detail
+left-by image table s t gs =
+    let k = founds image table gs (finished (rulesBy image table) t s) in
+    (answered (carry (rulesBy image table) s (leave t gs)) (Exited (length gs - (16 - length (finished (rulesBy image table) t s .trees)))) (ap Exited (k .count)), k .trees)
 
 -- refusals that do not apply, after others
 last-none : (faults : List ℕ) → firstOf (faults ++ 0 ∷ 0 ∷ 0 ∷ []) ≡ firstOf faults
@@ -99,7 +121,7 @@ pub record Trials (image table : List ℕ) (s : Machine) (t locks : ℕ) (j : Jo
   -- "The eighth CALL moves on; the ninth: 8, 3"
   pub eighth-call : Runs image s t locks j Call values → length (j .returns) < 8 → Open image table s t (A image j)
       → MovesOn (stepOf image table s t) t (bitOr locks (2 ^ rowAt table (blockAt image (A image j)) .lock))
-      (job (A image j) (j .returns ++ B image j ∷ []) (fill values))
+      (withHeld (j .held) (job (A image j) (j .returns ++ B image j ∷ []) (fill values)))
   pub ninth-call : Runs image s t locks j Call values → 8 ≤ length (j .returns) → Answered (stepOf image table s t) 8 3
   -- "The eighth pending signal is kept; the ninth: 8, 4"
   pub eighth-signal : Runs image s t locks j SendBuffered values → (p : List Signal) → first t (s .trees) ≡ some p → length p < 8
@@ -111,7 +133,7 @@ pub record Trials (image table : List ℕ) (s : Machine) (t locks : ℕ) (j : Jo
   pub next-arrival : (g : Signal) → 16 ≤ length (s .trees) → Answered (react (rulesBy image table) s (arrive g)) 2 0
   pub no-change : (g : Signal) → 16 ≤ length (s .trees) → react (rulesBy image table) s (arrive g) .state ≡ s
   -- "EXIT two calls deep: lock set, return count, presence all 0": with any return labels and locks, and at every end
-  pub exit : Runs image s t locks j Exit values → Answered (stepOf image table s t) 7 0
+  pub exit : Runs image s t locks j Exit values → j .held ≡ [] → Answered (stepOf image table s t) 7 0
   pub exit-clears : Runs image s t locks j Exit values → Cleared (threadAt (stepOf image table s t .state) t)
   pub end-clears : (R : Rules) (e : Event) → threadOf e ≡ some t → sort (react R s e .answer) ≡ close
       → Cleared (threadAt (react R s e .state) t)
@@ -120,6 +142,25 @@ pub record Trials (image table : List ℕ) (s : Machine) (t locks : ℕ) (j : Jo
       → register (threadAt (stepOf image table s t .state) t) r ≡ getD (j .registers) r none
   pub direct-clears : Runs image s t locks j SendDirect values → Open image table s t (A image j) → (r : ℕ) → length values ≤ r
       → register (threadAt (stepOf image table s t .state) t) r ≡ none
+  -- "The fourth held signal is kept; the fifth: 8, 6"
+  pub fourth-held : Runs image s t locks j SendTree values → length (j .held) < 4
+      → MovesOn (stepOf image table s t) t locks
+      (withHeld (j .held ++ record { label = A image j; values = values } ∷ []) (job (B image j) (j .returns) (j .registers)))
+  pub fifth-held : Runs image s t locks j SendTree values → 4 ≤ length (j .held) → Answered (stepOf image table s t) 8 6
+  -- "EXIT with three held signals, its own tree empty and 14 others live: two are appended, one is lost; its own tree not empty: one is
+  -- appended, two are lost"
+  pub exit-empty : Runs image s t locks j Exit values → (a b c : Signal) → j .held ≡ a ∷ b ∷ c ∷ [] → length (s .trees) ≡ 15
+      → first t (s .trees) ≡ some [] → Answered (stepOf image table s t) 7 1
+      × (stepOf image table s t .state .trees ≡ put t none (s .trees) ++ foundedBy image table a ∷ foundedBy image table b ∷ [])
+  pub exit-pending : Runs image s t locks j Exit values → (a b c : Signal) → j .held ≡ a ∷ b ∷ c ∷ [] → length (s .trees) ≡ 15
+      → (g : Signal) (p : List Signal) → first t (s .trees) ≡ some (g ∷ p) → Answered (stepOf image table s t) 7 2
+      × (stepOf image table s t .state .trees
+      ≡ (put t none (s .trees) ++ record { thread = homeBy image table g; pending = g ∷ p } ∷ []) ++ foundedBy image table a ∷ [])
+  -- and of any number of them, after the own tree is settled: as many trees as there is room for beside 16, in order, the others lost
+  pub exit-held : Runs image s t locks j Exit values → (settled : Machine) → settled ≡ finished (rulesBy image table) t s
+      → Answered (stepOf image table s t) 7 (length (j .held) - (16 - length (settled .trees)))
+      × (stepOf image table s t .state .trees
+      ≡ settled .trees ++ map (foundedBy image table) (take (16 - length (settled .trees)) (j .held)))
   -- "No events: return 0, state unchanged": of a state that passes 1 to 6
   pub no-events : (R : Rules) → final R s [] ≡ s
   pub no-events-return : (state : List ℕ)
@@ -133,13 +174,13 @@ pub record Trials (image table : List ℕ) (s : Machine) (t locks : ℕ) (j : Jo
   pub products : (p q v m : ℕ) → v < 65536 → p * q ≡ v + 65536 * m → Stores image table s t locks j multiplyCode p q v
   -- also: IF goes on to A if p is less than q, or equal to it, and else to B
   pub less : (c : Condition) → c .relation ≡ Less → (p q : ℕ) → Runs image s t locks j (If c) (p ∷ q ∷ []) → p < q
-      → MovesOn (stepOf image table s t) t locks (record { label = A image j; returns = j .returns; registers = j .registers })
+      → MovesOn (stepOf image table s t) t locks (withHeld (j .held) (job (A image j) (j .returns) (j .registers)))
   pub not-less : (c : Condition) → c .relation ≡ Less → (p q : ℕ) → Runs image s t locks j (If c) (p ∷ q ∷ []) → q ≤ p
-      → MovesOn (stepOf image table s t) t locks (record { label = B image j; returns = j .returns; registers = j .registers })
+      → MovesOn (stepOf image table s t) t locks (withHeld (j .held) (job (B image j) (j .returns) (j .registers)))
   pub equal : (c : Condition) → c .relation ≡ Equal → (p : ℕ) → Runs image s t locks j (If c) (p ∷ p ∷ [])
-      → MovesOn (stepOf image table s t) t locks (record { label = A image j; returns = j .returns; registers = j .registers })
+      → MovesOn (stepOf image table s t) t locks (withHeld (j .held) (job (A image j) (j .returns) (j .registers)))
   pub not-equal : (c : Condition) → c .relation ≡ Equal → (p q : ℕ) → Runs image s t locks j (If c) (p ∷ q ∷ []) → p ≢ q
-      → MovesOn (stepOf image table s t) t locks (record { label = B image j; returns = j .returns; registers = j .registers })
+      → MovesOn (stepOf image table s t) t locks (withHeld (j .held) (job (B image j) (j .returns) (j .registers)))
   -- also: a direct SEND to an FD block (kind 0) of another thread traps, reason 5; to a CMX block (kind 1), or a block of its own, it goes
   pub foreign-FD : Runs image s t locks j SendDirect values → rowAt table (blockAt image (A image j)) .kind ≡ 0
       → rowAt table (blockAt image (A image j)) .thread ≢ t → Answered (stepOf image table s t) 8 5
@@ -149,10 +190,10 @@ pub record Trials (image table : List ℕ) (s : Machine) (t locks : ℕ) (j : Jo
       → blocked (rulesBy image table) t (s .threads) (some (blockAt image (A image j))) ≡ none → Answered (stepOf image table s t) 6 0
   -- also: an arrival goes to the list's end
   pub arrival-last : (g : Signal) → length (s .trees) < 16 → react (rulesBy image table) s (arrive g) .state .trees
-      ≡ s .trees ++ record { thread = rowAt table (blockAt image (g .label)) .thread; pending = g ∷ [] } ∷ []
+      ≡ s .trees ++ foundedBy image table g ∷ []
   -- also: RETURN releases no lock, and no answer but that of an end releases one
   pub return-keeps-locks : Runs image s t locks j Return values → (a : ℕ) (l : List ℕ) → j .returns ≡ a ∷ l
-      → MovesOn (stepOf image table s t) t locks (job (newest a l) (older a l) (fill values))
+      → MovesOn (stepOf image table s t) t locks (withHeld (j .held) (job (newest a l) (older a l) (fill values)))
   pub locks-kept : (R : Rules) (e : Event) → (sort (react R s e .answer) ≡ close → ⊥)
       → (u l : ℕ) → has l (locksOf (threadAt s u)) ≡ true → has l (locksOf (threadAt (react R s e .state) u)) ≡ true
   -- also: a cut leaves no return labels
@@ -160,7 +201,7 @@ pub record Trials (image table : List ℕ) (s : Machine) (t locks : ℕ) (j : Jo
   pub cut-job : (R : Rules) → threadAt s t ≡ running locks j → jobOf (threadAt (react R s (cut t) .state) t) ≡ none
   -- also: a buffered SEND keeps all registers
   pub buffered-keeps : Runs image s t locks j SendBuffered values → (p : List Signal) → first t (s .trees) ≡ some p → length p < 8
-      → MovesOn (stepOf image table s t) t locks (job (B image j) (j .returns) (j .registers))
+      → MovesOn (stepOf image table s t) t locks (withHeld (j .held) (job (B image j) (j .returns) (j .registers)))
   -- also: while a job runs, its tree's next signal is not started
   pub starts-nothing : (R : Rules) → threadAt s t ≡ running locks j → react R s (step t) .answer ≡ Started → ⊥
   -- also: a lock hinders a thread only where another holds it
@@ -172,7 +213,7 @@ pub record Trials (image table : List ℕ) (s : Machine) (t locks : ℕ) (j : Jo
   pub walk-alone : (next : ℕ → Option ℕ) → next 2 ≡ none → (walk next 8 2 .threads ≡ 2 ∷ []) × (metCount (walk next 8 2) ≡ 1)
 
 pub trials : (image table : List ℕ) (s : Machine) (t locks : ℕ) (j : Job) (values : List ℕ) → Trials image table s t locks j values
-unfolding code detail final metCount
+unfolding code detail final metCount carry admitted lost
 trials image table s t locks j values = record {
   sum-wraps = sum image table s t locks j 65535 1 0 1 (omega arith) refl;
   sums = sum image table s t locks j;
@@ -186,11 +227,20 @@ trials image table s t locks j values = record {
   sixteenth-arrival = λ g h. answered (react (rulesBy image table) s (arrive g)) Taken (rw (taken image table s g h));
   next-arrival = λ g h. answered (react (rulesBy image table) s (arrive g)) ListFull (rw (refused image table s g h));
   no-change = λ g h. rw (refused image table s g h);
-  exit = λ r. answered (stepOf image table s t) Exited (opcodes.exit image table r);
+  exit = λ r e. answered (stepOf image table s t) (Exited 0) (rw (opcodes.exit image table r, e));
   exit-clears =
       λ r. cleared-idle (threadAt (stepOf image table s t .state) t)
       (ends (rulesBy image table) s (step t) t refl (rw (opcodes.exit image table r)));
   end-clears = λ R e h c. cleared-idle (threadAt (react R s e .state) t) (ends R s e t h c);
+  fourth-held = opcodes.hold image table;
+  fifth-held = λ r h. answered (stepOf image table s t) (Trapped 6) (opcodes.hold-trap image table r h);
+  exit-empty = λ r a b c e f h.
+      let k = two-appended image table s t a b c f h in
+      rw (opcodes.exit image table r, e) (answered (carry (rulesBy image table) s (leave t (a ∷ b ∷ c ∷ []))) (Exited 1) (k .0), k .1);
+  exit-pending = λ r a b c e f g p h.
+      let k = one-appended image table s t a b c f g p h in
+      rw (opcodes.exit image table r, e) (answered (carry (rulesBy image table) s (leave t (a ∷ b ∷ c ∷ []))) (Exited 2) (k .0), k .1);
+  exit-held = λ r m e. rw (opcodes.exit image table r, e) (left-by image table s t (j .held));
   transfer-keeps = opcodes.transfer-keeps image table;
   direct-clears = opcodes.direct-clears image table;
   no-events = λ R. refl;

@@ -16,12 +16,13 @@ code NoWork = noWorkCode
 code (Waiting l) = waitingCode
 code Started = startedCode
 code Moved = movedOnCode
-code Exited = exitedCode
+code (Exited n) = exitedCode
 code (Trapped r) = trappedCode
 code WasCut = wasCutCode
 code NothingToCut = nothingToCutCode
 
--- zero unless named: the lock waited for (lock b guards block b, so this is the block asked for), and a trap's reason
+-- zero unless named: the lock waited for (lock b guards block b, so this is the block asked for), how many held signals an
+-- EXIT lost, and a trap's reason
 unfoldable pub detail : Answer → ℕ
 detail Taken = 0
 detail ListFull = 0
@@ -29,7 +30,7 @@ detail NoWork = 0
 detail (Waiting l) = l .0
 detail Started = 0
 detail Moved = 0
-detail Exited = 0
+detail (Exited n) = n
 detail (Trapped r) = r
 detail WasCut = 0
 detail NothingToCut = 0
@@ -50,7 +51,7 @@ sort NoWork = out
 sort (Waiting l) = out
 sort Started = join
 sort Moved = join
-sort Exited = close
+sort (Exited n) = close
 sort (Trapped r) = close
 sort WasCut = close
 sort NothingToCut = out

@@ -33,6 +33,9 @@ transferCode = 9
 abbrev pub exitCode : ℕ
 exitCode = 10
 
+abbrev pub sendTreeCode : ℕ
+sendTreeCode = 11
+
 -- ---- operators of ASSIGN, and of IF
 
 abbrev pub copyCode : ℕ
@@ -138,6 +141,9 @@ pendingFullCode = 4
 
 abbrev pub foreignFdBlockCode : ℕ
 foreignFdBlockCode = 5
+
+abbrev pub heldFullCode : ℕ
+heldFullCode = 6
 
 -- ---- numbers of a refusal
 

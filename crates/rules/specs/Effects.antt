@@ -1,16 +1,16 @@
 -- What a statement does, told without image, table, other threads or locks. It sees the registers, the words of its own block, and how
--- many return labels and pending signals there are; of labels it says only "on to A", "on to B", "into A", "call A" and "return".
+-- many return labels, pending signals and held signals there are; of labels it says only "on to A", "on to B", "into A", "call A" and "return".
 use mathlib.Core.Bool.{Bool, true, cond}
 use mathlib.Core.Option.{Option, none, some}
 use mathlib.Core.List.{List, [], _∷_, _++_, map}
 use Prim.Native.Nat.{ℕ, _+_, _-_, _*_, _%_}
 use lib.ListN.{length, getD, set, drop}
 use lib.Dec.{eqb, leb, ltb}
-use Rattle.rules.specs.Sizes.{returnCount, pendingCount}
-use Rattle.rules.specs.Codes.{absentRegisterCode, returnsFullCode, pendingFullCode}
+use Rattle.rules.specs.Sizes.{returnCount, heldCount, pendingCount}
+use Rattle.rules.specs.Codes.{absentRegisterCode, returnsFullCode, pendingFullCode, heldFullCode}
 use Rattle.rules.specs.Machine.{fill}
-use Rattle.rules.specs.Statements.{Way, following, branching, transferring, entering, posting, calling, returning, ending, way}
-use Rattle.rules.specs.Statements.{reads}
+use Rattle.rules.specs.Statements.{Way, following, branching, transferring, entering, posting, founding, calling, returning, ending}
+use Rattle.rules.specs.Statements.{way, reads}
 use Rattle.rules.specs.declared.statement.Operand.{Operand}
 use Rattle.rules.specs.declared.statement.Operand.the-variants.{Number, Register, Word}
 use Rattle.rules.specs.declared.statement.Operation.{Operation}
@@ -20,7 +20,7 @@ use Rattle.rules.specs.declared.statement.Relation.{Relation}
 use Rattle.rules.specs.declared.statement.Relation.the-variants.{Equal, Less}
 use Rattle.rules.specs.declared.statement.Statement.{Statement}
 use Rattle.rules.specs.declared.statement.Statement.the-variants.{Skip, Assign, If, SendDirect, SendBuffered, Call, Return}
-use Rattle.rules.specs.declared.statement.Statement.the-variants.{Transfer, Exit}
+use Rattle.rules.specs.declared.statement.Statement.the-variants.{Transfer, Exit, SendTree}
 
 -- a trap with its reason, or a result: the order of the traps is the order of the `then`s
 pub data Got (A : Type 0) : Type 0 where
@@ -93,21 +93,25 @@ assigned a x c = store (a .second) (x .second) (store (a .first) (x .first) c)
 pub data Next : Type 0 where
   onA onB intoA callA back : Next
 
--- the cells that it leaves, and the values of a signal to A for the job's own tree, if it sends one
+-- the cells that it leaves, and the values of a signal to A: for the job's own tree, if it sends one there, and to hold for a new
+-- tree, if it sends one that founds it
 pub record Going : Type 0 where
   pub next : Next
   pub cells : Cells
   pub sent : Option (List ℕ)
+  pub held : Option (List ℕ)
 
 pub data Outcome : Type 0 where
   ends : Outcome
   goes : Going → Outcome
 
--- what a statement sees besides its cells: how many return labels the job has, and how many signals are pending in its own tree
+-- what a statement sees besides its cells: how many return labels the job has, how many signals are pending in its own tree, and how
+-- many it holds for new ones
 pub record View : Type 0 where
   pub cells : Cells
   pub depth : ℕ
   pub pending : ℕ
+  pub held : ℕ
 
 -- the k data values in registers 0 to k - 1; the rest absent
 abbrev pub filled : List ℕ → Cells → Cells
@@ -126,6 +130,7 @@ nextOf branching holds = some (cond holds onA onB)
 nextOf transferring holds = some onA
 nextOf entering holds = some intoA
 nextOf posting holds = some onB
+nextOf founding holds = some onB
 nextOf calling holds = some callA
 nextOf returning holds = some back
 nextOf ending holds = none
@@ -137,6 +142,7 @@ handed branching vs c = c
 handed transferring vs c = overlaid vs c
 handed entering vs c = filled vs c
 handed posting vs c = c
+handed founding vs c = c
 handed calling vs c = filled vs c
 handed returning vs c = filled vs c
 handed ending vs c = c
@@ -147,20 +153,33 @@ posted branching vs = none
 posted transferring vs = none
 posted entering vs = none
 posted posting vs = some vs
+posted founding vs = none
 posted calling vs = none
 posted returning vs = none
 posted ending vs = none
 
-abbrev pub leaveTo : Option Next → Cells → Option (List ℕ) → Outcome
-leaveTo none c sent = ends
-leaveTo (some n) c sent = goes (record { next = n; cells = c; sent = sent })
+abbrev pub heldBy : Way → List ℕ → Option (List ℕ)
+heldBy following vs = none
+heldBy branching vs = none
+heldBy transferring vs = none
+heldBy entering vs = none
+heldBy posting vs = none
+heldBy founding vs = some vs
+heldBy calling vs = none
+heldBy returning vs = none
+heldBy ending vs = none
+
+abbrev pub leaveTo : Option Next → Cells → Option (List ℕ) → Option (List ℕ) → Outcome
+leaveTo none c sent held = ends
+leaveTo (some n) c sent held = goes (record { next = n; cells = c; sent = sent; held = held })
 
 abbrev pub leave : Way → Bool → List ℕ → Cells → Outcome
-leave w holds vs c = leaveTo (nextOf w holds) (handed w vs c) (posted w vs)
+leave w holds vs c = leaveTo (nextOf w holds) (handed w vs c) (posted w vs) (heldBy w vs)
 
 -- ---- what a statement does with the values that it read
 
--- no room for what it adds: CALL with 8 return labels: reason 3; buffered SEND with 8 pending: reason 4
+-- no room for what it adds: CALL with 8 return labels: reason 3; buffered SEND with 8 pending: reason 4; SEND ..
+-- JOBTREE with 4 held: reason 6
 abbrev pub overflow : View → Statement → Option ℕ
 overflow v Skip = none
 overflow v (Assign a) = none
@@ -171,6 +190,7 @@ overflow v Call = cond (leb returnCount (v .depth)) (some returnsFullCode) none
 overflow v Return = none
 overflow v Transfer = none
 overflow v Exit = none
+overflow v SendTree = cond (leb heldCount (v .held)) (some heldFullCode) none
 
 -- ASSIGN computes and stores
 abbrev pub worked : Statement → List ℕ → Cells → Got Cells
@@ -183,6 +203,7 @@ worked Call vs c = got c
 worked Return vs c = got c
 worked Transfer vs c = got c
 worked Exit vs c = got c
+worked SendTree vs c = got c
 
 -- IF goes by its condition
 abbrev pub chosen : Statement → List ℕ → Bool
@@ -195,6 +216,7 @@ chosen Call vs = true
 chosen Return vs = true
 chosen Transfer vs = true
 chosen Exit vs = true
+chosen SendTree vs = true
 
 unfoldable pub perform : View → Statement → List ℕ → Got Outcome
 perform v s vs = unless (overflow v s) (then (worked s vs (v .cells)) (λ c. got (leave (way s) (chosen s vs) vs c)))

@@ -8,7 +8,7 @@ use Rattle.rules.specs.Sizes.{blockCount, recordSize, labelAPlace, opera
 use Rattle.rules.specs.Bytes.{le16, anyFrom, blocks, chunks}
 use Rattle.rules.specs.Image.{labels, recordAt, blockField, labelA, labelB}
 use Rattle.rules.specs.Statements.{statementOf, roleA, roleB}
-use Rattle.rules.specs.Machine.{Signal, Tree, Job, job, ThreadState, idle, running, Machine}
+use Rattle.rules.specs.Machine.{Signal, Tree, Job, job, withHeld, ThreadState, idle, running, Machine}
 use Rattle.rules.specs.Encoding.{encode, machineFrom}
 use Rattle.rules.specs.Events.{Event, arrive, turn, eventBytes, eventsFrom}
 use Rattle.rules.specs.declared.statement.Role.{Role}
@@ -58,7 +58,7 @@ abbrev pub shiftSignal : ℕ → Signal → Signal
 shiftSignal d g = record { label = g .label + d; values = g .values }
 
 abbrev pub shiftJob : ℕ → Job → Job
-shiftJob d j = job (j .label + d) (map (λ l. l + d) (j .returns)) (j .registers)
+shiftJob d j = withHeld (map (shiftSignal d) (j .held)) (job (j .label + d) (map (λ l. l + d) (j .returns)) (j .registers))
 
 -- an idle thread has no label
 abbrev pub shiftThread : ℕ → ThreadState → ThreadState

@@ -18,14 +18,20 @@ pub record Tree : Type 0 where
   pub thread : ℕ
   pub pending : List Signal
 
--- a job that runs: its label, its return labels, oldest first, and its registers, of which some are absent
+-- a job that runs: its label, its return labels, oldest first, its registers, of which some are absent, and the signals that it holds
+-- for new trees, oldest first
 pub record Job : Type 0 where
   pub label : ℕ
   pub returns : List ℕ
   pub registers : List (Option ℕ)
+  pub held : List Signal
 
+-- a job that holds no signal, and a job with other signals held
 abbrev pub job : ℕ → List ℕ → List (Option ℕ) → Job
-job label returns registers = record { label = label; returns = returns; registers = registers }
+job label returns registers = record { label = label; returns = returns; registers = registers; held = [] }
+
+abbrev pub withHeld : List Signal → Job → Job
+withHeld gs j = record { label = j .label; returns = j .returns; registers = j .registers; held = gs }
 
 -- a thread is idle, or runs a job and holds a set of locks
 pub data ThreadState : Type 0 where
@@ -44,6 +50,15 @@ withThread s t w = record { words = s .words; threads = set (s .threads) t w; tr
 
 abbrev pub threadAt : Machine → ℕ → ThreadState
 threadAt s t = getD (s .threads) t idle
+
+-- the signals that a thread's job holds; an idle thread holds none
+abbrev pub heldOf : ThreadState → List Signal
+heldOf idle = []
+heldOf (running locks j) = j .held
+
+-- a machine in which thread t runs this job with these locks, holding the signals that it held
+abbrev pub withJob : Machine → ℕ → ℕ → Job → Machine
+withJob s t locks j = withThread s t (running locks (withHeld (heldOf (threadAt s t)) j))
 
 abbrev pub locksOf : ThreadState → ℕ
 locksOf idle = 0

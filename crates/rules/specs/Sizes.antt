@@ -31,6 +31,10 @@ registerCount = 25
 abbrev pub returnCount : ℕ
 returnCount = 8
 
+-- signals that a job holds for new trees
+abbrev pub heldCount : ℕ
+heldCount = 4
+
 -- job trees, and pending signals a tree
 abbrev pub treeCount : ℕ
 treeCount = 16
@@ -98,7 +102,18 @@ rowSize = 2
 abbrev pub tableSize : ℕ
 tableSize = rowSize * blockCount
 
--- ---- a thread record: label, lock set, return count, return labels, presence set, register values
+-- ---- a signal: label, value count, values
+
+abbrev pub valueCountPlace : ℕ
+valueCountPlace = 2
+
+abbrev pub valuesPlace : ℕ
+valuesPlace = 3
+
+abbrev pub signalSize : ℕ
+signalSize = valuesPlace + 2 * registerCount
+
+-- ---- a thread record: label, lock set, return count, return labels, presence set, register values, held count, held signals
 
 abbrev pub locksPlace : ℕ
 locksPlace = 2
@@ -115,19 +130,14 @@ presencePlace = returnsPlace + 2 * returnCount
 abbrev pub registersPlace : ℕ
 registersPlace = presencePlace + 4
 
+abbrev pub heldCountPlace : ℕ
+heldCountPlace = registersPlace + 2 * registerCount
+
+abbrev pub heldPlace : ℕ
+heldPlace = heldCountPlace + 1
+
 abbrev pub threadSize : ℕ
-threadSize = registersPlace + 2 * registerCount
-
--- ---- a signal: label, value count, values
-
-abbrev pub valueCountPlace : ℕ
-valueCountPlace = 2
-
-abbrev pub valuesPlace : ℕ
-valuesPlace = 3
-
-abbrev pub signalSize : ℕ
-signalSize = valuesPlace + 2 * registerCount
+threadSize = heldPlace + signalSize * heldCount
 
 -- ---- a tree record: thread, pending count, signals
 

@@ -6,7 +6,7 @@ use Prim.Native.Nat.{ℕ, zero, suc, _+_}
 use lib.Dec.{eqb}
 use Rattle.rules.specs.Codes.{skipCode, assignCode, gotoCode, ifCode, sendDirectCode, sendBufferedCode, callCode, returnCode}
 use Rattle.rules.specs.Codes.{transferCode, copyCode, addCode, subtractCode, multiplyCode, equalCode, lessCode, exitCode}
-use Rattle.rules.specs.Codes.{numberOperandCode, registerOperandCode}
+use Rattle.rules.specs.Codes.{sendTreeCode, numberOperandCode, registerOperandCode}
 use Rattle.rules.specs.Image.{opcode, operator, operands, kind, value}
 use Rattle.rules.specs.declared.statement.Operand.{Operand}
 use Rattle.rules.specs.declared.statement.Operand.the-variants.{Number, Register, Word}
@@ -19,7 +19,7 @@ use Rattle.rules.specs.declared.statement.Relation.the-variants.{Equal, 
 use Rattle.rules.specs.declared.statement.Condition.{Condition}
 use Rattle.rules.specs.declared.statement.Statement.{Statement}
 use Rattle.rules.specs.declared.statement.Statement.the-variants.{Skip, Assign, If, SendDirect, SendBuffered, Call, Return}
-use Rattle.rules.specs.declared.statement.Statement.the-variants.{Transfer, Exit}
+use Rattle.rules.specs.declared.statement.Statement.the-variants.{Transfer, Exit, SendTree}
 use Rattle.rules.specs.declared.statement.Role.{Role}
 use Rattle.rules.specs.declared.statement.Role.the-variants.{Unused, Inner, Direct, Local, Buffered}
 
@@ -94,7 +94,8 @@ relationOf o = cond (eqb o equalCode) Equal Less
 unfoldable pub conditionOf : List ℕ → Condition
 conditionOf r = record { relation = relationOf (operator r); left = operandAt r 0; right = operandAt r 1 }
 
--- opcode and statement of each: 1 SKIP and 3 GOTO, 4 IF, 5 SEND direct, 6 SEND buffered, 7 CALL, 8 RETURN, 9 TRANSFER, 10 EXIT
+-- opcode and statement of each: 1 SKIP and 3 GOTO, 4 IF, 5 SEND direct, 6 SEND buffered, 7 CALL, 8 RETURN, 9 TRANSFER, 10 EXIT,
+-- 11 SEND .. JOBTREE
 pub record Other : Type 0 where
   pub opcode : ℕ
   pub statement : List ℕ → Statement
@@ -107,7 +108,7 @@ others =
     other skipCode (λ r. Skip) ∷ other gotoCode (λ r. Skip) ∷ other ifCode (λ r. If (conditionOf r)) ∷ other sendDirectCode
     (λ r. SendDirect)
     ∷ other sendBufferedCode (λ r. SendBuffered) ∷ other callCode (λ r. Call) ∷ other returnCode (λ r. Return)
-    ∷ other transferCode (λ r. Transfer) ∷ other exitCode (λ r. Exit) ∷ []
+    ∷ other transferCode (λ r. Transfer) ∷ other exitCode (λ r. Exit) ∷ other sendTreeCode (λ r. SendTree) ∷ []
 
 abbrev pub otherIn : List Other → ℕ → List ℕ → Option Statement
 otherIn [] op r = none
@@ -133,10 +134,11 @@ statementOf r = statementBy (operationAt (opcode r) (operator r)) r
 
 -- ---- what a statement uses: operators, operands and labels
 
--- where it leads: on to A; on to A or to B; by a local signal to A; by a direct signal to A; on to B, with a signal to A; by a signal
--- to A, with B as return label; back to the newest return label; or to the end of its job
+-- where it leads: on to A; on to A or to B; by a local signal to A; by a direct signal to A; on to B, with a signal to A for the job's
+-- own tree; on to B, with a signal to A for a new tree; by a signal to A, with B as return label; back to the newest return label; or to
+-- the end of its job
 pub data Way : Type 0 where
-  following branching transferring entering posting calling returning ending : Way
+  following branching transferring entering posting founding calling returning ending : Way
 
 -- which operands it reads: none, two of its own, or the data operands of its record
 pub data Sources : Type 0 where
@@ -152,13 +154,14 @@ pub record Usage : Type 0 where
 abbrev uses : ℕ → Sources → Way → Usage
 uses n s w = record { operators = n; sources = s; way = w }
 
--- ASSIGN reads p and q, not its destinations (its operators are those of `forms`); IF reads p and q; opcodes 5 to 9 read their data
+-- ASSIGN reads p and q, not its destinations (its operators are those of `forms`); IF reads p and q; opcodes 5 to 9, and 11, read their data
 abbrev pub usage : Statement → Usage
 usage Skip = uses 0 nothing following
 usage (Assign a) = uses 0 (pair (a .left) (a .right)) following
 usage (If c) = uses lessCode (pair (c .left) (c .right)) branching
 usage SendDirect = uses 0 carried entering
 usage SendBuffered = uses 0 carried posting
+usage SendTree = uses 0 carried founding
 usage Call = uses 0 carried calling
 usage Return = uses 0 carried returning
 usage Transfer = uses 0 carried transferring
@@ -174,6 +177,7 @@ wayA branching = Inner
 wayA transferring = Local
 wayA entering = Direct
 wayA posting = Buffered
+wayA founding = Buffered
 wayA calling = Direct
 wayA returning = Unused
 wayA ending = Unused
@@ -184,6 +188,7 @@ wayB branching = Inner
 wayB transferring = Unused
 wayB entering = Unused
 wayB posting = Inner
+wayB founding = Inner
 wayB calling = Inner
 wayB returning = Unused
 wayB ending = Unused

@@ -3,7 +3,7 @@
 use mathlib.Core.Bool.{Bool, true, false, cond, not, _&&_, _||_}
 use mathlib.Core.Option.{Option, none, some}
 use mathlib.Core.List.{List, [], _∷_, _++_}
-use Prim.Native.Nat.{ℕ, _^_}
+use Prim.Native.Nat.{ℕ, _+_, _^_}
 use lib.Bits.{bitOr}
 use lib.ListN.{length, set}
 use lib.Dec.{eqb, ltb}
@@ -13,8 +13,8 @@ use Rattle.rules.specs.Codes.{fdCode, noReturnLabelCode, foreignFdBlockC
 use Rattle.rules.specs.Bytes.{has}
 use Rattle.rules.specs.Image.{recordAt, blockField, labelA, labelB, Row, rowAt}
 use Rattle.rules.specs.Statements.{statementOf, dataOf}
-use Rattle.rules.specs.Machine.{Signal, Tree, Job, job, ThreadState, idle, running, Machine, threadAt, locksOf, fill, first, put}
-use Rattle.rules.specs.Machine.{treeThreads, window, keep}
+use Rattle.rules.specs.Machine.{Signal, Tree, Job, job, withHeld, ThreadState, idle, running, Machine, threadAt, locksOf, fill}
+use Rattle.rules.specs.Machine.{first, put, treeThreads, window, keep}
 use Rattle.rules.specs.Events.{Kind, stepping, cutting, Event, arrive, turn}
 use Rattle.rules.specs.Effects.{Got, trap, got, Next, onA, onB, intoA, callA, back, Going, Outcome, ends, goes, View, outcome}
 use Rattle.rules.specs.declared.answer.Answer.{Answer}
@@ -23,11 +23,11 @@ use Rattle.rules.specs.declared.answer.Answer.the-variants.{WasCut, Noth
 
 -- ---- what a statement asks for, once its labels are put in
 
--- a trap and its reason; an end; or the job as it goes on, the words of the block that it was in, a signal for its own tree, and the
--- block whose lock it must have first
+-- a trap and its reason; an end, and the signals that then found trees; or the job as it goes on, the words of the block that it was in,
+-- a signal for its own tree, and the block whose lock it must have first
 pub data Effect : Type 0 where
   traps : ℕ → Effect
-  exits : Effect
+  exits : List Signal → Effect
   moves : Job → List ℕ → Option Signal → Option ℕ → Effect
 
 abbrev pub trapIf : Bool → ℕ → Effect → Effect
@@ -48,6 +48,11 @@ abbrev pub signalTo : ℕ → Option (List ℕ) → Option Signal
 signalTo a none = none
 signalTo a (some vs) = some (record { label = a; values = vs })
 
+-- a signal that is to be held, if there is one, comes behind those that are
+abbrev pub holdOn : List Signal → Option Signal → List Signal
+holdOn gs none = gs
+holdOn gs (some g) = gs ++ g ∷ []
+
 -- an FD block of another thread
 unfoldable pub alien : Row → ℕ → Bool
 alien r t = eqb (r .kind) fdCode && not (eqb (r .thread) t)
@@ -55,27 +60,29 @@ alien r t = eqb (r .kind) fdCode && not (eqb (r .thread) t)
 -- of a label they are told the block, and of a block the row of the table. RETURN with no return label: reason 2; direct SEND or CALL
 -- to an FD block of another thread: reason 5
 module _ (block : ℕ → ℕ) (row : ℕ → Row) where
-  abbrev pub onward : ℕ → List ℕ → ℕ → Going → Option ℕ → Effect
-  onward l returns a g want = moves (job l returns (g .cells .registers)) (g .cells .words) (signalTo a (g .sent)) want
+  abbrev pub onward : ℕ → List ℕ → List Signal → ℕ → Going → Option ℕ → Effect
+  onward l returns gs a g want =
+      moves (withHeld (holdOn gs (signalTo a (g .held))) (job l returns (g .cells .registers))) (g .cells .words) (signalTo a (g .sent)) want
 
-  abbrev pub steer : ℕ → ℕ → ℕ → Going → Next → List ℕ → Effect
-  steer t a b g onA rs = onward a rs a g none
-  steer t a b g onB rs = onward b rs a g none
-  steer t a b g intoA rs = trapIf (alien (row (block a)) t) foreignFdBlockCode (onward a rs a g (some (block a)))
-  steer t a b g callA rs = trapIf (alien (row (block a)) t) foreignFdBlockCode (onward a (rs ++ b ∷ []) a g (some (block a)))
-  steer t a b g back [] = traps noReturnLabelCode
-  steer t a b g back (r ∷ rs) = onward (newest r rs) (older r rs) a g none
+  abbrev pub steer : ℕ → ℕ → ℕ → List Signal → Going → Next → List ℕ → Effect
+  steer t a b gs g onA rs = onward a rs gs a g none
+  steer t a b gs g onB rs = onward b rs gs a g none
+  steer t a b gs g intoA rs = trapIf (alien (row (block a)) t) foreignFdBlockCode (onward a rs gs a g (some (block a)))
+  steer t a b gs g callA rs = trapIf (alien (row (block a)) t) foreignFdBlockCode (onward a (rs ++ b ∷ []) gs a g (some (block a)))
+  steer t a b gs g back [] = traps noReturnLabelCode
+  steer t a b gs g back (r ∷ rs) = onward (newest r rs) (older r rs) gs a g none
 
-  abbrev pub resolve : ℕ → List ℕ → ℕ → ℕ → Got Outcome → Effect
-  resolve t rs a b (trap r) = traps r
-  resolve t rs a b (got ends) = exits
-  resolve t rs a b (got (goes g)) = steer t a b g (g .next) rs
+  abbrev pub resolve : ℕ → List ℕ → List Signal → ℕ → ℕ → Got Outcome → Effect
+  resolve t rs gs a b (trap r) = traps r
+  resolve t rs gs a b (got ends) = exits gs
+  resolve t rs gs a b (got (goes g)) = steer t a b gs g (g .next) rs
 
 abbrev pub view : Job → List ℕ → ℕ → View
 view j words pending = record {
   cells = record { registers = j .registers; words = words };
   depth = length (j .returns);
   pending = pending;
+  held = length (j .held);
 }
 
 -- ---- what the rules go by
@@ -97,7 +104,8 @@ blockAt image l = blockField (recordAt image l)
 unfoldable pub actBy : List ℕ → List ℕ → ℕ → Job → List ℕ → ℕ → Effect
 actBy image table t j words pending =
     let r = recordAt image (j .label) in
-    resolve (blockAt image) (rowAt table) t (j .returns) (labelA r) (labelB r) (outcome (view j words pending) (statementOf r) (dataOf r))
+    resolve (blockAt image) (rowAt table) t (j .returns) (j .held) (labelA r) (labelB r)
+    (outcome (view j words pending) (statementOf r) (dataOf r))
 
 abbrev pub roomFor : List ℕ → ℕ → Bool
 roomFor threads t = ltb (length threads) treeCount
@@ -126,6 +134,7 @@ pub data Plan : Type 0 where
   grow : Tree → Plan
   move : ℕ → Move → Plan
   finish : ℕ → Answer → Plan
+  leave : ℕ → List Signal → Plan
 
 pub record Reply : Type 0 where
   pub state : Machine
@@ -143,14 +152,14 @@ abbrev pub pendingOf : Option (List Signal) → List Signal
 pendingOf none = []
 pendingOf (some p) = p
 
--- step, running thread: a buffered signal goes to the end of the job's own tree
+-- step, running thread: a buffered signal goes to the end of the job's own tree; a trap drops the signals that the job held
 unfoldable pub planRunning : ℕ → ℕ → List Signal → Effect → Plan
 planRunning t b p (traps r) = finish t (Trapped r)
-planRunning t b p exits = finish t Exited
+planRunning t b p (exits gs) = leave t gs
 planRunning t b p (moves j words g want) =
     move t (record { job = j; write = some (b, words); pending = p ++ added g; want = want; answer = Moved })
 
--- cut: code 9; on an idle thread code 10, no change
+-- cut: code 9, and the signals that the job held are dropped; on an idle thread code 10, no change
 unfoldable pub planCut : ℕ → ThreadState → Plan
 planCut t idle = stay NothingToCut
 planCut t (running locks j) = finish t WasCut
@@ -179,9 +188,13 @@ module _ (R : Rules) where
   abbrev pub founded : Signal → Tree
   founded g = record { thread = home g; pending = g ∷ [] }
 
+  -- is there room for a tree with this signal beside these trees?
+  abbrev pub admits : List Tree → Signal → Bool
+  admits l g = R .room (treeThreads l) (home g)
+
   -- arrival: no room, code 2, no change; otherwise a tree with this signal
   unfoldable pub planArrive : Signal → List Tree → Plan
-  planArrive g l = cond (R .room (treeThreads l) (home g)) (grow (founded g)) (stay ListFull)
+  planArrive g l = cond (admits l g) (grow (founded g)) (stay ListFull)
 
   -- step, idle thread: empty queue, code 3; otherwise the first tree's oldest signal is taken, if its block's lock can be
   unfoldable pub planIdle : ℕ → Option (List Signal) → Plan
@@ -238,6 +251,20 @@ module _ (R : Rules) where
     trees = put t none (s .trees) ++ requeued (first t (s .trees));
   }
 
+  -- a signal that a job held founds a tree at the list's end, if there is room, and is lost otherwise; the next one finds the list as
+  -- this one left it
+  abbrev pub admit : Signal → Machine → Machine
+  admit g s = cond (admits (s .trees) g) (grown (founded g) s) s
+
+  unfoldable pub admitted : List Signal → Machine → Machine
+  admitted [] s = s
+  admitted (g ∷ gs) s = admitted gs (admit g s)
+
+  -- how many of them are lost
+  unfoldable pub lost : List Signal → Machine → ℕ
+  lost [] s = 0
+  lost (g ∷ gs) s = cond (admits (s .trees) g) 0 1 + lost gs (admit g s)
+
   -- waiting changes nothing
   unfoldable pub attempt : ℕ → Move → Machine → Option ℕ → Reply
   attempt t m s none = record { state = applied t m s; answer = m .answer }
@@ -248,6 +275,7 @@ module _ (R : Rules) where
   carry s (grow x) = record { state = grown x s; answer = Taken }
   carry s (move t m) = attempt t m s (blocked t (s .threads) (m .want))
   carry s (finish t a) = record { state = finished t s; answer = a }
+  carry s (leave t gs) = record { state = admitted gs (finished t s); answer = Exited (lost gs (finished t s)) }
 
   unfoldable pub react : Machine → Event → Reply
   react s e = carry s (plan s e)

@@ -1,13 +1,13 @@
 -- "Well formed": which state bytes a call accepts. The sentences of docs/MACHINE.md in their order.
 use mathlib.Core.Bool.{Bool, true, false, cond, _&&_, _||_}
 use mathlib.Core.List.{List, [], _∷_}
-use Prim.Native.Nat.{ℕ, _+_, _*_, _-_, _^_}
+use Prim.Native.Nat.{ℕ, suc, _+_, _*_, _-_, _^_}
 use lib.Bits.{bitAnd}
 use lib.ListN.{getD, drop}
 use lib.Dec.{eqb, leb, ltb}
-use Rattle.rules.specs.Sizes.{threadCount, registerCount, returnCount, treeCount, pendingCount, idleLabel, locksPlace}
-use Rattle.rules.specs.Sizes.{returnCountPlace, returnsPlace, presencePlace, registersPlace, threadSize, valueCountPlace}
-use Rattle.rules.specs.Sizes.{valuesPlace, signalSize, pendingCountPlace, signalsPlace, treeSize, threadsPlace, treeCountPlace}
+use Rattle.rules.specs.Sizes.{threadCount, registerCount, returnCount, heldCount, treeCount, pendingCount, idleLabel, locksPlace}
+use Rattle.rules.specs.Sizes.{returnCountPlace, returnsPlace, presencePlace, registersPlace, heldCountPlace, threadSize}
+use Rattle.rules.specs.Sizes.{valueCountPlace, valuesPlace, signalSize, pendingCountPlace, treeSize, threadsPlace, treeCountPlace}
 use Rattle.rules.specs.Sizes.{treesPlace}
 use Rattle.rules.specs.Codes.{bufferedCode, externalCode, cmxCode}
 use Rattle.rules.specs.Bytes.{num16, num32, part, isZeros, has, allFrom, every}
@@ -22,8 +22,25 @@ use Rattle.rules.specs.Steps.{blockAt}
 unfoldable pub absentZero : List ℕ → ℕ → Bool
 absentZero b r = has r (num32 (drop presencePlace b)) || eqb (num16 (drop (registersPlace + 2 * r) b)) 0
 
+-- a signal: at most 25 values, zeros in the place of others
+unfoldable pub signalTidy : List ℕ → Bool
+signalTidy b =
+    leb (getD b valueCountPlace 0) registerCount
+    && isZeros (part b (valuesPlace + 2 * getD b valueCountPlace 0) (2 * (registerCount - getD b valueCountPlace 0)))
+
+-- signal i of those whose count stands at a place
+unfoldable pub signalAtTidy : ℕ → List ℕ → ℕ → Bool
+signalAtTidy place b i = signalTidy (drop (suc place + signalSize * i) b)
+
+-- at most n signals from the place of their count on, zeros in the place of others
+unfoldable pub signalsTidy : ℕ → ℕ → List ℕ → Bool
+signalsTidy n place b =
+    leb (getD b place 0) n
+    && allFrom (signalAtTidy place b) 0 (getD b place 0)
+    && isZeros (part b (suc place + signalSize * getD b place 0) (signalSize * (n - getD b place 0)))
+
 -- a thread record: an idle thread's other fields are all zero; otherwise at most 8 return labels, zeros in the place of others, presence
--- bits 0 to 24 only
+-- bits 0 to 24 only, and at most 4 held signals
 unfoldable pub runningTidy : List ℕ → Bool
 runningTidy b =
     leb (getD b returnCountPlace 0) returnCount
@@ -32,23 +49,13 @@ runningTidy b =
     && allFrom (absentZero b) 0 registerCount
 
 unfoldable pub threadTidy : List ℕ → Bool
-threadTidy b = cond (eqb (num16 b) idleLabel) (isZeros (part b locksPlace (threadSize - locksPlace))) (runningTidy b)
-
--- a signal: at most 25 values, zeros in the place of others
-unfoldable pub signalTidy : List ℕ → Bool
-signalTidy b =
-    leb (getD b valueCountPlace 0) registerCount
-    && isZeros (part b (valuesPlace + 2 * getD b valueCountPlace 0) (2 * (registerCount - getD b valueCountPlace 0)))
-
-unfoldable pub signalAtTidy : List ℕ → ℕ → Bool
-signalAtTidy b i = signalTidy (drop (signalsPlace + signalSize * i) b)
+threadTidy b =
+    cond (eqb (num16 b) idleLabel) (isZeros (part b locksPlace (threadSize - locksPlace)))
+    (runningTidy b && signalsTidy heldCount heldCountPlace b)
 
 -- a tree record: at most 8 pending signals, zeros in the place of others
 unfoldable pub treeTidy : List ℕ → Bool
-treeTidy b =
-    leb (getD b pendingCountPlace 0) pendingCount
-    && allFrom (signalAtTidy b) 0 (getD b pendingCountPlace 0)
-    && isZeros (part b (signalsPlace + signalSize * getD b pendingCountPlace 0) (signalSize * (pendingCount - getD b pendingCountPlace 0)))
+treeTidy b = signalsTidy pendingCount pendingCountPlace b
 
 unfoldable pub threadAtTidy : List ℕ → ℕ → Bool
 threadAtTidy state t = threadTidy (drop (threadsPlace + threadSize * t) state)
@@ -82,9 +89,13 @@ module _ (image table : List ℕ) where
       let r = rowAt table (blockAt image l) in
       ltb l (labels image) && has (r .lock) locks && openTo r t
 
+  -- a held signal's label is below n and has entry 2
+  unfoldable pub heldOk : Signal → Bool
+  heldOk g = eqb (entry (recordAt image (g .label))) bufferedCode
+
   unfoldable pub threadOk : ℕ → ThreadState → Bool
   threadOk t idle = true
-  threadOk t (running locks j) = every (placeOk t locks) (j .label ∷ j .returns)
+  threadOk t (running locks j) = every (placeOk t locks) (j .label ∷ j .returns) && every heldOk (j .held)
 
   -- threads t, t + 1, ..
   unfoldable pub threadsOk : ℕ → List ThreadState → Bool

@@ -8,7 +8,8 @@ pub enum Answer {
     Waiting(Lock),
     Started,
     Moved,
-    Exited,
+    // How many held signals were lost.
+    Exited(u8),
     Trapped(u8),
     WasCut,
     NothingToCut,

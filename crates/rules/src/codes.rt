@@ -22,6 +22,8 @@ pub const TRANSFER: u8 = 9;
 
 pub const EXIT: u8 = 10;
 
+pub const SEND_TREE: u8 = 11;
+
 // Operators of ASSIGN, and of IF.
 pub const COPY: u8 = 1;
 
@@ -90,6 +92,8 @@ pub const RETURNS_FULL: u8 = 3;
 pub const PENDING_FULL: u8 = 4;
 
 pub const FOREIGN_FD_BLOCK: u8 = 5;
+
+pub const HELD_FULL: u8 = 6;
 
 // Numbers of a refusal.
 pub const BAD_IMAGE_LENGTH: u32 = 1;

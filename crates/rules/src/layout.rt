@@ -35,7 +35,14 @@ pub const ROW_SIZE: usize = 2;
 
 pub const TABLE_SIZE: usize = ROW_SIZE * Block::COUNT;
 
-// A thread record: label, lock set, return count, return labels, presence set, register values.
+// A signal: label, value count, values.
+pub const VALUE_COUNT_PLACE: usize = 2;
+
+pub const VALUES_PLACE: usize = 3;
+
+pub const SIGNAL_SIZE: usize = VALUES_PLACE + 2 * Thread::REGISTERS;
+
+// A thread record: label, lock set, return count, return labels, presence set, register values, held count, held signals.
 pub const LOCKS_PLACE: usize = 2;
 
 pub const RETURN_COUNT_PLACE: usize = 4;
@@ -46,14 +53,11 @@ pub const PRESENCE_PLACE: usize = RETURNS_PLACE + 2 * Thread::RETURNS;
 
 pub const REGISTERS_PLACE: usize = PRESENCE_PLACE + 4;
 
-pub const THREAD_SIZE: usize = REGISTERS_PLACE + 2 * Thread::REGISTERS;
+pub const HELD_COUNT_PLACE: usize = REGISTERS_PLACE + 2 * Thread::REGISTERS;
 
-// A signal: label, value count, values.
-pub const VALUE_COUNT_PLACE: usize = 2;
+pub const HELD_PLACE: usize = HELD_COUNT_PLACE + 1;
 
-pub const VALUES_PLACE: usize = 3;
-
-pub const SIGNAL_SIZE: usize = VALUES_PLACE + 2 * Thread::REGISTERS;
+pub const THREAD_SIZE: usize = HELD_PLACE + SIGNAL_SIZE * Thread::HELD;
 
 // A tree record: thread, pending count, signals, the oldest first.
 pub const PENDING_COUNT_PLACE: usize = 1;

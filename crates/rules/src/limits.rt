@@ -23,6 +23,9 @@ impl Thread {
     pub const REGISTERS: usize = 25;
 
     pub const RETURNS: usize = 8;
+
+    // Signals that a job holds for new trees.
+    pub const HELD: usize = 4;
 }
 
 impl Block {

@@ -1,4 +1,4 @@
-// Statements as they are decoded from a record of the image. The labels A and B, and the data operands of opcodes 5 to 9, stay in
+// Statements as they are decoded from a record of the image. The labels A and B, and the data operands of the signals and RETURN, stay in
 // the record: a statement says what is done, not where it leads.
 
 // A number, a register of the thread or a shared word of the record's own block.
@@ -53,10 +53,12 @@ pub enum Statement {
     Return,
     Transfer,
     Exit,
+    // SEND .. JOBTREE: the signal founds a new tree.
+    SendTree,
 }
 
 // What a statement uses a label for: to go on to, or to return to (Inner); as the signal of a direct SEND or a CALL, of a TRANSFER, or
-// of a buffered SEND; or not at all.
+// of a SEND that is buffered or founds a tree; or not at all.
 pub enum Role {
     Unused,
     Inner,
