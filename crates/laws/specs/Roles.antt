@@ -5,7 +5,7 @@ use mathlib.Core.Bool.{Bool, true, false}
 use mathlib.Core.Option.{Option, none, some}
 use mathlib.Core.List.{List}
 use Prim.Native.Nat.{ℕ}
-use Rattle.rules.specs.Statements.{Way, following, branching, transferring, entering, posting, calling, returning, ending, way, wayA}
+use Rattle.rules.specs.Statements.{Way, following, branching, transferring, entering, posting, founding, calling, returning, ending, way, wayA}
 use Rattle.rules.specs.Statements.{wayB, roleA, roleB, reads}
 use Rattle.rules.specs.Effects.{Got, trap, got, then, unless, Cells, readAll, Next, onA, onB, intoA, callA, back, Outcome, ends, goes}
 use Rattle.rules.specs.Effects.{View, leave, overflow, worked, chosen, perform, outcome}
@@ -22,7 +22,7 @@ Leads x y intoA = x ≡ Direct
 Leads x y callA = (x ≡ Direct) × (y ≡ Inner)
 Leads x y back = Unit {0}
 
--- and what it sends to A for the job's own tree
+-- and what it sends to A, for the job's own tree or to hold for a new one
 abbrev pub Sends : Role → Option (List ℕ) → Type 0
 Sends x none = Unit {0}
 Sends x (some vs) = x ≡ Buffered
@@ -30,7 +30,7 @@ Sends x (some vs) = x ≡ Buffered
 abbrev pub Refers : Role → Role → Got Outcome → Type 0
 Refers x y (trap r) = Unit {0}
 Refers x y (got ends) = Unit {0}
-Refers x y (got (goes g)) = Leads x y (g .next) × Sends x (g .sent)
+Refers x y (got (goes g)) = Leads x y (g .next) × Sends x (g .sent) × Sends x (g .held)
 
 module _ (x y : Role) where
   unless-refers : (c : Option ℕ) (o : Got Outcome) → Refers x y o → Refers x y (unless c o)
@@ -42,14 +42,15 @@ module _ (x y : Role) where
   then-refers (got a) f h = h a
 
 leave-refers : (w : Way) (c : Bool) (vs : List ℕ) (d : Cells) → Refers (wayA w) (wayB w) (got (leave w c vs d))
-leave-refers following c vs d = (inl refl, tt)
-leave-refers branching true vs d = (inl refl, tt)
-leave-refers branching false vs d = (refl, tt)
-leave-refers transferring c vs d = (inr refl, tt)
-leave-refers entering c vs d = (refl, tt)
-leave-refers posting c vs d = (refl, refl)
-leave-refers calling c vs d = ((refl, refl), tt)
-leave-refers returning c vs d = (tt, tt)
+leave-refers following c vs d = (inl refl, tt, tt)
+leave-refers branching true vs d = (inl refl, tt, tt)
+leave-refers branching false vs d = (refl, tt, tt)
+leave-refers transferring c vs d = (inr refl, tt, tt)
+leave-refers entering c vs d = (refl, tt, tt)
+leave-refers posting c vs d = (refl, refl, tt)
+leave-refers founding c vs d = (refl, tt, refl)
+leave-refers calling c vs d = ((refl, refl), tt, tt)
+leave-refers returning c vs d = (tt, tt, tt)
 leave-refers ending c vs d = tt
 
 perform-refers : (v : View) (s : Statement) (vs : List ℕ) → Refers (roleA s) (roleB s) (perform v s vs)
