@@ -23,7 +23,7 @@ use Rattle.laws.specs.Logic.{and-both, both-hold}
 use Rattle.fields.specs.Tests.{zeros-part}
 use Rattle.encoding.specs.Runs.{length-chunks, blocks-chunks, byte-forth, glue}
 use Rattle.encoding.specs.Numbers.{AreBytes, bytes-drop}
-use Rattle.encoding.specs.Trees.{no-signal, signal-back, signal-forth, signal-sized}
+use Rattle.encoding.specs.Signals.{no-signal, signal-back, signal-forth, signal-sized}
 
 -- an arrival's signal has at most 25 values
 abbrev pub SizedEvent : Event → Type 0

@@ -6,6 +6,7 @@ pub mod Runs
 pub mod Numbers
 pub mod Registers
 pub mod Slots
+pub mod Signals
 pub mod Threads
 pub mod Trees
 pub mod Layout

@@ -16,7 +16,8 @@ use Rattle.fields.specs.Filled.{removeAt, blocks-push, blocks-remove}
 use Rattle.encoding.specs.Sized.{SizedSignal, SizedTree}
 use Rattle.encoding.specs.Lengths.{length-signal, length-tree}
 use Rattle.encoding.specs.Layout.{tree-on}
-use Rattle.encoding.specs.Trees.{no-signal, signal-back, signal-at, tree-thread-back, pending-back}
+use Rattle.encoding.specs.Signals.{no-signal, signal-back}
+use Rattle.encoding.specs.Trees.{signal-at, tree-thread-back, pending-back}
 use Rattle.encoding.specs.TreeStores.{withTrees, tree-open, tree-close, tree-put, tree-part}
 
 -- a tree with one more signal, a tree without its oldest one, and a tree on another thread

@@ -8,18 +8,21 @@ use lib.Dec.{eqb, leb, ltb}
 use lib.ListN.{length, getD, take, drop, replicate, length-drop}
 use lib.Seq.{drop-at, drop-drop, getD-drop, take-all}
 use borrow.Author.Tests.{eqb-true, eqb-false, ne-eqb, leb-true, le-leb, ltb-true, lt-ltb}
-use Rattle.rules.specs.Sizes.{registerCount, returnCount, idleLabel, locksPlace, returnCountPlace, returnsPlace, presencePlace}
-use Rattle.rules.specs.Sizes.{registersPlace, threadSize}
+use Rattle.rules.specs.Sizes.{registerCount, returnCount, heldCount, idleLabel, locksPlace, returnCountPlace, returnsPlace}
+use Rattle.rules.specs.Sizes.{presencePlace, registersPlace, heldCountPlace, threadSize}
 use Rattle.rules.specs.Bytes.{num16, num32, le16, le32, part, isZeros, blocks, pad, chunks, allFrom}
 use Rattle.rules.specs.Machine.{Job, ThreadState, idle, running}
-use Rattle.rules.specs.Encoding.{presence, valueOr0, registersFrom, threadRaw, threadBytes, jobFrom, threadFrom}
-use Rattle.rules.specs.WellFormed.{absentZero, runningTidy, threadTidy}
+use Rattle.rules.specs.Encoding.{signalBytes, signalsBytes, signalsFrom, presence, valueOr0, registersFrom, threadRaw, threadBytes, jobFrom}
+use Rattle.rules.specs.Encoding.{threadFrom}
+use Rattle.rules.specs.WellFormed.{absentZero, runningTidy, signalsTidy, threadTidy}
 use Rattle.fields.specs.Runs.{all-at, all-holds}
 use Rattle.fields.specs.Put.{part-at, part-drop}
 use Rattle.fields.specs.Tests.{are-zeros, zeros-part}
 use Rattle.fields.specs.Blocks.{blocks-append, length-blocks, length-pad, pad-full, pad-split}
 use Rattle.encoding.specs.Sized.{SizedJob, SizedThread}
 use Rattle.laws.specs.Logic.{and-both, both-hold}
+use Rattle.encoding.specs.Lengths.{length-raw}
+use Rattle.encoding.specs.Signals.{signals-back, signals-forth, signals-sized, signals-tidy}
 use Rattle.encoding.specs.Runs.{length-chunks, chunks-at, padded-forth, padded-tail, byte-forth, glue}
 use Rattle.encoding.specs.Numbers.{num16-le16, num32-le32, nums-back, AreBytes, bytes-drop, num16-forth, num-forth, num32-forth}
 use Rattle.encoding.specs.Numbers.{nums-forth}
@@ -28,65 +31,78 @@ use Rattle.encoding.specs.Registers.{absent-zero}
 
 -- ---- written, and read back
 
+-- the bytes of a running thread but for the signals that it holds
+abbrev rawOf : ℕ → Job → List ℕ
+rawOf locks j = threadRaw (j .label) locks (length (j .returns)) (j .returns) (presence (j .registers)) (map valueOr0 (j .registers))
+
+heldAfter : Job → List ℕ → List ℕ
+heldAfter j q = signalsBytes heldCount (j .held) ++ q
+
+whole : (locks : ℕ) (j : Job) (q : List ℕ) → threadBytes (running locks j) ++ q ≡ rawOf locks j ++ heldAfter j q
+unfolding threadBytes heldAfter
+whole locks j q = append-assoc (rawOf locks j) (signalsBytes heldCount (j .held)) q
+
 after : Job → List ℕ → List ℕ
 after j q = le32 (presence (j .registers)) ++ blocks le16 (pad 0 registerCount (map valueOr0 (j .registers))) ++ q
 
 -- a running thread's record from its return labels on
-returns-on : (locks : ℕ) (j : Job) (q : List ℕ) → drop 5 (threadBytes (running locks j) ++ q)
+returns-on : (locks : ℕ) (j : Job) (q : List ℕ) → drop 5 (rawOf locks j ++ q)
     ≡ blocks le16 (pad 0 returnCount (j .returns)) ++ after j q
-unfolding threadBytes threadRaw after
+unfolding threadRaw after
 returns-on locks j q = append-assoc (blocks le16 (pad 0 returnCount (j .returns)))
     (le32 (presence (j .registers)) ++ blocks le16 (pad 0 registerCount (map valueOr0 (j .registers)))) q
 
-present-on : (locks : ℕ) (j : Job) (q : List ℕ) → drop 21 (threadBytes (running locks j) ++ q) ≡ after j q
+present-on : (locks : ℕ) (j : Job) (q : List ℕ) → drop 21 (rawOf locks j ++ q) ≡ after j q
 present-on locks j q =
     let r : List ℕ = blocks le16 (pad 0 returnCount (j .returns)) in
     let m : length r ≡ 2 * returnCount = length-blocks le16 2 (λ x. refl) (pad 0 returnCount (j .returns))
     ∙ rw (length-pad 0 returnCount (j .returns)) in
-    sym (drop-drop (2 * returnCount) returnsPlace (threadBytes (running locks j) ++ q))
+    sym (drop-drop (2 * returnCount) returnsPlace (rawOf locks j ++ q))
     ∙ ap (drop (2 * returnCount)) (returns-on locks j q) ∙ drop-at r (after j q) (2 * returnCount) m
 
-values-on : (locks : ℕ) (j : Job) (q : List ℕ) → drop registersPlace (threadBytes (running locks j) ++ q)
+values-on : (locks : ℕ) (j : Job) (q : List ℕ) → drop registersPlace (rawOf locks j ++ q)
     ≡ blocks le16 (pad 0 registerCount (map valueOr0 (j .registers))) ++ q
 unfolding after
-values-on locks j q = sym (drop-drop 4 21 (threadBytes (running locks j) ++ q)) ∙ ap (drop 4) (present-on locks j q)
+values-on locks j q = sym (drop-drop 4 21 (rawOf locks j ++ q)) ∙ ap (drop 4) (present-on locks j q)
 
-label-back : (locks : ℕ) (j : Job) (q : List ℕ) → num16 (threadBytes (running locks j) ++ q) ≡ j .label
-unfolding threadBytes threadRaw
+label-back : (locks : ℕ) (j : Job) (q : List ℕ) → num16 (rawOf locks j ++ q) ≡ j .label
+unfolding threadRaw
 label-back locks j q = num16-le16 (j .label) _
 
-locks-back : (locks : ℕ) (j : Job) (q : List ℕ) → num16 (drop 2 (threadBytes (running locks j) ++ q)) ≡ locks
-unfolding threadBytes threadRaw
+locks-back : (locks : ℕ) (j : Job) (q : List ℕ) → num16 (drop 2 (rawOf locks j ++ q)) ≡ locks
+unfolding threadRaw
 locks-back locks j q = num16-le16 locks _
 
-count-back : (locks : ℕ) (j : Job) (q : List ℕ) → getD (threadBytes (running locks j) ++ q) 4 0 ≡ length (j .returns)
-unfolding threadBytes threadRaw
+count-back : (locks : ℕ) (j : Job) (q : List ℕ) → getD (rawOf locks j ++ q) 4 0 ≡ length (j .returns)
+unfolding threadRaw
 count-back locks j q = refl
 
-present-back : (locks : ℕ) (j : Job) (q : List ℕ) → num32 (drop 21 (threadBytes (running locks j) ++ q)) ≡ presence (j .registers)
+present-back : (locks : ℕ) (j : Job) (q : List ℕ) → num32 (drop 21 (rawOf locks j ++ q)) ≡ presence (j .registers)
 unfolding after
 present-back locks j q = rw present-on
     (num32-le32 (presence (j .registers)) (blocks le16 (pad 0 registerCount (map valueOr0 (j .registers))) ++ q))
 
 values-back : (locks : ℕ) (j : Job) (q : List ℕ) → SizedJob j
-    → chunks num16 2 registerCount (drop registersPlace (threadBytes (running locks j) ++ q)) ≡ map valueOr0 (j .registers)
+    → chunks num16 2 registerCount (drop registersPlace (rawOf locks j ++ q)) ≡ map valueOr0 (j .registers)
 values-back locks j q z =
     let vs : List ℕ = map valueOr0 (j .registers) in
     let n : length vs ≡ registerCount = length-values (j .registers) ∙ z .registers in
     rw (values-on, pad-full 0 registerCount vs n) (nums-back registerCount vs q n)
 
 job-back : (locks : ℕ) (j : Job) → SizedJob j → (q : List ℕ) → jobFrom (threadBytes (running locks j) ++ q) ≡ j
-unfolding jobFrom
+unfolding jobFrom heldAfter
 job-back locks j z q =
-    let b : List ℕ = threadBytes (running locks j) ++ q in
-    let n : getD (drop 4 b) 0 0 ≡ length (j .returns) = getD-drop 4 b 0 0 ∙ count-back locks j q in
+    let b : List ℕ = rawOf locks j ++ heldAfter j q in
+    let n : getD (drop 4 b) 0 0 ≡ length (j .returns) = getD-drop 4 b 0 0 ∙ count-back locks j (heldAfter j q) in
     let c : chunks num16 2 (getD (drop 4 b) 0 0) (drop 5 b) ≡ j .returns =
     rw (n, returns-on, pad-split 0 returnCount (j .returns) (z .returns), blocks-append, append-assoc (blocks le16 (j .returns)))
     (nums-back (length (j .returns)) (j .returns) _ refl) in
     let f : registersFrom (num32 (drop 21 b)) (chunks num16 2 registerCount (drop registerCount b)) 0 registerCount ≡ j .registers =
-    rw (present-back, values-back locks j q z, ← z .registers)
+    rw (present-back, values-back locks j (heldAfter j q) z, ← z .registers)
     (registers-back (j .registers) (presence (j .registers)) (map valueOr0 (j .registers)) 0 (omega arith) refl) in
-    λ i. record { label = label-back locks j q i; returns = c i; registers = f i }
+    let g : signalsFrom heldCountPlace b ≡ j .held =
+    signals-back heldCount (j .held) (z .held) (rawOf locks j) q heldCountPlace (sym (length-raw _ _ _ _ _ _)) in
+    rw (whole locks j q) (λ i. record { label = label-back locks j (heldAfter j q) i; returns = c i; registers = f i; held = g i })
 
 idle-back : (q : List ℕ) → num16 (threadBytes idle ++ q) ≡ idleLabel
 unfolding threadBytes threadRaw
@@ -94,13 +110,14 @@ idle-back q = num16-le16 idleLabel _
 
 -- an idle thread's other fields are all zero
 idle-raw : threadBytes idle ≡ le16 idleLabel ++ replicate (threadSize - locksPlace) 0
-unfolding threadBytes threadRaw blocks pad
+unfolding threadBytes threadRaw signalBytes blocks pad
 idle-raw = refl
 
 pub thread-back : (w : ThreadState) → SizedThread w → (q : List ℕ) → threadFrom (threadBytes w ++ q) ≡ w
 unfolding threadFrom
 thread-back idle z q = rw idle-back
-thread-back (running locks j) z q = rw (label-back, ne-eqb (j .label) idleLabel (z .label), locks-back, job-back locks j z q)
+thread-back (running locks j) z q =
+    rw (job-back locks j z q, whole locks j q, label-back, ne-eqb (j .label) idleLabel (z .label), locks-back)
 
 -- ---- bytes that pass the tests
 
@@ -149,14 +166,15 @@ raw-forth : (b : List ℕ) (label locks count : ℕ) (returns : List ℕ) (prese
     → le16 locks ≡ part b 2 2
     → count ∷ [] ≡ part b returnCountPlace 1 → blocks le16 (pad 0 returnCount returns) ≡ part b returnsPlace (2 * returnCount)
     → le32 present ≡ part b presencePlace 4 → blocks le16 (pad 0 registerCount values) ≡ part b registersPlace (2 * registerCount)
-    → threadRaw label locks count returns present values ≡ part b 0 threadSize
+    → threadRaw label locks count returns present values ≡ part b 0 heldCountPlace
 unfolding threadRaw
 raw-forth b label locks count returns present values e₁ e₂ e₃ e₄ e₅ e₆ =
-    glue b 0 locksPlace (threadSize - locksPlace) _ _ e₁ (glue b locksPlace 2 (threadSize - returnCountPlace) _ _ e₂
-    (glue b returnCountPlace 1 (threadSize - returnsPlace) _ _ e₃
-    (glue b returnsPlace (2 * returnCount) (threadSize - presencePlace) _ _ e₄ (glue b presencePlace 4 (2 * registerCount) _ _ e₅ e₆))))
+    glue b 0 locksPlace (heldCountPlace - locksPlace) _ _ e₁ (glue b locksPlace 2 (heldCountPlace - returnCountPlace) _ _ e₂
+    (glue b returnCountPlace 1 (heldCountPlace - returnsPlace) _ _ e₃
+    (glue b returnsPlace (2 * returnCount) (heldCountPlace - presencePlace) _ _ e₄ (glue b presencePlace 4 (2 * registerCount) _ _ e₅ e₆))))
 
-module _ (b : List ℕ) (h : AreBytes b) (l : threadSize ≤ length b) (o : RunningRead b) where
+module _ (b : List ℕ) (h : AreBytes b) (l : threadSize ≤ length b) (o : RunningRead b)
+    (t : signalsTidy heldCount heldCountPlace b ≡ true) where
   returns-forth : blocks le16 (pad 0 returnCount (jobFrom b .returns)) ≡ part b returnsPlace (2 * returnCount)
   unfolding jobFrom part
   returns-forth =
@@ -175,13 +193,16 @@ module _ (b : List ℕ) (h : AreBytes b) (l : threadSize ≤ length b) (o : Runn
       let v : pad 0 registerCount (map valueOr0 (jobFrom b .registers)) ≡ chunks num16 2 registerCount (drop registerCount b) =
       ap (pad 0 registerCount) (registers-forth b o)
       ∙ pad-full 0 registerCount _ (length-chunks num16 2 registerCount (drop registerCount b)) in
-      raw-forth b _ _ _ _ _ _ (label-forth (num-forth b 0 h (omega arith))) (num-forth b 2 h (omega arith))
+      glue b 0 heldCountPlace (threadSize - heldCountPlace) _ _ (raw-forth b _ _ _ _ _ _ (label-forth (num-forth b 0 h (omega arith))) (num-forth b 2 h (omega arith))
       (ap (λ n. n ∷ []) length-returns ∙ byte-forth b 4 (omega arith)) returns-forth
       (ap le32 (present-forth b o) ∙ num32-forth b presencePlace h (omega arith)) (ap (blocks le16) v
-      ∙ nums-forth b registersPlace registerCount (2 * registerCount) h (omega arith) refl)
+      ∙ nums-forth b registersPlace registerCount (2 * registerCount) h (omega arith) refl)) held-forth
     where
       label-forth : le16 (num16 b) ≡ part b 0 2 → le16 (jobFrom b .label) ≡ part b 0 2
       label-forth e = unfold jobFrom in e
+
+      held-forth : signalsBytes heldCount (jobFrom b .held) ≡ part b heldCountPlace (threadSize - heldCountPlace)
+      held-forth = unfold jobFrom in signals-forth heldCount heldCountPlace b l t h
 
 idle-forth : (b : List ℕ) → AreBytes b → threadSize ≤ length b → num16 b ≡ idleLabel
     → isZeros (part b locksPlace (threadSize - locksPlace)) ≡ true → threadBytes idle ≡ part b 0 threadSize
@@ -193,51 +214,52 @@ pub thread-forth : (b : List ℕ) → AreBytes b → threadSize ≤ length b →
 unfolding threadFrom threadTidy part
 thread-forth b h l e = go (eqb (num16 b) idleLabel) refl e
   where
-    go : (c : Bool) → eqb (num16 b) idleLabel ≡ c → cond c (isZeros (part b locksPlace (threadSize - locksPlace))) (runningTidy b) ≡ true
+    go : (c : Bool) → eqb (num16 b) idleLabel ≡ c → cond c (isZeros (part b locksPlace (threadSize - locksPlace))) (runningTidy b && signalsTidy heldCount heldCountPlace b) ≡ true
         → threadBytes (cond c idle (running (num16 (drop 2 b)) (jobFrom b))) ≡ part b 0 threadSize
     go true p t = idle-forth b h l (eqb-true (num16 b) idleLabel p) t
-    go false p t = running-forth b h l (running-read b l t)
+    go false p t = let u = and-both (runningTidy b) _ t in running-forth b h l (running-read b l (u .0)) (u .1)
 
 pub thread-sized : (b : List ℕ) → threadSize ≤ length b → threadTidy b ≡ true → SizedThread (threadFrom b)
 unfolding threadFrom threadTidy
 thread-sized b l e = go (eqb (num16 b) idleLabel) refl e
   where
-    job : eqb (num16 b) idleLabel ≡ false → RunningRead b → SizedJob (jobFrom b)
-    job p o = unfold jobFrom in record {
+    job : eqb (num16 b) idleLabel ≡ false → RunningRead b → signalsTidy heldCount heldCountPlace b ≡ true → SizedJob (jobFrom b)
+    job p o t = unfold jobFrom in record {
       label = eqb-false (num16 b) idleLabel p;
       returns = rw (getD-drop 4 b 0 0, length-chunks num16 2 (getD b 4 0) (drop 5 b)) (o .few);
       registers = length-registers (num32 (drop 21 b)) (chunks num16 2 registerCount (drop registerCount b)) 0 registerCount;
+      held = signals-sized heldCount heldCountPlace b l t;
     }
 
-    go : (c : Bool) → eqb (num16 b) idleLabel ≡ c → cond c (isZeros (part b locksPlace (threadSize - locksPlace))) (runningTidy b) ≡ true
+    go : (c : Bool) → eqb (num16 b) idleLabel ≡ c → cond c (isZeros (part b locksPlace (threadSize - locksPlace))) (runningTidy b && signalsTidy heldCount heldCountPlace b) ≡ true
         → SizedThread (cond c idle (running (num16 (drop 2 b)) (jobFrom b)))
     go true p t = tt
-    go false p t = job p (running-read b l t)
+    go false p t = let u = and-both (runningTidy b) _ t in job p (running-read b l (u .0)) (u .1)
 
 -- ---- bytes that are written pass the tests
 
 module _ (locks : ℕ) (j : Job) (z : SizedJob j) (q : List ℕ) where
-  absent-tidy : (r : ℕ) → r < registerCount → absentZero (threadBytes (running locks j) ++ q) r ≡ true
+  absent-tidy : (r : ℕ) → r < registerCount → absentZero (rawOf locks j ++ q) r ≡ true
   unfolding absentZero
   absent-tidy r h =
-      let b : List ℕ = threadBytes (running locks j) ++ q in
+      let b : List ℕ = rawOf locks j ++ q in
       let v : num16 (drop (registerCount + 2 * r) b) ≡ getD (map valueOr0 (j .registers)) r 0 =
       ap num16 (sym (drop-drop (2 * r) registerCount b)) ∙ sym (chunks-at num16 2 registerCount (drop registerCount b) 0 r h)
       ∙ ap (λ l. getD l r 0) (values-back locks j q z) in
       rw (present-back, v) (absent-zero (j .registers) r (omega (arith, z .registers)))
 
-  returns-tidy : isZeros (part (threadBytes (running locks j) ++ q) (5 + 2 * length (j .returns))
+  returns-tidy : isZeros (part (rawOf locks j ++ q) (5 + 2 * length (j .returns))
       (2 * (returnCount - length (j .returns)))) ≡ true
   returns-tidy =
       let n = length (j .returns) in
-      rw (← part-drop (threadBytes (running locks j) ++ q) 5 (2 * n) (2 * (returnCount - n)), returns-on)
+      rw (← part-drop (rawOf locks j ++ q) 5 (2 * n) (2 * (returnCount - n)), returns-on)
       (padded-tail le16 2 (λ x. refl) 0 returnCount (j .returns) [] (after j q) (2 * n) (2 * (returnCount - n)) refl (z .returns)
       (omega arith) refl)
 
-  running-tidy : runningTidy (threadBytes (running locks j) ++ q) ≡ true
+  running-tidy : runningTidy (rawOf locks j ++ q) ≡ true
   unfolding runningTidy
   running-tidy =
-      let b : List ℕ = threadBytes (running locks j) ++ q in
+      let b : List ℕ = rawOf locks j ++ q in
       let n = length (j .returns) in
       let p : presence (j .registers) < 2 ^ registerCount = rw (z .registers) at (presence-lt (j .registers)) in
       rw (count-back, present-back)
@@ -255,4 +277,7 @@ idle-zeros q = rw (
 pub thread-tidy : (w : ThreadState) → SizedThread w → (q : List ℕ) → threadTidy (threadBytes w ++ q) ≡ true
 unfolding threadTidy
 thread-tidy idle z q = rw (idle-back, idle-zeros q)
-thread-tidy (running locks j) z q = rw (label-back, ne-eqb (j .label) idleLabel (z .label), running-tidy locks j z q)
+thread-tidy (running locks j) z q =
+    let t : signalsTidy heldCount heldCountPlace (rawOf locks j ++ heldAfter j q) ≡ true = unfold heldAfter in
+    signals-tidy heldCount (j .held) (z .held) (rawOf locks j) q heldCountPlace (sym (length-raw _ _ _ _ _ _)) in
+    rw (whole locks j q, label-back, ne-eqb (j .label) idleLabel (z .label)) (both-hold _ _ (running-tidy locks j z (heldAfter j q)) t)
