@@ -9,8 +9,8 @@ use lib.ListN.{length, set}
 use Rattle.rules.specs.Sorts
 use Rattle.rules.specs.Machine.{Signal, Job, idle, running, Machine, threadAt, first, put, window, keep, withThread}
 use Rattle.rules.specs.Events.{step}
-use Rattle.rules.specs.Steps.{Rules, Effect, traps, exits, moves, added, planRunning, planStep, plan, held, blocked, finished, attempt}
-use Rattle.rules.specs.Steps.{carry, react}
+use Rattle.rules.specs.Steps.{Rules, Effect, traps, exits, moves, added, planRunning, planStep, plan, held, blocked, finished, admitted, lost}
+use Rattle.rules.specs.Steps.{attempt, carry, react}
 use Rattle.rules.specs.declared.answer.Answer.the-variants.{Waiting, Moved, Exited, Trapped}
 use Rattle.step_laws.specs.Same.{keep-window, put-same}
 use Rattle.step_laws.specs.Events.{reply}
@@ -31,8 +31,9 @@ module _ (R : Rules) (s : Machine) (t l : ℕ) (j : Job) (p : List Signal) (runs
   pub traps-by : (r : ℕ) → effect ≡ traps r → react R s (step t) ≡ reply (finished R t s) (Trapped r)
   traps-by r h = by-effect (traps r) h ∙ unfold carry planRunning in refl
 
-  pub exits-by : effect ≡ exits → react R s (step t) ≡ reply (finished R t s) Exited
-  exits-by h = by-effect exits h ∙ unfold carry planRunning in refl
+  pub exits-by : (gs : List Signal) → effect ≡ exits gs
+      → react R s (step t) ≡ reply (admitted R gs (finished R t s)) (Exited (lost R gs (finished R t s)))
+  exits-by gs h = by-effect (exits gs) h ∙ unfold carry planRunning in refl
 
   -- the machine after a move: the block's words, the thread with these locks, and its tree's signals
   abbrev moved : ℕ → Job → List ℕ → Option Signal → Machine

@@ -8,17 +8,19 @@ use lib.Bits.{bitOr}
 use lib.Dec.{leb}
 use lib.ListN.{length, getD, set}
 use Rattle.rules.specs.Sorts
-use Rattle.rules.specs.Sizes.{returnCount, pendingCount}
+use Rattle.rules.specs.Sizes.{returnCount, heldCount, pendingCount}
 use Rattle.rules.specs.Image.{recordAt, labelA, labelB, rowAt}
 use Rattle.rules.specs.Statements.{statementOf, dataOf, reads}
 use Rattle.rules.specs.Effects.{trap, got, Cells, readAll, Results, compute, holds, assigned, overlaid, perform, outcome}
-use Rattle.rules.specs.Machine.{Signal, Job, job, idle, running, Machine, threadAt, fill, first, put, window, keep, withThread}
+use Rattle.rules.specs.Machine.{Signal, Job, job, withHeld, idle, running, Machine, threadAt, fill, first, put, window, keep, withThread}
 use Rattle.rules.specs.Events.{step}
-use Rattle.rules.specs.Steps.{Rules, Effect, moves, newest, older, alien, blockAt, actBy, rulesBy, held, finished, react}
+use Rattle.rules.specs.Steps.{Rules, Effect, moves, newest, older, alien, blockAt, actBy, rulesBy, held, finished, admitted, lost}
+use Rattle.rules.specs.Steps.{react}
 use Rattle.rules.specs.declared.statement.Assignment.{Assignment}
 use Rattle.rules.specs.declared.statement.Condition.{Condition}
 use Rattle.rules.specs.declared.statement.Statement.{Statement}
 use Rattle.rules.specs.declared.statement.Statement.the-variants.{Skip, Assign, If, SendDirect, SendBuffered, Call, Return, Transfer, Exit}
+use Rattle.rules.specs.declared.statement.Statement.the-variants.{SendTree}
 use Rattle.rules.specs.declared.answer.Answer.the-variants.{Waiting, Moved, Exited, Trapped}
 use Rattle.step_laws.specs.Same.{keep-window, put-same}
 use Rattle.step_laws.specs.Events.{reply}
@@ -41,17 +43,22 @@ module _ (image table : List ℕ) (s : Machine) (t l : ℕ) (j : Job) (p : List 
   abbrev effect : Effect
   effect = actBy image table t j (window own (s .words)) (length p)
 
+  -- a job that holds what this one held
+  abbrev kept : Job → Job
+  kept k = withHeld (j .held) k
+
   -- an operand that cannot be read
   pub unread : (S : Statement) (k : ℕ) → statementOf r ≡ S → readAll cellsOf (reads S (dataOf r)) ≡ trap k
       → react R s (step t) ≡ reply (finished R t s) (Trapped k)
   unread S k e h = traps-by R s t l j p runs tree k (unfold actBy outcome in rw (e, h) refl)
 
   pub skips : statementOf r ≡ Skip
-      → react R s (step t) ≡ reply (withThread s t (running l (job (labelA r) (j .returns) (j .registers)))) Moved
+      → react R s (step t) ≡ reply (withThread s t (running l (kept (job (labelA r) (j .returns) (j .registers))))) Moved
   skips e = moves-on R s t l j p runs tree _ (unfold actBy outcome readAll perform in rw e refl)
 
-  pub leaves : statementOf r ≡ Exit → react R s (step t) ≡ reply (finished R t s) Exited
-  leaves e = exits-by R s t l j p runs tree (unfold actBy outcome readAll perform in rw e refl)
+  pub leaves : statementOf r ≡ Exit
+      → react R s (step t) ≡ reply (admitted R (j .held) (finished R t s)) (Exited (lost R (j .held) (finished R t s)))
+  leaves e = exits-by R s t l j p runs tree (j .held) (unfold actBy outcome readAll perform in rw e refl)
 
   -- the values that the statement read
   module _ (vs : List ℕ) where
@@ -72,11 +79,11 @@ module _ (image table : List ℕ) (s : Machine) (t l : ℕ) (j : Job) (p : List 
           ≡ reply
           (record {
             words = keep own (assigned a z cellsOf .words) (s .words);
-            threads = set (s .threads) t (running l (job (labelA r) (j .returns) (assigned a z cellsOf .registers)));
+            threads = set (s .threads) t (running l (kept (job (labelA r) (j .returns) (assigned a z cellsOf .registers))));
             trees = s .trees;
           }) Moved
       assigns z c =
-          moves-by R s t l j p runs tree (job (labelA r) (j .returns) (assigned a z cellsOf .registers))
+          moves-by R s t l j p runs tree (kept (job (labelA r) (j .returns) (assigned a z cellsOf .registers)))
           (assigned a z cellsOf .words) none (unfold actBy outcome perform in rw (e, h, c) refl)
           ∙ rw (append-nil p, put-same t p (s .trees) tree) refl
 
@@ -84,11 +91,11 @@ module _ (image table : List ℕ) (s : Machine) (t l : ℕ) (j : Job) (p : List 
 
     pub branches : (c : Condition) → statementOf r ≡ If c → readAll cellsOf (reads (If c) (dataOf r)) ≡ got vs
         → react R s (step t) ≡ reply
-        (withThread s t (running l (job (cond (holds (c .relation) x y) (labelA r) (labelB r)) (j .returns) (j .registers)))) Moved
+        (withThread s t (running l (kept (job (cond (holds (c .relation) x y) (labelA r) (labelB r)) (j .returns) (j .registers))))) Moved
     branches c e h = case (holds (c .relation) x y) refl
       where
         case : (b : Bool) → holds (c .relation) x y ≡ b
-            → react R s (step t) ≡ reply (withThread s t (running l (job (cond b (labelA r) (labelB r)) (j .returns) (j .registers))))
+            → react R s (step t) ≡ reply (withThread s t (running l (kept (job (cond b (labelA r) (labelB r)) (j .returns) (j .registers)))))
             Moved
         case true q = moves-on R s t l j p runs tree _ (unfold actBy outcome perform in rw (e, h, q) refl)
         case false q = moves-on R s t l j p runs tree _ (unfold actBy outcome perform in rw (e, h, q) refl)
@@ -106,14 +113,14 @@ module _ (image table : List ℕ) (s : Machine) (t l : ℕ) (j : Job) (p : List 
       send-alien q = traps-by R s t l j p runs tree 5 (unfold actBy outcome perform in rw (e, h, q) refl)
 
       module _ (q : alien (rowAt table into) t ≡ false) where
-        sends : effect ≡ moves (job (labelA r) (j .returns) (fill vs)) (window own (s .words)) none (some into)
+        sends : effect ≡ moves (kept (job (labelA r) (j .returns) (fill vs))) (window own (s .words)) none (some into)
         sends = unfold actBy outcome perform in rw (e, h, q) refl
 
         pub send-waits : held lock (set (s .threads) t idle) ≡ true → react R s (step t) ≡ reply s (Waiting (Sorts.lock lock))
         send-waits w = waits-for R s t l j p runs tree _ into sends w
 
         pub send-enters : held lock (set (s .threads) t idle) ≡ false
-            → react R s (step t) ≡ reply (withThread s t (running (bitOr l (2 ^ lock)) (job (labelA r) (j .returns) (fill vs)))) Moved
+            → react R s (step t) ≡ reply (withThread s t (running (bitOr l (2 ^ lock)) (kept (job (labelA r) (j .returns) (fill vs))))) Moved
         send-enters w = enters R s t l j p runs tree _ into sends w
 
     -- ---- SEND buffered
@@ -126,13 +133,24 @@ module _ (image table : List ℕ) (s : Machine) (t l : ℕ) (j : Job) (p : List 
           → react R s (step t)
           ≡ reply (record {
             words = s .words;
-            threads = set (s .threads) t (running l (job (labelB r) (j .returns) (j .registers)));
+            threads = set (s .threads) t (running l (kept (job (labelB r) (j .returns) (j .registers))));
             trees = put t (some (p ++ record { label = labelA r; values = vs } ∷ [])) (s .trees);
           }) Moved
       buffers q =
-          moves-by R s t l j p runs tree (job (labelB r) (j .returns) (j .registers)) (window own (s .words))
+          moves-by R s t l j p runs tree (kept (job (labelB r) (j .returns) (j .registers))) (window own (s .words))
           (some (record { label = labelA r; values = vs })) (unfold actBy outcome perform in rw (e, h, q) refl)
           ∙ rw (keep-window own (s .words)) refl
+
+    -- ---- SEND .. JOBTREE
+
+    module _ (e : statementOf r ≡ SendTree) (h : readAll cellsOf (dataOf r) ≡ got vs) where
+      pub hold-full : leb heldCount (length (j .held)) ≡ true → react R s (step t) ≡ reply (finished R t s) (Trapped 6)
+      hold-full q = traps-by R s t l j p runs tree 6 (unfold actBy outcome perform in rw (e, h, q) refl)
+
+      pub holds-on : leb heldCount (length (j .held)) ≡ false
+          → react R s (step t) ≡ reply (withThread s t (running l
+          (withHeld (j .held ++ record { label = labelA r; values = vs } ∷ []) (job (labelB r) (j .returns) (j .registers))))) Moved
+      holds-on q = moves-on R s t l j p runs tree _ (unfold actBy outcome perform in rw (e, h, q) refl)
 
     -- ---- CALL: 8 return labels, an FD block of another thread, then the lock
 
@@ -145,7 +163,7 @@ module _ (image table : List ℕ) (s : Machine) (t l : ℕ) (j : Job) (p : List 
         call-alien q = traps-by R s t l j p runs tree 5 (unfold actBy outcome perform in rw (e, h, d, q) refl)
 
         module _ (q : alien (rowAt table into) t ≡ false) where
-          calls : effect ≡ moves (job (labelA r) (j .returns ++ labelB r ∷ []) (fill vs)) (window own (s .words)) none (some into)
+          calls : effect ≡ moves (kept (job (labelA r) (j .returns ++ labelB r ∷ []) (fill vs))) (window own (s .words)) none (some into)
           calls = unfold actBy outcome perform in rw (e, h, d, q) refl
 
           pub call-waits : held lock (set (s .threads) t idle) ≡ true → react R s (step t) ≡ reply s (Waiting (Sorts.lock lock))
@@ -153,7 +171,7 @@ module _ (image table : List ℕ) (s : Machine) (t l : ℕ) (j : Job) (p : List 
 
           pub call-enters : held lock (set (s .threads) t idle) ≡ false
               → react R s (step t) ≡ reply
-              (withThread s t (running (bitOr l (2 ^ lock)) (job (labelA r) (j .returns ++ labelB r ∷ []) (fill vs)))) Moved
+              (withThread s t (running (bitOr l (2 ^ lock)) (kept (job (labelA r) (j .returns ++ labelB r ∷ []) (fill vs))))) Moved
           call-enters w = enters R s t l j p runs tree _ into calls w
 
     -- ---- RETURN
@@ -163,11 +181,11 @@ module _ (image table : List ℕ) (s : Machine) (t l : ℕ) (j : Job) (p : List 
       return-none q = traps-by R s t l j p runs tree 2 (unfold actBy outcome perform in rw (e, h, q) refl)
 
       pub returns-to : (a : ℕ) (more : List ℕ) → j .returns ≡ a ∷ more
-          → react R s (step t) ≡ reply (withThread s t (running l (job (newest a more) (older a more) (fill vs)))) Moved
+          → react R s (step t) ≡ reply (withThread s t (running l (kept (job (newest a more) (older a more) (fill vs))))) Moved
       returns-to a more q = moves-on R s t l j p runs tree _ (unfold actBy outcome perform in rw (e, h, q) refl)
 
     -- ---- TRANSFER
 
     pub transfers : statementOf r ≡ Transfer → readAll cellsOf (dataOf r) ≡ got vs
-        → react R s (step t) ≡ reply (withThread s t (running l (job (labelA r) (j .returns) (overlaid vs cellsOf .registers)))) Moved
+        → react R s (step t) ≡ reply (withThread s t (running l (kept (job (labelA r) (j .returns) (overlaid vs cellsOf .registers))))) Moved
     transfers e h = moves-on R s t l j p runs tree _ (unfold actBy outcome perform in rw (e, h) refl)

@@ -1,6 +1,6 @@
 -- The bytes of a thread's state: written they are those of the thread that it says, and read they say the thread that they are of.
 use mathlib.Core.Path.{_≡_, refl, sym, ap, _∙_}
-use mathlib.Core.Bool.{Bool, true, false, cond}
+use mathlib.Core.Bool.{Bool, true, false, cond, _&&_}
 use mathlib.Core.Option.{Option, some}
 use mathlib.Core.List.{List, [], _∷_, _++_, map}
 use Prim.Native.Nat.{ℕ, zero, suc, _+_, _*_, _-_, _≤_, _<_}
@@ -11,15 +11,16 @@ use lib.ListN.{length, getD, set, take, drop, replicate, length-append, length-d
 use lib.Seq.{drop-drop, ext-getD, getD-drop, getD-take, length-take-le, take-all}
 use borrow.Author.Tests.{eqb-true, eqb-false}
 use Rattle.rules.specs.Sorts.{label}
-use Rattle.rules.specs.Sizes.{returnCount, registerCount, threadSize, threadsPlace, locksPlace, returnCountPlace, returnsPlace}
-use Rattle.rules.specs.Sizes.{presencePlace, registersPlace, idleLabel}
+use Rattle.rules.specs.Sizes.{returnCount, registerCount, heldCount, threadSize, threadsPlace, locksPlace, returnCountPlace}
+use Rattle.rules.specs.Sizes.{returnsPlace, presencePlace, registersPlace, heldCountPlace, idleLabel}
 use Rattle.rules.specs.Bytes.{num16, num32, part, isZeros, pad, chunks}
 use Rattle.rules.specs.Machine as law
-use Rattle.rules.specs.Machine.{idle, running}
-use Rattle.rules.specs.Encoding.{valueOr0, presence, threadRaw, threadBytes, threadFrom, jobFrom}
-use Rattle.rules.specs.WellFormed.{absentZero, runningTidy, threadTidy}
+use Rattle.rules.specs.Machine.{Signal, withHeld, idle, running}
+use Rattle.rules.specs.Encoding.{signalsBytes, valueOr0, presence, threadRaw, threadBytes, threadFrom, jobFrom}
+use Rattle.rules.specs.WellFormed.{absentZero, runningTidy, signalsTidy, threadTidy}
 use Rattle.fields.specs.Blocks.{pad-full, pad-split}
-use Rattle.encoding.specs.Sized.{SizedThread}
+use Rattle.laws.specs.Logic.{and-both}
+use Rattle.encoding.specs.Sized.{SizedSignals, SizedThread}
 use Rattle.encoding.specs.Lengths.{length-thread}
 use Rattle.fields.specs.Tests.{zeros-part}
 use Rattle.encoding.specs.Runs.{length-chunks, chunks-at}
@@ -27,7 +28,7 @@ use Rattle.encoding.specs.Registers.{length-registers, presence-forth, values-f
 use Rattle.encoding.specs.Threads.{RunningRead, running-read, thread-back, thread-tidy}
 use Rattle.threads.specs.Returns.{TidyReturns}
 use Rattle.threads.specs.Registers.{none-registers, none-tidy}
-use Rattle.threads.specs.Threads.{stateOf, jobOf, returnsOf, registersOf, Tidy, Says}
+use Rattle.threads.specs.Threads.{stateOf, keepHeld, jobOf, returnsOf, registersOf, Tidy, Says}
 use Rattle.threads.specs.declared.thread.ThreadState.{ThreadState}
 
 -- where the record of a thread stands in a state
@@ -67,9 +68,9 @@ module _ (w : ThreadState) (z : Tidy w) where
       (λ i l h. z .registers .absent i (omega arith))
       ∙ take-all registerCount (w .registers) (omega (arith, z .registers .sized))
 
-  running-bytes : threadBytes (running (w .locks) (jobOf w)) ≡ rawBytes w
+  running-bytes : (gs : List Signal) → threadBytes (running (w .locks) (withHeld gs (jobOf w))) ≡ rawBytes w ++ signalsBytes heldCount gs
   unfolding threadBytes rawBytes threadRaw
-  running-bytes =
+  running-bytes gs =
       let r = z .returns in
       rw (
         length-take-le (w .depth) (w .returns) (omega (arith, r .sized, r .within)),
@@ -79,7 +80,7 @@ module _ (w : ThreadState) (z : Tidy w) where
         values-are,
       )
 
-  idle-bytes : w .label .0 ≡ idleLabel → threadBytes idle ≡ rawBytes w
+  idle-bytes : w .label .0 ≡ idleLabel → threadBytes idle ≡ rawBytes w ++ signalsBytes heldCount []
   unfolding threadBytes rawBytes threadRaw pad
   idle-bytes e =
       let n = z .nothing e in
@@ -89,13 +90,15 @@ module _ (w : ThreadState) (z : Tidy w) where
       let g : pad 0 registerCount (w .registers) ≡ pad 0 registerCount [] = rw v in
       rw (e, n .0, n .1, n .2, r, g)
 
-  pub bytes-are : threadBytes (stateOf w) ≡ rawBytes w
+  -- with the signals gs held, of which an idle thread has none
+  pub bytes-are : (gs : List Signal) → (stateOf w ≡ idle → gs ≡ []) → threadBytes (keepHeld gs (stateOf w)) ≡ rawBytes w ++ signalsBytes heldCount gs
   unfolding stateOf
-  bytes-are = go (eqb (w .label .0) idleLabel) refl
+  bytes-are gs n = go (eqb (w .label .0) idleLabel) refl n
     where
-      go : (b : Bool) → eqb (w .label .0) idleLabel ≡ b → threadBytes (cond b idle (running (w .locks) (jobOf w))) ≡ rawBytes w
-      go true e = idle-bytes (eqb-true (w .label .0) idleLabel e)
-      go false e = running-bytes
+      go : (b : Bool) → eqb (w .label .0) idleLabel ≡ b → (cond b idle (running (w .locks) (jobOf w)) ≡ idle → gs ≡ [])
+          → threadBytes (keepHeld gs (cond b idle (running (w .locks) (jobOf w)))) ≡ rawBytes w ++ signalsBytes heldCount gs
+      go true e k = rw (k refl) (idle-bytes (eqb-true (w .label .0) idleLabel e))
+      go false e k = running-bytes gs
 
 -- ---- the slots of a tidy thread are what its job says
 
@@ -199,7 +202,7 @@ pub bytes-say : (b : List ℕ) → threadSize ≤ length b → threadTidy b ≡ 
 unfolding threadTidy
 bytes-say b l e = go (eqb (num16 b) idleLabel) refl e
   where
-    job-is : RunningRead b → jobOf (rawThread b) ≡ jobFrom b
+    job-is : RunningRead b → jobOf (rawThread b) ≡ withHeld [] (jobFrom b)
     job-is o = unfold rawThread jobFrom in
         let h : getD (drop returnCountPlace b) 0 0 ≤ returnCount = omega (arith, getD-drop returnCountPlace b 0 0, o .few) in
         rw (take-chunks num16 2 (getD (drop returnCountPlace b) 0 0) returnCount (drop returnsPlace b) h)
@@ -211,17 +214,17 @@ bytes-say b l e = go (eqb (num16 b) idleLabel) refl e
     from-is : (c : Bool) → eqb (num16 b) idleLabel ≡ c → threadFrom b ≡ cond c idle (running (num16 (drop locksPlace b)) (jobFrom b))
     from-is c p = unfold threadFrom in rw p
 
-    go : (c : Bool) → eqb (num16 b) idleLabel ≡ c → cond c (isZeros (part b locksPlace (threadSize - locksPlace))) (runningTidy b) ≡ true
-        → Says (rawThread b) (threadFrom b)
+    go : (c : Bool) → eqb (num16 b) idleLabel ≡ c → cond c (isZeros (part b locksPlace (threadSize - locksPlace))) (runningTidy b && signalsTidy heldCount heldCountPlace b)
+        ≡ true → Says (rawThread b) (threadFrom b)
     go true p t = record {
-      state = state-is true p ∙ sym (from-is true p);
+      state = state-is true p ∙ ap (keepHeld []) (sym (from-is true p));
       tidy = idle-tidy b (zeros-part b locksPlace (threadSize - locksPlace) (omega arith) t);
     }
     go false p t =
-        let o = running-read b l t in
+        let o = running-read b l (and-both (runningTidy b) _ t .0) in
         record {
           state = state-is false p ∙ ap (running (num16 (drop locksPlace b))) (job-is o)
-              ∙ sym (from-is false p);
+              ∙ ap (keepHeld []) (sym (from-is false p));
           tidy = running-tidy b (eqb-false (num16 b) idleLabel p) o;
         }
 
@@ -230,12 +233,12 @@ pub bytes-of : (x : law.ThreadState) → SizedThread x → (q : List ℕ) → Sa
 bytes-of x z q = rw (thread-back x z q) at (bytes-say (threadBytes x ++ q) (simp length-append (omega (arith, length-thread x)))
     (thread-tidy x z q))
 
--- what a tidy state says is within the limits
-pub tidy-sized : (w : ThreadState) → Tidy w → SizedThread (stateOf w)
+-- what a tidy state says, with signals held that are, is within the limits
+pub tidy-sized : (w : ThreadState) (gs : List Signal) → Tidy w → SizedSignals heldCount gs → SizedThread (keepHeld gs (stateOf w))
 unfolding stateOf
-tidy-sized w z = go (eqb (w .label .0) idleLabel) refl
+tidy-sized w gs z k = go (eqb (w .label .0) idleLabel) refl
   where
-    go : (b : Bool) → eqb (w .label .0) idleLabel ≡ b → SizedThread (cond b idle (running (w .locks) (jobOf w)))
+    go : (b : Bool) → eqb (w .label .0) idleLabel ≡ b → SizedThread (keepHeld gs (cond b idle (running (w .locks) (jobOf w))))
     go true e = tt
     go false e = record {
       label = eqb-false (w .label .0) idleLabel e;
@@ -246,4 +249,5 @@ tidy-sized w z = go (eqb (w .label .0) idleLabel) refl
             (omega (arith, z .returns .within, z .returns .sized)),
       );
       registers = length-registers (w .present) (w .registers) 0 registerCount;
+      held = k;
     }

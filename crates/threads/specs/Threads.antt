@@ -1,8 +1,9 @@
--- What a thread's state, as the code has it, says.
+-- What a thread's state, as the code has it, says: all of the law's thread but for the signals that its job holds, which stay in the
+-- lent record.
 use mathlib.Core.Path.{_≡_, refl, sym, ap, _∙_}
 use mathlib.Core.Bool.{Bool, true, false, cond}
 use mathlib.Core.Option.{Option, some}
-use mathlib.Core.List.{List, _++_, map}
+use mathlib.Core.List.{List, [], _++_, map}
 use Prim.Native.Nat.{ℕ, _-_, _^_, _≤_, _<_}
 use lib.Bits.{bitOr}
 use native.Mathlib.Omega.{arith}
@@ -14,7 +15,7 @@ use Rattle.rules.specs.Sorts.{label}
 use Rattle.rules.specs.Sizes.{returnCount, registerCount, idleLabel}
 use Rattle.rules.specs.Bytes.{pad}
 use Rattle.rules.specs.Machine as law
-use Rattle.rules.specs.Machine.{Job, job, idle, running, fill}
+use Rattle.rules.specs.Machine.{Signal, Job, job, withHeld, idle, running, fill}
 use Rattle.rules.specs.Encoding.{registersFrom}
 use Rattle.threads.specs.Returns.{TidyReturns, no-returns}
 use Rattle.threads.specs.Registers.{TidyRegisters, none-tidy, filled-registers, filled-tidy, overlaid-registers, overlaid-tidy}
@@ -32,15 +33,20 @@ jobOf w = job (w .label .0) (returnsOf w) (registersOf w)
 unfoldable pub stateOf : ThreadState → law.ThreadState
 stateOf w = cond (eqb (w .label .0) idleLabel) idle (running (w .locks) (jobOf w))
 
+-- a thread with other signals held; an idle thread holds none
+abbrev pub keepHeld : List Signal → law.ThreadState → law.ThreadState
+keepHeld gs idle = idle
+keepHeld gs (running locks j) = running locks (withHeld gs j)
+
 -- nothing is said but this: unused return labels and absent registers are zero, and so are the other fields of an idle thread
 pub record Tidy (w : ThreadState) : Type 0 where
   pub returns : TidyReturns (w .depth) (w .returns)
   pub registers : TidyRegisters (w .present) (w .registers)
   pub nothing : w .label .0 ≡ idleLabel → (w .locks ≡ 0) × (w .depth ≡ 0) × (w .present ≡ 0)
 
--- a thread that says x and nothing else
+-- a thread that says x, but for the signals held, and nothing else
 pub record Says (w : ThreadState) (x : law.ThreadState) : Type 0 where
-  pub state : stateOf w ≡ x
+  pub state : stateOf w ≡ keepHeld [] x
   pub tidy : Tidy w
 
 abbrev pub Idle : ThreadState → Type 0
