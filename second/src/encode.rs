@@ -66,6 +66,9 @@ fn fields(statement: &Statement) -> Fields {
         Statement::Return { data } => fields(8, 0, 0, data),
         Statement::Transfer { signal, data } => fields(9, signal.number(), 0, data),
         Statement::Exit => fields(10, 0, 0, &[]),
+        Statement::SendJobTree { signal, data, on } => {
+            fields(11, signal.number(), on.number(), data)
+        }
     }
 }
 

@@ -54,6 +54,7 @@ pub enum Trap {
     ReturnLabelsFull,
     TreeFull,
     ForeignBlock,
+    HeldFull,
 }
 
 impl Trap {
@@ -64,6 +65,7 @@ impl Trap {
             Trap::ReturnLabelsFull => 3,
             Trap::TreeFull => 4,
             Trap::ForeignBlock => 5,
+            Trap::HeldFull => 6,
         }
     }
 }
@@ -76,7 +78,7 @@ pub enum Answer {
     Waiting(Block),
     Started,
     MovedOn,
-    Exited,
+    Exited { lost: u8 },
     Trapped(Trap),
     Cut,
     NothingToCut,
@@ -94,7 +96,7 @@ impl Answer {
             Answer::Waiting(block) => [4, block.number()],
             Answer::Started => [5, 0],
             Answer::MovedOn => [6, 0],
-            Answer::Exited => [7, 0],
+            Answer::Exited { lost } => [7, lost],
             Answer::Trapped(trap) => [8, trap.reason()],
             Answer::Cut => [9, 0],
             Answer::NothingToCut => [10, 0],

@@ -5,6 +5,7 @@ use crate::image::{Entry, Program};
 use crate::job::Job;
 use crate::sorts::Thread;
 use crate::state::State;
+use crate::tree::Signal;
 
 pub fn well_formed(program: &Program, state: &State) -> bool {
     locks_apart(state)
@@ -12,7 +13,7 @@ pub fn well_formed(program: &Program, state: &State) -> bool {
             Some(job) => state.first_tree(thread).is_some() && in_its_blocks(program, thread, job),
             None => true,
         })
-        && pending_entries(program, state)
+        && signal_entries(program, state)
         && trees_at_home(program, state)
 }
 
@@ -32,10 +33,13 @@ fn in_its_blocks(program: &Program, thread: Thread, job: &Job) -> bool {
     })
 }
 
-fn pending_entries(program: &Program, state: &State) -> bool {
-    state.trees.iter().flat_map(|tree| &tree.pending).all(|signal| {
-        matches!(program.record(signal.label).entry, Entry::Buffered | Entry::External)
-    })
+/// A held signal was sent by a job, a pending one may also have arrived.
+fn signal_entries(program: &Program, state: &State) -> bool {
+    let entry = |signal: &Signal| program.record(signal.label).entry;
+    let mut held = state.jobs.iter().flatten().flat_map(|job| &job.held);
+    let mut pending = state.trees.iter().flat_map(|tree| &tree.pending);
+    held.all(|signal| entry(signal) == Entry::Buffered)
+        && pending.all(|signal| matches!(entry(signal), Entry::Buffered | Entry::External))
 }
 
 /// A tree that is not a running thread's first has a signal pending and

@@ -1,9 +1,10 @@
-//! A running thread: its label, locks, return labels and registers.
+//! A running thread: its label, locks, return labels, registers and held signals.
 
 use crate::bytes::{Reader, Writer};
 use crate::image::Program;
 use crate::registers::Registers;
 use crate::sorts::{Label, Lock};
+use crate::tree::Signal;
 
 #[derive(Clone, Copy, Debug, PartialEq, Eq)]
 pub struct LockSet(u16);
@@ -30,20 +31,26 @@ pub struct Job {
     /// Oldest first.
     pub returns: Vec<Label>,
     pub registers: Registers,
+    /// The signals that are to found new trees at EXIT, oldest first.
+    pub held: Vec<Signal>,
 }
 
 impl Job {
     /// Bytes of a thread record.
-    pub const WIDTH: usize = 75;
+    pub const WIDTH: usize = 288;
     /// Return labels of one thread.
     pub const RETURNS: usize = 8;
+    /// Held signals of one thread.
+    pub const HELD: usize = 4;
+    /// Where in a thread record the count of held signals stands; they end it.
+    pub const HELD_START: usize = Job::WIDTH - 1 - Job::HELD * Signal::WIDTH;
     /// The label field of an idle thread.
     const IDLE: u16 = 65_535;
 
     /// A job at its first label, holding the lock of its block only.
     pub fn begun(label: Label, lock: Lock, values: &[u16]) -> Job {
-        let locks = LockSet(lock.bit());
-        Job { label, locks, returns: Vec::new(), registers: Registers::filled(values) }
+        let (locks, registers) = (LockSet(lock.bit()), Registers::filled(values));
+        Job { label, locks, returns: Vec::new(), registers, held: Vec::new() }
     }
 
     pub fn at(self, label: Label) -> Job {
@@ -56,6 +63,11 @@ impl Job {
 
     pub fn calling(mut self, back: Label) -> Job {
         self.returns.push(back);
+        self
+    }
+
+    pub fn holding(mut self, signal: Signal) -> Job {
+        self.held.push(signal);
         self
     }
 
@@ -73,7 +85,8 @@ impl Job {
         let locks = LockSet(reader.pair());
         let returns = reader.list(Job::RETURNS, 2, |mut part| program.label(part.pair()))?;
         let registers = Registers::read(&mut reader)?;
-        Some(Some(Job { label, locks, returns, registers }))
+        let held = reader.list(Job::HELD, Signal::WIDTH, |part| Signal::read(part, program))?;
+        Some(Some(Job { label, locks, returns, registers, held }))
     }
 
     pub fn write(job: Option<&Job>, writer: &mut Writer) {
@@ -85,5 +98,6 @@ impl Job {
         writer.pair(job.locks.0);
         writer.list(Job::RETURNS, 2, &job.returns, |writer, label| writer.pair(label.number()));
         job.registers.write(writer);
+        writer.list(Job::HELD, Signal::WIDTH, &job.held, |writer, signal| signal.write(writer));
     }
 }

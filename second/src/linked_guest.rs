@@ -29,13 +29,14 @@ pub fn relocated_events(
 }
 
 /// The guest's state with the labels of running threads, the return labels and
-/// the labels of pending signals shifted. An idle thread has no label.
+/// the labels of held and pending signals shifted. An idle thread has no label.
 pub fn relocated_state(image: &[u8], table: &[u8], state: &[u8], by: u16) -> Result<Vec<u8>, u32> {
     let program = Program::decode(image, table)?;
     let mut state = State::decode(&program, state)?;
     for job in state.jobs.iter_mut().flatten() {
         job.label.relocate(by);
         job.returns.iter_mut().for_each(|back| back.relocate(by));
+        job.held.iter_mut().for_each(|signal| signal.label.relocate(by));
     }
     for signal in state.trees.iter_mut().flat_map(|tree| &mut tree.pending) {
         signal.label.relocate(by);

@@ -19,7 +19,7 @@ pub struct State {
 }
 
 impl State {
-    pub const LENGTH: usize = 7_929;
+    pub const LENGTH: usize = 9_633;
     const WORDS: usize = Block::COUNT * Block::WORDS;
     /// Bytes of the shared words.
     pub const WORDS_LENGTH: usize = 2 * State::WORDS;

@@ -33,6 +33,7 @@ pub enum Test {
     Less(Operand, Operand),
 }
 
+/// `SendJobTree` is the buffered SEND whose signal founds a new tree at EXIT.
 #[derive(Clone, Debug)]
 pub enum Statement {
     Skip { on: Label },
@@ -41,6 +42,7 @@ pub enum Statement {
     If { test: Test, holds: Label, fails: Label },
     SendDirect { signal: Label, data: Vec<Operand> },
     SendBuffered { signal: Label, data: Vec<Operand>, on: Label },
+    SendJobTree { signal: Label, data: Vec<Operand>, on: Label },
     Call { signal: Label, data: Vec<Operand>, back: Label },
     Return { data: Vec<Operand> },
     Transfer { signal: Label, data: Vec<Operand> },
@@ -53,6 +55,23 @@ impl Statement {
         self.labels().into_iter().for_each(|label| label.relocate(by));
     }
 
+    /// The data operands; a statement that carries no data has none.
+    pub fn data(&self) -> &[Operand] {
+        match self {
+            Statement::SendDirect { data, .. }
+            | Statement::SendBuffered { data, .. }
+            | Statement::SendJobTree { data, .. }
+            | Statement::Call { data, .. }
+            | Statement::Return { data }
+            | Statement::Transfer { data, .. } => data,
+            Statement::Skip { .. }
+            | Statement::Assign { .. }
+            | Statement::Goto { .. }
+            | Statement::If { .. }
+            | Statement::Exit => &[],
+        }
+    }
+
     fn labels(&mut self) -> Vec<&mut Label> {
         match self {
             Statement::Skip { on } | Statement::Assign { on, .. } | Statement::Goto { on } => {
@@ -62,7 +81,8 @@ impl Statement {
             Statement::SendDirect { signal, .. } | Statement::Transfer { signal, .. } => {
                 vec![signal]
             }
-            Statement::SendBuffered { signal, on, .. } => vec![signal, on],
+            Statement::SendBuffered { signal, on, .. }
+            | Statement::SendJobTree { signal, on, .. } => vec![signal, on],
             Statement::Call { signal, back, .. } => vec![signal, back],
             Statement::Return { .. } | Statement::Exit => Vec::new(),
         }
@@ -121,14 +141,14 @@ impl Fields {
     /// The statement, if the fields keep every rule; what it does not use is zero.
     pub fn statement(self, links: &Links) -> Option<Statement> {
         let uses_a = !matches!(self.opcode, 8 | 10);
-        let uses_b = matches!(self.opcode, 4 | 6 | 7);
+        let uses_b = matches!(self.opcode, 4 | 6 | 7 | 11);
         if (!uses_a && self.a != 0) || (!uses_b && self.b != 0) {
             return None;
         }
         match self.opcode {
             2 | 4 => self.computing(links),
             _ if self.operator != 0 => None,
-            5..=9 => self.signalling(links),
+            5..=9 | 11 => self.signalling(links),
             _ if !self.operands.is_empty() => None,
             1 => Some(Statement::Skip { on: links.inside(self.a)? }),
             3 => Some(Statement::Goto { on: links.inside(self.a)? }),
@@ -158,14 +178,17 @@ impl Fields {
         }
     }
 
-    /// The opcodes that carry data, 5 to 9.
+    /// The opcodes that carry data, 5 to 9 and 11.
     fn signalling(self, links: &Links) -> Option<Statement> {
         let (a, b, data) = (self.a, self.b, self.operands);
         Some(match self.opcode {
             5 => Statement::SendDirect { signal: links.signal(a, Entry::Direct)?, data },
-            6 => {
-                let signal = links.signal(a, Entry::Buffered)?;
-                Statement::SendBuffered { signal, data, on: links.inside(b)? }
+            opcode @ (6 | 11) => {
+                let (signal, on) = (links.signal(a, Entry::Buffered)?, links.inside(b)?);
+                match opcode {
+                    6 => Statement::SendBuffered { signal, data, on },
+                    _ => Statement::SendJobTree { signal, data, on },
+                }
             }
             7 => {
                 let signal = links.signal(a, Entry::Direct)?;

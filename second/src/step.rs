@@ -4,7 +4,7 @@ use crate::events::{Answer, Event, Trap};
 use crate::image::Program;
 use crate::job::Job;
 use crate::registers::Registers;
-use crate::sorts::{Label, Lock, Thread};
+use crate::sorts::{Block, Label, Lock, Thread};
 use crate::state::State;
 use crate::statement::{Formula, Operand, Place, Statement, Test};
 use crate::tree::{Signal, Tree};
@@ -18,12 +18,22 @@ pub fn carry_out(program: &Program, state: &mut State, event: &Event) -> Answer 
 }
 
 fn arrive(program: &Program, state: &mut State, signal: &Signal) -> Answer {
-    if state.trees.len() == Tree::LIMIT {
-        return Answer::ListFull;
+    if add_tree(program, state, signal.clone()) {
+        Answer::Arrived
+    } else {
+        Answer::ListFull
     }
-    let thread = program.thread(signal.label);
-    state.trees.push(Tree { thread, pending: vec![signal.clone()] });
-    Answer::Arrived
+}
+
+/// Appends a tree with this signal, on its block's thread, if the list has
+/// room; otherwise false and no change.
+fn add_tree(program: &Program, state: &mut State, signal: Signal) -> bool {
+    let room = state.trees.len() < Tree::LIMIT;
+    if room {
+        let thread = program.thread(signal.label);
+        state.trees.push(Tree { thread, pending: vec![signal] });
+    }
+    room
 }
 
 fn cut(program: &Program, state: &mut State, thread: Thread) -> Answer {
@@ -43,12 +53,24 @@ pub fn step(program: &Program, state: &mut State, thread: Thread) -> Answer {
             state.jobs[thread.index()] = Some(job);
             Answer::MovedOn
         }
-        Err(waiting @ Answer::Waiting(_)) => waiting,
-        Err(ended) => {
+        Err(Stop::Wait(block)) => Answer::Waiting(block),
+        Err(Stop::Exit(held)) => exit(program, state, thread, held),
+        Err(Stop::Trap(trap)) => {
             end(program, state, thread);
-            ended
+            Answer::Trapped(trap)
         }
     }
+}
+
+/// The job's own tree is settled, then the held signals found new trees in
+/// order; those that find no room are lost.
+fn exit(program: &Program, state: &mut State, thread: Thread, held: Vec<Signal>) -> Answer {
+    end(program, state, thread);
+    let mut lost = 0;
+    for signal in held {
+        lost += u8::from(!add_tree(program, state, signal));
+    }
+    Answer::Exited { lost }
 }
 
 /// A step of an idle thread. Its trees all have signals pending.
@@ -66,8 +88,9 @@ fn start(program: &Program, state: &mut State, thread: Thread) -> Answer {
     Answer::Started
 }
 
-/// A job ended: the thread is idle, and its tree leaves the list if it is
-/// empty, else goes to the list's end on the thread of its oldest signal's block.
+/// A job ended: the thread is idle and holds no signals, and its tree leaves the
+/// list if it is empty, else goes to the list's end on the thread of its oldest
+/// signal's block.
 fn end(program: &Program, state: &mut State, thread: Thread) {
     state.jobs[thread.index()] = None;
     if let Some(place) = state.first_tree(thread) {
@@ -78,11 +101,27 @@ fn end(program: &Program, state: &mut State, thread: Thread) {
     }
 }
 
-/// The job after one statement, or the answer if it does not move on. The
-/// shared words and the job's tree change only if it moves on.
-fn advance(program: &Program, state: &mut State, thread: Thread, job: Job) -> Result<Job, Answer> {
+/// Why a job does not move on.
+enum Stop {
+    Wait(Block),
+    /// With the signals the job holds.
+    Exit(Vec<Signal>),
+    Trap(Trap),
+}
+
+impl From<Trap> for Stop {
+    fn from(trap: Trap) -> Stop {
+        Stop::Trap(trap)
+    }
+}
+
+/// The job after one statement, or why it does not move on. The shared words
+/// and the job's tree change only if it moves on.
+fn advance(program: &Program, state: &mut State, thread: Thread, job: Job) -> Result<Job, Stop> {
     let sight = Sight { words: &state.words, registers: &job.registers };
-    match &program.record(job.label).statement {
+    let statement = &program.record(job.label).statement;
+    let values = sight.all(statement.data())?;
+    match statement {
         Statement::Skip { on } | Statement::Goto { on } => Ok(job.at(*on)),
         Statement::Assign { to, formula, on } => {
             let value = sight.compute(formula)?;
@@ -92,31 +131,28 @@ fn advance(program: &Program, state: &mut State, thread: Thread, job: Job) -> Re
             let next = if sight.holds(test)? { holds } else { fails };
             Ok(job.at(*next))
         }
-        Statement::SendDirect { signal, data } => {
-            let values = sight.all(data)?;
+        Statement::SendDirect { signal, .. } => {
             enter(program, state, thread, job, *signal, &values)
         }
-        Statement::SendBuffered { signal, data, on } => {
-            let values = sight.all(data)?;
+        Statement::SendBuffered { signal, on, .. } => {
             add_pending(state, thread, Signal { label: *signal, values })?;
             Ok(job.at(*on))
         }
-        Statement::Call { signal, data, back } => {
-            let values = sight.all(data)?;
+        Statement::SendJobTree { signal, on, .. } => {
+            Ok(hold(job, Signal { label: *signal, values })?.at(*on))
+        }
+        Statement::Call { signal, back, .. } => {
             if job.returns.len() == Job::RETURNS {
-                return Err(Answer::Trapped(Trap::ReturnLabelsFull));
+                return Err(Trap::ReturnLabelsFull.into());
             }
             enter(program, state, thread, job.calling(*back), *signal, &values)
         }
-        Statement::Return { data } => {
-            let values = sight.all(data)?;
-            go_back(job, &values)
-        }
-        Statement::Transfer { signal, data } => {
-            let registers = job.registers.clone().overwritten(&sight.all(data)?);
+        Statement::Return { .. } => Ok(go_back(job, &values)?),
+        Statement::Transfer { signal, .. } => {
+            let registers = job.registers.clone().overwritten(&values);
             Ok(job.at(*signal).with(registers))
         }
-        Statement::Exit => Err(Answer::Exited),
+        Statement::Exit => Err(Stop::Exit(job.held)),
     }
 }
 
@@ -129,33 +165,41 @@ fn enter(
     job: Job,
     signal: Label,
     values: &[u16],
-) -> Result<Job, Answer> {
+) -> Result<Job, Stop> {
     let block = program.block(signal);
     if !program.table.open_to(block, thread) {
-        return Err(Answer::Trapped(Trap::ForeignBlock));
+        return Err(Trap::ForeignBlock.into());
     }
     if held_by_another(state, block.lock(), thread) {
-        return Err(Answer::Waiting(block));
+        return Err(Stop::Wait(block));
     }
     Ok(job.at(signal).taking(block.lock()).with(Registers::filled(values)))
 }
 
 /// RETURN takes the newest return label and keeps every lock.
-fn go_back(mut job: Job, values: &[u16]) -> Result<Job, Answer> {
-    let newest = job.returns.pop().ok_or(Answer::Trapped(Trap::NoReturnLabel))?;
+fn go_back(mut job: Job, values: &[u16]) -> Result<Job, Trap> {
+    let newest = job.returns.pop().ok_or(Trap::NoReturnLabel)?;
     Ok(job.at(newest).with(Registers::filled(values)))
 }
 
 /// Adds the signal to the end of the running job's own tree.
-fn add_pending(state: &mut State, thread: Thread, signal: Signal) -> Result<(), Answer> {
+fn add_pending(state: &mut State, thread: Thread, signal: Signal) -> Result<(), Trap> {
     let own = state.first_tree(thread).map(|place| &mut state.trees[place]);
     match own.filter(|tree| tree.pending.len() < Tree::PENDING) {
         Some(tree) => {
             tree.pending.push(signal);
             Ok(())
         }
-        None => Err(Answer::Trapped(Trap::TreeFull)),
+        None => Err(Trap::TreeFull),
     }
+}
+
+/// The job's own tree has no part in a signal that founds a new one.
+fn hold(job: Job, signal: Signal) -> Result<Job, Trap> {
+    if job.held.len() == Job::HELD {
+        return Err(Trap::HeldFull);
+    }
+    Ok(job.holding(signal))
 }
 
 fn store(state: &mut State, job: Job, to: Place, value: u16) -> Job {
@@ -182,21 +226,21 @@ struct Sight<'a> {
 }
 
 impl Sight<'_> {
-    fn read(&self, operand: &Operand) -> Result<u16, Answer> {
+    fn read(&self, operand: &Operand) -> Result<u16, Trap> {
         match *operand {
             Operand::Number(number) => Ok(number),
             Operand::Kept(Place::Register(register)) => {
-                self.registers.get(register).ok_or(Answer::Trapped(Trap::AbsentRegister))
+                self.registers.get(register).ok_or(Trap::AbsentRegister)
             }
             Operand::Kept(Place::Word(word)) => Ok(self.words[usize::from(word)]),
         }
     }
 
-    fn all(&self, data: &[Operand]) -> Result<Vec<u16>, Answer> {
+    fn all(&self, data: &[Operand]) -> Result<Vec<u16>, Trap> {
         data.iter().map(|operand| self.read(operand)).collect()
     }
 
-    fn compute(&self, formula: &Formula) -> Result<u16, Answer> {
+    fn compute(&self, formula: &Formula) -> Result<u16, Trap> {
         Ok(match formula {
             Formula::Copy(p) => self.read(p)?,
             Formula::Add(p, q) => self.read(p)?.wrapping_add(self.read(q)?),
@@ -205,7 +249,7 @@ impl Sight<'_> {
         })
     }
 
-    fn holds(&self, test: &Test) -> Result<bool, Answer> {
+    fn holds(&self, test: &Test) -> Result<bool, Trap> {
         Ok(match test {
             Test::Equal(p, q) => self.read(p)? == self.read(q)?,
             Test::Less(p, q) => self.read(p)? < self.read(q)?,

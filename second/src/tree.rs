@@ -5,7 +5,7 @@ use crate::image::Program;
 use crate::registers::Registers;
 use crate::sorts::{Label, Thread};
 
-/// A signal with its values, pending in a tree or arriving.
+/// A signal with its values: pending in a tree, held by a job or arriving.
 #[derive(Clone, Debug, PartialEq, Eq)]
 pub struct Signal {
     pub label: Label,

@@ -14,6 +14,7 @@ pub mod Machines
 pub mod Events
 pub mod Entries
 pub mod Stores
+pub mod HeldStores
 pub mod TreeStores
 pub mod SignalStores
 pub mod FirstTree

@@ -9,14 +9,15 @@ use lib.Seq.{take-at, drop-drop, getD-drop}
 use Rattle.rules.specs.Sizes.{treeCount, pendingCount, signalSize, signalsPlace, treeSize, treesPlace}
 use Rattle.rules.specs.Bytes.{part, blocks, pad}
 use Rattle.rules.specs.Machine.{Signal, Tree, Machine}
-use Rattle.rules.specs.Encoding.{noSignal, noTree, signalBytes, signalFrom, treeBytes, encode}
+use Rattle.rules.specs.Encoding.{noSignal, noTree, signalBytes, signalFrom, signalsBytes, treeBytes, encode}
 use Rattle.fields.specs.Each.{Each, each-at}
-use Rattle.fields.specs.Put.{put, length-put, put-whole, put-after, part-after, length-part}
-use Rattle.fields.specs.Filled.{removeAt, blocks-push, blocks-remove}
+use Rattle.fields.specs.Put.{put, length-put, put-after, part-after, length-part}
+use Rattle.fields.specs.Filled.{removeAt, blocks-remove}
 use Rattle.encoding.specs.Sized.{SizedSignal, SizedTree}
 use Rattle.encoding.specs.Lengths.{length-signal, length-tree}
 use Rattle.encoding.specs.Layout.{tree-on}
 use Rattle.encoding.specs.Signals.{no-signal, signal-back}
+use Rattle.encoding.specs.HeldStores.{signals-push}
 use Rattle.encoding.specs.Trees.{signal-at, tree-thread-back, pending-back}
 use Rattle.encoding.specs.TreeStores.{withTrees, tree-open, tree-close, tree-put, tree-part}
 
@@ -34,15 +35,13 @@ moved x t = record { thread = t; pending = x .pending }
 
 push-bytes : (x : Tree) (k : ℕ) (g : Signal) → length (x .pending) < pendingCount → k ≡ length (x .pending)
     → put (put (treeBytes x) (2 + signalSize * k) (signalBytes g)) 1 ((k + 1) ∷ []) ≡ treeBytes (pushed x g)
-unfolding treeBytes put
+unfolding treeBytes
 push-bytes x k g h e =
-    let r : List ℕ = blocks signalBytes (pad noSignal pendingCount (x .pending)) in
-    let w : put r (signalSize * k) (signalBytes g) ≡ blocks signalBytes (pad noSignal pendingCount (x .pending ++ g ∷ [])) =
-    blocks-push signalBytes signalSize length-signal noSignal pendingCount (x .pending) g (signalSize * k) (signalBytes g) h (rw e)
-    (omega (arith, length-signal g)) (put-whole _ _ (length-signal _ ∙ sym (length-signal g))) in
-    let n : k + 1 ≡ length (x .pending ++ g ∷ []) = simp length-append (omega arith) in
-    ap (λ l. put l 1 ((k + 1) ∷ [])) (put-after (x .thread ∷ length (x .pending) ∷ []) r (signalsPlace + signalSize * k) (signalSize * k)
-    (signalBytes g) refl) ∙ rw (w, n)
+    let S : List ℕ = signalsBytes pendingCount (x .pending) in
+    let a : List ℕ = x .thread ∷ [] in
+    ap (λ l. put l 1 ((k + 1) ∷ [])) (put-after a S (2 + signalSize * k) (1 + signalSize * k) (signalBytes g) (omega arith))
+    ∙ put-after a (put S (1 + signalSize * k) (signalBytes g)) 1 0 ((k + 1) ∷ []) (omega arith)
+    ∙ ap (λ l. x .thread ∷ l) (signals-push pendingCount k (x .pending) g h e)
 
 take-bytes : (x : Tree) (k : ℕ) → 0 < length (x .pending) → length (x .pending) ≤ pendingCount → k ≡ length (x .pending)
     → put (put (treeBytes x) 2 (part (treeBytes x) (2 + signalSize) (signalSize * (k - 1)) ++ replicate signalSize 0)) 1 ((k - 1) ∷ [])

@@ -1,7 +1,9 @@
 //! Damage to what a call is lent. Some damaged calls are still accepted.
 
+use super::events::thread;
 use super::random::Random;
 use super::Lent;
+use crate::bytes::Writer;
 use crate::calls::MET_LENGTH;
 use crate::events::{Answer, Event};
 use crate::image::{Program, Record};
@@ -14,10 +16,10 @@ use crate::tree::{Signal, Tree};
 /// One edit or a few, each of a byte, a bit, a record, a length or the thread.
 pub fn damage(random: &mut Random, lent: &mut Lent) {
     for _ in 0..random.one_of([1, 1, 1, 2, 3]) {
-        match random.weighted(&[6, 2, 8, 5, 1, 2, 8]) {
+        match random.weighted(&[6, 2, 12, 5, 1, 2, 8]) {
             0 => change_records(random, &mut lent.image, Record::WIDTH),
             1 => change_records(random, &mut lent.table, 2),
-            2 => change_state(random, &mut lent.state),
+            2 => change_state(random, &mut lent.state, &lent.image),
             3 => change_records(random, &mut lent.events, Event::WIDTH),
             4 => change_records(random, &mut lent.words, 2),
             5 => lent.thread = random.one_of([0, 1, 7, 8, 9, 255, 256, 65_536, u32::MAX]),
@@ -26,9 +28,10 @@ pub fn damage(random: &mut Random, lent: &mut Lent) {
     }
 }
 
-/// Changes the words, the threads, the tree count, the live trees and one
-/// more, or the signals of such a tree. A state of wrong length is left.
-fn change_state(random: &mut Random, state: &mut [u8]) {
+/// Changes the words, the threads, one thread's fields but its held signals, or
+/// those, the tree count, the live trees and one more, or the signals of such a
+/// tree. A state of wrong length is left.
+fn change_state(random: &mut Random, state: &mut [u8], image: &[u8]) {
     if state.len() != State::LENGTH {
         return;
     }
@@ -36,15 +39,66 @@ fn change_state(random: &mut Random, state: &mut [u8]) {
     let (threads, rest) = rest.split_at_mut(Job::WIDTH * Thread::COUNT);
     let (tree_count, trees) = rest.split_at_mut(1);
     let live = Tree::LIMIT.min(usize::from(tree_count[0]) + 1);
-    match random.weighted(&[1, 6, 1, 3, 3]) {
+    match random.weighted(&[1, 3, 5, 6, 1, 3, 3]) {
         0 => change_records(random, words, 2),
         1 => change_records(random, threads, Job::WIDTH),
-        2 => change_records(random, tree_count, 1),
-        3 => change_records(random, &mut trees[..Tree::WIDTH * live], Tree::WIDTH),
+        2 => {
+            let thread = &mut threads[Job::WIDTH * random.below(Thread::COUNT)..];
+            change_records(random, &mut thread[..Job::HELD_START], Job::HELD_START);
+        }
+        3 => change_held(random, threads, image),
+        4 => change_records(random, tree_count, 1),
+        5 => change_records(random, &mut trees[..Tree::WIDTH * live], Tree::WIDTH),
         _ => {
             let tree = &mut trees[Tree::WIDTH * random.below(live)..][..Tree::WIDTH];
             change_records(random, &mut tree[2..], Signal::WIDTH);
         }
+    }
+}
+
+/// Mostly draws new held signals for a thread, mostly for one that runs; then
+/// changes at times their count, the first one's value count or one of them.
+fn change_held(random: &mut Random, threads: &mut [u8], image: &[u8]) {
+    let runs = |thread: Thread| threads[Job::WIDTH * thread.index()..][..2] != [255, 255];
+    let record = Job::WIDTH * thread(random, runs).index();
+    let held = &mut threads[record..][Job::HELD_START..Job::WIDTH];
+    if !random.once_in(4) {
+        held.copy_from_slice(&drawn_held(random, image));
+    }
+    let (count, signals) = held.split_at_mut(1);
+    let telling = telling_byte(random);
+    match random.below(4) {
+        0 => {}
+        1 => count[0] = random.one_of([4, 5, telling]),
+        2 => signals[2] = telling,
+        _ => change_records(random, signals, Signal::WIDTH),
+    }
+}
+
+/// The end of a thread record that holds signals of this image.
+fn drawn_held(random: &mut Random, image: &[u8]) -> Vec<u8> {
+    let count = random.between(1, Job::HELD);
+    let labels: Vec<u16> = (0..count).map(|_| held_label(random, image)).collect();
+    let mut writer = Writer::default();
+    writer.list(Job::HELD, Signal::WIDTH, &labels, |writer, &label| {
+        writer.pair(label);
+        writer.list(Signal::VALUES, 2, &random.values(), |writer, &value| writer.pair(value));
+    });
+    writer.bytes
+}
+
+/// Mostly a label of entry 2, which a held signal must have; at times of
+/// another entry, or the first that no record has.
+fn held_label(random: &mut Random, image: &[u8]) -> u16 {
+    let entry = random.weighted(&[1, 1, 12, 1]);
+    let records = (0..).zip(image.chunks_exact(Record::WIDTH));
+    let fitting = records.filter(|(_, record)| usize::from(record[2]) == entry);
+    let labels: Vec<u16> = fitting.map(|(label, _)| label).collect();
+    let beyond = (image.len() / Record::WIDTH) as u16;
+    if random.once_in(16) {
+        beyond
+    } else {
+        random.pick(&labels).unwrap_or(beyond)
     }
 }
 
@@ -69,7 +123,7 @@ pub fn change_records(random: &mut Random, bytes: &mut [u8], width: usize) {
 /// A byte at or beside a limit, or any.
 fn telling_byte(random: &mut Random) -> u8 {
     let any = random.byte();
-    random.one_of([0, 1, 2, 3, 4, 7, 8, 9, 10, 11, 15, 16, 17, 24, 25, 26, 255, any])
+    random.one_of([0, 1, 2, 3, 4, 5, 7, 8, 9, 10, 11, 12, 15, 16, 17, 24, 25, 26, 255, any])
 }
 
 fn change_length(random: &mut Random, lent: &mut Lent) {

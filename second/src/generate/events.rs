@@ -80,8 +80,7 @@ impl Traffic<'_> {
         match random.weighted(&self.weights) {
             kind if kind == 0 || (idle && !self.external.is_empty()) => {
                 let label = self.external[random.below(self.external.len())];
-                let values = (0..random.few()).map(|_| random.value()).collect();
-                Event::Arrival(Signal { label, values })
+                Event::Arrival(Signal { label, values: random.values() })
             }
             1 => Event::Step(thread(random, |thread| state.first_tree(thread).is_some())),
             _ => Event::Cut(thread(random, |thread| state.job(thread).is_some())),
@@ -90,7 +89,7 @@ impl Traffic<'_> {
 }
 
 /// Mostly one of the busy threads; at times any.
-fn thread(random: &mut Random, busy: impl Fn(Thread) -> bool) -> Thread {
+pub fn thread(random: &mut Random, busy: impl Fn(Thread) -> bool) -> Thread {
     let all: Vec<Thread> = Thread::all().collect();
     let of_busy: Vec<Thread> = all.iter().copied().filter(|&thread| busy(thread)).collect();
     let any = all[random.below(all.len())];

@@ -50,17 +50,18 @@ struct Draft {
     labels: Vec<Label>,
     /// One for each label.
     slots: Vec<Slot>,
-    /// The weights of the opcodes, 1 first, at each position.
-    weights: [[usize; 10]; 3],
+    weights: Weights,
     /// One operand in so many is a register.
     register_odds: usize,
 }
 
-/// The usual weights of the opcodes, 1 first, at each position.
-const WEIGHTS: [[usize; 10]; 3] = [
-    [1, 4, 1, 3, 1, 4, 12, 0, 1, 0],
-    [0, 0, 0, 0, 3, 0, 0, 8, 2, 1],
-    [0, 0, 0, 0, 4, 0, 0, 1, 2, 5],
+/// The weights of the opcodes, 1 first, at each position.
+type Weights = [[usize; 11]; 3];
+
+const USUAL_WEIGHTS: Weights = [
+    [1, 4, 1, 3, 1, 5, 12, 0, 1, 0, 5],
+    [0, 0, 0, 0, 3, 0, 0, 8, 2, 1, 0],
+    [0, 0, 0, 0, 4, 0, 0, 1, 2, 5, 0],
 ];
 /// By what an image multiplies a usual weight.
 const MOODS: [usize; 10] = [0, 1, 1, 1, 1, 2, 2, 2, 4, 4];
@@ -82,7 +83,7 @@ impl Draft {
         let next = self.next_inside(random, at);
         let opcode = 1 + random.weighted(&self.weights[position as usize]);
         let drawn = match opcode {
-            5..=9 => self.signalling(random, opcode, block, next),
+            5..=9 | 11 => self.signalling(random, opcode, block, next),
             _ => Some(self.computing(random, opcode, at, next)),
         };
         let statement = drawn.unwrap_or(match position {
@@ -114,7 +115,7 @@ impl Draft {
         }
     }
 
-    /// A statement with data, opcodes 5 to 9; none if it has no signal to go to.
+    /// A statement with data, opcodes 5 to 9 and 11; none if it has no signal to go to.
     fn signalling(
         &self,
         random: &mut Random,
@@ -125,12 +126,10 @@ impl Draft {
         let data = self.operands(block).data(random);
         Some(match opcode {
             5 => Statement::SendDirect { signal: self.direct(random, block)?, data },
-            6 => {
-                let signal = self.one_where(random, |slot| slot.entry == Entry::Buffered)?;
-                Statement::SendBuffered { signal, data, on: next }
-            }
+            6 => Statement::SendBuffered { signal: self.buffered(random)?, data, on: next },
             7 => Statement::Call { signal: self.direct(random, block)?, data, back: next },
             8 => Statement::Return { data },
+            11 => Statement::SendJobTree { signal: self.buffered(random)?, data, on: next },
             _ => {
                 let local = |slot: &Slot| slot.block == block && slot.entry == Entry::Direct;
                 Statement::Transfer { signal: self.one_where(random, local)?, data }
@@ -144,6 +143,10 @@ impl Draft {
         let away = random.once_in(2);
         self.one_where(random, |slot| direct(slot) && !(away && slot.block == block))
             .or_else(|| self.one_where(random, direct))
+    }
+
+    fn buffered(&self, random: &mut Random) -> Option<Label> {
+        self.one_where(random, |slot| slot.entry == Entry::Buffered)
     }
 
     fn one_where(&self, random: &mut Random, fits: impl Fn(&Slot) -> bool) -> Option<Label> {
@@ -163,16 +166,22 @@ impl Draft {
     }
 }
 
-/// The usual weights in this image's mood. EXIT is always possible, and one
-/// image in three is fond of ASSIGN, IF, buffered SEND, CALL or TRANSFER.
-fn weights(random: &mut Random) -> [[usize; 10]; 3] {
-    let mut weights = WEIGHTS.map(|row| row.map(|weight| weight * random.one_of(MOODS)));
+/// The usual weights in this image's mood. EXIT is always possible, one image
+/// in three is fond of ASSIGN, IF, buffered SEND, CALL or TRANSFER, and one in
+/// four of signals that found new trees, with an EXIT to follow them.
+fn weights(random: &mut Random) -> Weights {
+    let mut weights = USUAL_WEIGHTS.map(|row| row.map(|weight| weight * random.one_of(MOODS)));
     for row in &mut weights {
         row[10 - 1] += 1;
     }
+    let within = &mut weights[Position::Within as usize];
     if random.once_in(3) {
         let fond_of = random.one_of([2, 4, 6, 6, 7, 7, 9]);
-        weights[Position::Within as usize][fond_of - 1] += 40;
+        within[fond_of - 1] += 40;
+    }
+    if random.once_in(4) {
+        within[11 - 1] += random.one_of([10, 20, 40]);
+        weights[Position::EndOfStarting as usize][10 - 1] += 20;
     }
     weights
 }

@@ -3,6 +3,8 @@
 
 mod damage;
 mod events;
+#[cfg(test)]
+mod held_trials;
 mod image;
 mod layout;
 mod operands;

@@ -70,6 +70,11 @@ impl Random {
         }
     }
 
+    /// The values a signal carries.
+    pub fn values(&mut self) -> Vec<u16> {
+        (0..self.few()).map(|_| self.value()).collect()
+    }
+
     /// How many values or data a signal carries, 0..=25: mostly few, at times all.
     pub fn few(&mut self) -> usize {
         match self.weighted(&[8, 2, 1]) {

@@ -5,7 +5,7 @@ use crate::{check, fresh, link, relocated_events, relocated_state, run, second_o
 use std::collections::BTreeSet;
 
 /// A generated machine as Fresh leaves it.
-fn begun(seed: u64) -> Lent {
+pub fn begun(seed: u64) -> Lent {
     let mut lent = lent(seed);
     assert_eq!(check(&lent.image, &lent.table), 0);
     assert_eq!(fresh(&lent.image, &lent.table, &lent.words, &mut lent.state), 0);
@@ -57,7 +57,7 @@ fn a_refused_run_alters_no_byte() {
 
 /// The answers to these events from a fresh machine on, and the state they leave.
 fn outcome(image: &[u8], table: &[u8], words: &[u8], events: &[u8]) -> (Vec<u8>, Vec<u8>) {
-    let (mut answers, mut state) = (vec![0; events.len() / 55 * 2], vec![0; 7_929]);
+    let (mut answers, mut state) = (vec![0; events.len() / 55 * 2], vec![0; 9_633]);
     assert_eq!(fresh(image, table, words, &mut state), 0);
     assert_eq!(run(image, table, &mut state, events, &mut answers), 0);
     (answers, state)

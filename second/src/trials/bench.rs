@@ -4,16 +4,18 @@ use crate::encode::{events_bytes, image_bytes};
 use crate::events::Event;
 use crate::image::{Entry, Record};
 use crate::sorts::{Block, Label, Thread};
-use crate::statement::Statement;
+use crate::statement::{Operand, Statement};
 use crate::tree::Signal;
 use crate::{fresh, run, walk};
 
-pub const STATE_LENGTH: usize = 7_929;
+pub const STATE_LENGTH: usize = 9_633;
 const THREADS: usize = 512;
-pub const TREES: usize = 1_112;
+pub const TREES: usize = 2_816;
+/// Where in a thread record the held signals begin, with their count.
+pub const HELD: usize = 75;
 /// A thread record of an idle thread.
-pub const IDLE: [u8; 75] = {
-    let mut record = [0; 75];
+pub const IDLE: [u8; 288] = {
+    let mut record = [0; 288];
     (record[0], record[1]) = (255, 255);
     record
 };
@@ -32,6 +34,10 @@ pub fn exit(block: u8, entry: Entry) -> Record {
 
 pub fn call(signal: u16, back: u16) -> Statement {
     Statement::Call { signal: at(signal), data: Vec::new(), back: at(back) }
+}
+
+pub fn hold(signal: u16, data: Vec<Operand>, on: u16) -> Statement {
+    Statement::SendJobTree { signal: at(signal), data, on: at(on) }
 }
 
 pub fn arrival(label: u16, values: &[u16]) -> Event {
@@ -82,7 +88,7 @@ impl Bench {
     }
 
     pub fn thread(&self, number: usize) -> &[u8] {
-        &self.state[THREADS + 75 * number..][..75]
+        &self.state[THREADS + 288 * number..][..288]
     }
 
     pub fn walk(&self, thread: u32) -> (u32, [u8; 8]) {

@@ -1,9 +1,11 @@
 //! The trials of linking two guests.
 
-use super::bench::{arrival, at, call, cut, exit, record, step, Bench, IDLE, TREES};
+use super::bench::{
+    arrival, at, call, cut, exit, hold, record, step, Bench, HELD, IDLE, STATE_LENGTH, TREES,
+};
 use crate::encode::{events_bytes, image_bytes};
 use crate::image::Entry;
-use crate::statement::Statement;
+use crate::statement::{Operand, Statement};
 use crate::{check, link, relocated_events, relocated_state};
 
 /// An EXIT record in each of these blocks.
@@ -101,7 +103,7 @@ fn used_labels_are_shifted_and_unused_ones_stay_zero() {
     let record = |front: &[u8]| [front, &[0; 84][front.len()..]].concat();
     let label = |image: &[u8], byte| u16::from_le_bytes([image[byte], image[byte + 1]]);
     // Each opcode in block 1, with labels A and B on the linked image.
-    let records: [(&[u8], [u16; 2]); 10] = [
+    let records: [(&[u8], [u16; 2]); 11] = [
         (&[1, 1, 1, 0, 4, 0], [304, 0]),
         (&[2, 1, 2, 1, 9, 0, 0, 0, 2, 2, 0, 0, 1, 7, 0], [309, 0]),
         (&[3, 1, 0, 0, 0, 0], [300, 0]),
@@ -112,6 +114,7 @@ fn used_labels_are_shifted_and_unused_ones_stay_zero() {
         (&[8, 1, 3, 0, 0, 0, 0, 0, 1, 2, 24, 0], [0, 0]),
         (&[9, 1, 0, 0, 0, 0], [300, 0]),
         (&[10, 1], [0, 0]),
+        (&[11, 1, 0, 0, 1, 0, 10, 0, 1, 1, 9, 0], [301, 310]),
     ];
     let first = exits(&[0; 300]);
     let second: Vec<u8> = records.iter().flat_map(|(front, _)| record(front)).collect();
@@ -126,16 +129,17 @@ fn used_labels_are_shifted_and_unused_ones_stay_zero() {
 
 #[test]
 fn the_second_guest_has_its_labels_shifted_in_events_and_state() {
-    let send = Statement::SendBuffered { signal: at(2), data: Vec::new(), on: at(1) };
+    let send = Statement::SendBuffered { signal: at(3), data: Vec::new(), on: at(1) };
     let records = [
         record(1, Entry::External, send),
-        record(1, Entry::Closed, call(3, 0)),
+        record(1, Entry::Closed, hold(3, vec![Operand::Number(6)], 2)),
+        record(1, Entry::Closed, call(4, 0)),
         exit(2, Entry::Buffered),
         exit(2, Entry::Direct),
     ];
     let mut alone = Bench::new(&[[0, 0], [3, 1], [4, 1]], &records);
     let mut guest = Bench::on(linked(&exits(&[0; 300]), &alone.image), alone.table);
-    let list = |label| [vec![arrival(label, &[9]); 2], vec![step(3); 3], vec![cut(4)]].concat();
+    let list = |label| [vec![arrival(label, &[9]); 2], vec![step(3); 4], vec![cut(4)]].concat();
     let events = relocated_events(&alone.image, &alone.table, &events_bytes(&list(0)), 300);
     assert_eq!(events, Ok(events_bytes(&list(300))));
     assert_eq!(alone.run(&list(0)), guest.run(&list(300)));
@@ -143,11 +147,13 @@ fn the_second_guest_has_its_labels_shifted_in_events_and_state() {
         relocated_state(&alone.image, &alone.table, &alone.state, 300),
         Ok(guest.state.clone())
     );
-    // Thread 3 runs at label 303 with locks 1 and 2 and return label 300.
-    assert_eq!(guest.thread(3)[..9], [47, 1, 6, 0, 1, 44, 1, 0, 0]);
+    // Thread 3 runs at label 304 with locks 1 and 2, return label 300 and a held
+    // signal of label 303.
+    assert_eq!(guest.thread(3)[..9], [48, 1, 6, 0, 1, 44, 1, 0, 0]);
+    assert_eq!(guest.thread(3)[HELD..][..7], [1, 47, 1, 1, 6, 0, 0]);
     assert_eq!(guest.thread(4), IDLE);
-    // Its tree has the signal of label 302 pending; one of label 300 waits behind.
-    assert_eq!(guest.state[TREES..][..7], [2, 3, 1, 46, 1, 0, 0]);
+    // Its tree has the signal of label 303 pending; one of label 300 waits behind.
+    assert_eq!(guest.state[TREES..][..7], [2, 3, 1, 47, 1, 0, 0]);
     assert_eq!(guest.state[TREES + 1 + 426..][..7], [3, 1, 44, 1, 1, 9, 0]);
 }
 
@@ -156,5 +162,5 @@ fn what_run_refuses_of_a_guest_is_not_relocated() {
     let bench = Bench::new(&[], &[exit(0, Entry::External)]);
     let beyond = events_bytes(&[step(0), arrival(1, &[])]);
     assert_eq!(relocated_events(&bench.image, &bench.table, &beyond, 5), Err(8 * 65_536 + 1));
-    assert_eq!(relocated_state(&bench.image, &bench.table, &[0; 7_929], 5), Err(6 * 65_536));
+    assert_eq!(relocated_state(&bench.image, &bench.table, &[0; STATE_LENGTH], 5), Err(6 * 65_536));
 }

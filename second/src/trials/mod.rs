@@ -1,5 +1,7 @@
 //! The trials: what is fixed by numbers is tried with those numbers.
 
 mod bench;
+mod held_form;
 mod link;
+mod new_trees;
 mod rules;

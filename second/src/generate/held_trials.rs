@@ -1,0 +1,120 @@
+//! Trials that generated machines meet every case of held signals.
+
+use super::trials::begun;
+use super::{damage, Lent, Random};
+use crate::events::Event;
+use crate::image::Program;
+use crate::run;
+use crate::state::State;
+use crate::step::carry_out;
+use std::collections::BTreeSet;
+
+#[test]
+fn jobs_that_hold_signals_end_in_every_way() {
+    let mut ends = BTreeSet::new();
+    for lent in (0..400).map(begun) {
+        let program = Program::decode(&lent.image, &lent.table).unwrap();
+        let mut state = State::decode(&program, &lent.state).unwrap();
+        for event in Event::decode_list(&program, &lent.events).unwrap() {
+            let holds = match event {
+                Event::Arrival(_) => false,
+                Event::Step(thread) | Event::Cut(thread) => {
+                    state.job(thread).is_some_and(|job| !job.held.is_empty())
+                }
+            };
+            let answer = carry_out(&program, &mut state, &event).encode();
+            if holds && answer[0] >= 7 {
+                ends.insert(answer);
+            }
+        }
+    }
+    let exits = (0..=4).map(|lost| [7, lost]);
+    let traps = (1..=6).map(|reason| [8, reason]);
+    assert_eq!(ends, exits.chain(traps).chain([[9, 0]]).collect());
+}
+
+/// What damage does to held signals; at times they stay well formed.
+const FAULTS: [&str; 11] = [
+    "none",
+    "held by an idle thread",
+    "count 5",
+    "count above 5",
+    "unused signal",
+    "label beyond the image",
+    "value count above 25",
+    "unused value",
+    "entry 0",
+    "entry 1",
+    "entry 3",
+];
+
+fn is_zero(bytes: &[u8]) -> bool {
+    bytes.iter().all(|&byte| byte == 0)
+}
+
+/// What is wrong with the held signals of a thread record, if anything is.
+fn fault(image: &[u8], thread: &[u8]) -> Option<&'static str> {
+    let (held, count) = (&thread[75..], usize::from(thread[75]));
+    if thread[..2] == [255, 255] {
+        return (!is_zero(held)).then_some("held by an idle thread");
+    }
+    if count > 4 {
+        return Some(if count == 5 { "count 5" } else { "count above 5" });
+    }
+    let (used, unused) = held[1..].split_at(53 * count);
+    let unused = (!is_zero(unused)).then_some("unused signal");
+    used.chunks(53).find_map(|signal| signal_fault(image, signal)).or(unused)
+}
+
+fn signal_fault(image: &[u8], signal: &[u8]) -> Option<&'static str> {
+    let label = u16::from_le_bytes([signal[0], signal[1]]);
+    let Some(record) = image.chunks(84).nth(label.into()) else {
+        return Some("label beyond the image");
+    };
+    let Some(unused) = signal[3..].get(2 * usize::from(signal[2])..) else {
+        return Some("value count above 25");
+    };
+    match record[2] {
+        0 => Some("entry 0"),
+        1 => Some("entry 1"),
+        3 => Some("entry 3"),
+        _ => (!is_zero(unused)).then_some("unused value"),
+    }
+}
+
+/// Whether the states differ, and in held signals only, with one image and table.
+fn only_held_changed(one: &Lent, other: &Lent) -> bool {
+    let cleared = |state: &[u8]| {
+        let mut state = state.to_vec();
+        state[512..2_816].chunks_mut(288).for_each(|thread| thread[75..].fill(0));
+        state
+    };
+    (&one.image, &one.table) == (&other.image, &other.table)
+        && one.state.len() == other.state.len()
+        && one.state != other.state
+        && cleared(&one.state) == cleared(&other.state)
+}
+
+#[test]
+fn damaged_held_signals_have_every_fault_and_are_refused() {
+    let random = &mut Random::new(3);
+    let mut faults = BTreeSet::new();
+    for mut whole in (0..80).map(begun) {
+        let Lent { image, table, state, events, answers, .. } = &mut whole;
+        assert_eq!(run(image, table, state, events, answers), 0);
+        (*events, *answers) = (Vec::new(), Vec::new());
+        for _ in 0..40 {
+            let mut lent = whole.clone();
+            damage(random, &mut lent);
+            if only_held_changed(&whole, &lent) {
+                let mut threads = lent.state[512..2_816].chunks(288);
+                let fault = threads.find_map(|thread| fault(&lent.image, thread));
+                faults.insert(fault.unwrap_or("none"));
+                let Lent { image, table, mut state, events, mut answers, .. } = lent;
+                let code = run(&image, &table, &mut state, &events, &mut answers);
+                assert_eq!(code / 65_536 == 6, fault.is_some());
+            }
+        }
+    }
+    assert_eq!(faults, BTreeSet::from(FAULTS));
+}
