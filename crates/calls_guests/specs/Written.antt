@@ -23,7 +23,7 @@ use Rattle.fields.specs.Tests.{are-zeros}
 use Rattle.laws.specs.Logic.{and-both, both-hold}
 use Rattle.encoding.specs.Lengths.{length-signal}
 use Rattle.encoding.specs.Numbers.{num16-le16, AreBytes}
-use Rattle.encoding.specs.Trees.{no-signal, signal-tidy}
+use Rattle.encoding.specs.Signals.{no-signal, signal-tidy}
 use Rattle.soundness.specs.StaysWellFormed.{Accepted}
 
 -- ---- the rules of an event

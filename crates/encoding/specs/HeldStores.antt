@@ -156,7 +156,7 @@ module _ (s : Machine) (t : ℕ) {b : List ℕ} (e : b ≡ encode s) (z : Sized 
       let p = parts (threadAt s t) in
       (d .0, p .0, ap (drop (wordsSize + threadSize * t)) e ∙ d .1 ∙ rw (p .1) (append-assoc (p .0) _ (d .0)), p .2)
 
-  held-all : SizedSignals heldCount (heldOf (threadAt s t))
+  pub held-all : SizedSignals heldCount (heldOf (threadAt s t))
   held-all = held-sized (threadAt s t) (thread-at-sized s t z h)
 
   pub held-count-is : getD b (wordsSize + threadSize * t + heldCountPlace) 0 ≡ length (heldOf (threadAt s t))

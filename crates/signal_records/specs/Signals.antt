@@ -14,7 +14,7 @@ use Rattle.rules.specs.WellFormed.{signalTidy}
 use Rattle.fields.specs.Blocks.{pad-split, length-pad}
 use Rattle.encoding.specs.Sized.{SizedSignal}
 use Rattle.encoding.specs.Numbers.{num16-le16, nums-back, AreBytes}
-use Rattle.encoding.specs.Trees.{signal-forth, signal-sized}
+use Rattle.encoding.specs.Signals.{signal-forth, signal-sized}
 use Rattle.signal_records.specs.declared.Signal.{Signal}
 
 -- the label, and as many values as are counted

@@ -4,7 +4,8 @@ use mathlib.Core.List.{List, []}
 use Prim.Native.Nat.{ℕ, _<_}
 use lib.ListN.{drop}
 use Rattle.rules.specs.Sizes.{threadCount}
-use Rattle.rules.specs.Machine.{Machine, threadAt, withThread, idle, heldOf}
+use Rattle.rules.specs.Machine.{Job, Machine, threadAt, withThread, idle, running, heldOf}
+use Rattle.rules.specs.Encoding.{machineFrom}
 use Rattle.fields.specs.Put.{put}
 use Rattle.encoding.specs.Encoded.{Encodes, encodes}
 use Rattle.encoding.specs.Layout.{thread-on}
@@ -14,6 +15,10 @@ use Rattle.encoding.specs.HeldStores.{held-sized, value-stored}
 use Rattle.threads.specs.Threads.{stateOf, keepHeld, Tidy, Says}
 use Rattle.threads.specs.Records.{threadPlace, rawThread, rawBytes, bytes-are, bytes-of, tidy-sized}
 use Rattle.threads.specs.declared.thread.ThreadState.{ThreadState}
+
+-- thread t runs a job
+abbrev pub Busy : List ℕ → ℕ → Type 0
+Busy b t = (l : ℕ) × (j : Job) × (threadAt (machineFrom b) t ≡ running l j)
 
 module _ (b : List ℕ) (s : Machine) (h : Encodes b s) where
   -- thread t read, and written

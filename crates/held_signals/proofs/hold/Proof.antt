@@ -1,0 +1,46 @@
+use mathlib.Core.Path.{_≡_}
+use native.Mathlib.Omega.{arith}
+use lib.ListN.{length}
+use Rattle.rules.specs.Sizes.{registerCount}
+use Rattle.signal_records.specs.Signals.{signalOf, value-sized}
+use Rattle.held_signals.specs.Held.{count-read, signal-held}
+use borrow.Author.Needs.{needs}
+use Rattle.held_signals.proofs.hold.Statement.{statement}
+use Rattle.held_signals.proofs.hold.Tie as tie
+
+long : (c : tie.Start) → length (c .args .g .values) ≡ registerCount
+long c = search needs
+
+write-signal-requires : tie.Need-write-signal-requires
+write-signal-requires c κs =
+    let n = count-read (c .before .before .before .before .before .pre .0) (c .before .before .before .before .before .args .t .0) (c .before .before .before .before .before .pre .1) (c .before .before .before .count-at .ensures) (c .before .get8 .ensures .0) in
+    (omega (arith, n, c .before .before .before .count-at .ensures, c .before .before .before .before .before .pre .0 .long, c .before .before .before .before .before .pre .1, c .before .before .before .before .before .pre .3), c .before .before .before .before .before .pre .4)
+
+cast-put8 : tie.Need-cast-put8
+cast-put8 c =
+    let n = count-read (c .before .before .before .before .before .before .before .before .before .pre .0) (c .before .before .before .before .before .before .before .before .before .args .t .0) (c .before .before .before .before .before .before .before .before .before .pre .1) (c .before .before .before .before .before .before .before .count-at .ensures) (c .before .before .before .before .before .get8 .ensures .0) in
+    omega (arith, n, c .before .before .before .before .before .before .before .before .before .pre .3)
+
+returns : tie.Need-returns
+returns c =
+    let s = c .before .before .before .before .before .before .before .before .before .before .before .before in
+    let n = count-read (c .before .before .before .before .before .before .before .before .before .before .before .before .pre .0) (c .before .before .before .before .before .before .before .before .before .before .before .before .args .t .0) (c .before .before .before .before .before .before .before .before .before .before .before .before .pre .1) (c .before .before .before .before .before .before .before .before .before .before .count-at .ensures) (c .before .before .before .before .before .before .before .before .get8 .ensures .0) in
+    signal-held (s .pre .0) (s .args .t .0) (s .pre .1) (c .before .before .before .before .before .before .before .before .get8 .result) (signalOf (s .args .g)) (s .pre .2)
+    (value-sized (s .args .g) (long s) (s .pre .4)) n (s .pre .3)
+    (rw (c .before .before .before .before .before .before .before .before .before .before .count-at .ensures) at (c .before .before .before .before .before .before .write-signal .ensures)) (rw (c .before .before .before .before .before .before .before .before .before .before .count-at .ensures) at (c .before .before .put8 .ensures))
+
+pub hold-spec : {M : Type 1} → statement M
+hold-spec =
+    tie.close
+    (tie.spec
+    (λ c κs. search needs)
+    (λ c κs. search needs)
+    (λ c. search needs)
+    (λ c. search needs)
+    (λ c. search needs)
+    write-signal-requires
+    (λ c. search needs)
+    cast-put8
+    (λ c κs. search needs)
+    (λ c. search needs)
+    returns)
