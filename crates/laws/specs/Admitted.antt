@@ -2,13 +2,17 @@
 use mathlib.Core.Path.{_≡_, refl, sym, ap, _∙_}
 use mathlib.Core.Bool.{Bool, true, false, cond}
 use mathlib.Core.List.{List, [], _∷_, _++_, append-nil, append-assoc, List·Memᴰ, List·Memᴰ·head, List·Memᴰ·tail}
-use Prim.Native.Nat.{_+_}
+use Prim.Native.Nat.{ℕ, _+_}
 use native.Mathlib.Omega.{arith}
 use lib.ListN.{length, length-append}
-use Rattle.rules.specs.Machine.{Signal, Tree, Machine}
-use Rattle.rules.specs.Steps.{Rules, grown, founded, admits, admit, admitted, lost}
+use Rattle.rules.specs.Machine.{Signal, Tree, Machine, treeThreads}
+use Rattle.rules.specs.Steps.{Rules, grown, home, founded, admits, admit, admitted, lost}
 
 module _ (R : Rules) where
+  -- whether there is room goes by the threads of the trees alone
+  pub admits-same : (l l′ : List Tree) (g : Signal) → treeThreads l′ ≡ treeThreads l → admits R l′ g ≡ admits R l g
+  admits-same l l′ g e = ap (λ (ts : List ℕ). R .room ts (home R g)) e
+
   -- what holds of a machine, and still does where the signal founds a tree
   pub admit-keeps : (P : Machine → Type 0) (g : Signal) (s : Machine) → (admits R (s .trees) g ≡ true → P (grown (founded R g) s)) → P s
       → P (admit R g s)
