@@ -2,29 +2,31 @@
 use mathlib.Core.Path.{_≡_, ap}
 use mathlib.Core.Logic.{inl, inr}
 use mathlib.Core.Option.{none, some}
-use mathlib.Core.List.{[]}
+use mathlib.Core.List.{[], _++_}
 use Prim.Native.Nat.{ℕ}
-use Rattle.rules.specs.Machine.{ThreadState, idle, Machine, threadAt, locksOf, jobOf}
-use Rattle.rules.specs.Encoding.{threadRaw, threadBytes}
-use Rattle.rules.specs.Sizes.{idleLabel}
+use Rattle.rules.specs.Machine.{ThreadState, idle, Machine, threadAt, locksOf, jobOf, heldOf}
+use Rattle.rules.specs.Encoding.{signalsBytes, threadRaw, threadBytes}
+use Rattle.rules.specs.Sizes.{heldCount, idleLabel}
 use Rattle.rules.specs.Answers.{close, sort}
 use Rattle.rules.specs.Events.{Event, threadOf}
-use Rattle.rules.specs.Steps.{Rules, Reply, react}
+use Rattle.rules.specs.Steps.{Rules, Reply, finished, react}
 use Rattle.rules.specs.declared.answer.Answer.the-variants.{Exited, Trapped, WasCut}
 use Rattle.laws.specs.Locks.{getD-set-idle}
+use Rattle.laws.specs.Admitted.{admitted-threads}
 use Rattle.laws.specs.Logic.{never}
 use Rattle.soundness.specs.Happens.{Happens, remains, founds, starts, goes, ends, happens}
 
--- no lock, no return label, no register value: the thread has no job, and its bytes are the label 65,535 and zeros
+-- no lock, no return label, no register value, no held signal: the thread has no job, and its bytes are the label 65,535 and zeros
 pub record Cleared (w : ThreadState) : Type 0 where
   pub state : w ≡ idle
   pub locks : locksOf w ≡ 0
   pub job : jobOf w ≡ none
-  pub bytes : threadBytes w ≡ threadRaw idleLabel 0 0 [] 0 []
+  pub held : heldOf w ≡ []
+  pub bytes : threadBytes w ≡ threadRaw idleLabel 0 0 [] 0 [] ++ signalsBytes heldCount []
 
 cleared : {w : ThreadState} → w ≡ idle → Cleared w
 unfolding threadBytes
-cleared e = record { state = e; locks = ap locksOf e; job = ap jobOf e; bytes = ap threadBytes e }
+cleared e = record { state = e; locks = ap locksOf e; job = ap jobOf e; held = ap heldOf e; bytes = ap threadBytes e }
 
 module _ (R : Rules) (s : Machine) (t : ℕ) where
   ended : (e : Event) (r : Reply) → Happens R s e r → threadOf e ≡ some t → sort (r .answer) ≡ close → Cleared (threadAt (r .state) t)
@@ -33,16 +35,19 @@ module _ (R : Rules) (s : Machine) (t : ℕ) where
   ended e r (founds g room) h k = never (cc)
   ended e r (starts u g p w f b) h k = never (cc)
   ended e r (goes u l j j′ words g want w a b) h k = never (cc)
-  ended e r (ends u l j a w c) h k = let q : u ≡ t = cc in rw q (cleared (getD-set-idle (s .threads) t))
+  ended e r (ends u l j gs a w f c) h k =
+      let q : u ≡ t = cc in
+      rw (admitted-threads R gs (finished R u s), q) (cleared (getD-set-idle (s .threads) t))
 
   -- an answer that ends a job
   pub every-end-is-clean : (e : Event) → threadOf e ≡ some t → sort (react R s e .answer) ≡ close
       → Cleared (threadAt (react R s e .state) t)
   every-end-is-clean e h k = ended e (react R s e) (happens R s e) h k
 
-  -- each of the three sorts of end
-  pub exit-is-clean : (e : Event) → threadOf e ≡ some t → react R s e .answer ≡ Exited → Cleared (threadAt (react R s e .state) t)
-  exit-is-clean e h k = every-end-is-clean e h (ap sort k)
+  -- each of the three sorts of end; an EXIT, however many of its signals are lost
+  pub exit-is-clean : (e : Event) (lost : ℕ) → threadOf e ≡ some t → react R s e .answer ≡ Exited lost
+      → Cleared (threadAt (react R s e .state) t)
+  exit-is-clean e lost h k = every-end-is-clean e h (ap sort k)
 
   pub trap-is-clean : (e : Event) (reason : ℕ) → threadOf e ≡ some t → react R s e .answer ≡ Trapped reason
       → Cleared (threadAt (react R s e .state) t)

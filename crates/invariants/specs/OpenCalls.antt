@@ -14,11 +14,12 @@ use Rattle.rules.specs.Image.{recordAt, labelB}
 use Rattle.rules.specs.Machine.{Job, ThreadState, idle, running, Machine, threadAt, fresh}
 use Rattle.rules.specs.Events.{Event}
 use Rattle.rules.specs.Answers.{out, sort}
-use Rattle.rules.specs.Steps.{Rules, rulesBy, Reply, react, final}
+use Rattle.rules.specs.Steps.{Rules, rulesBy, Reply, finished, react, final}
 use Rattle.rules.specs.declared.answer.Answer.{Answer}
 use Rattle.rules.specs.declared.answer.Answer.the-variants.{Taken, ListFull, NoWork, Waiting, Started, Moved, Exited, Trapped, WasCut}
 use Rattle.rules.specs.declared.answer.Answer.the-variants.{NothingToCut}
 use Rattle.laws.specs.Logic.{never, getD-same}
+use Rattle.laws.specs.Admitted.{admitted-threads}
 use Rattle.soundness.specs.Happens.{Happens, remains, founds, starts, goes, ends, happens}
 use Rattle.invariants.specs.Paths.{opened, wayAt, openAfter, openCalls, labelOf, noted, isOf, pathNext, pathFrom, pathOf}
 use Rattle.invariants.specs.Returns.{Turned, EffectTurned, act-turned}
@@ -40,7 +41,7 @@ quiet Started w path (inl h) = never (cc)
 quiet Started w path (inr h) = never (cc)
 quiet Moved w path (inl h) = never (cc)
 quiet Moved w path (inr h) = never (cc)
-quiet Exited w path h = refl
+quiet (Exited n) w path h = refl
 quiet (Trapped r) w path h = refl
 quiet WasCut w path h = refl
 quiet NothingToCut w path h = refl
@@ -90,7 +91,7 @@ module _ (image table : List ℕ) (t : ℕ) where
     tracks e r (starts u g p w f b) = turn-on u Started _ (λ z. unfold openAfter in refl)
     tracks e r (goes u l j k words g want w a b) =
         turn-on u Moved _ (λ z. turned-by l j k (rw z at w) (subst (EffectTurned _ _ (j .returns)) a (act-turned image table u j _ _)))
-    tracks e r (ends u l j a w c) = turn-on u a idle (λ z. tt)
+    tracks e r (ends u l j gs a w f c) = rw (admitted-threads R gs (finished R u s)) (turn-on u a idle (λ z. tt))
 
   tracks-all : (path : List ℕ) (s : Machine) (l : List Event) → Tracks path (threadAt s t)
       → Tracks (pathFrom R t path s l) (threadAt (final R s l) t)

@@ -5,8 +5,8 @@ use mathlib.Core.List.{List, [], _∷_, _++_}
 use Prim.Native.Nat.{ℕ}
 use lib.Dec.{eqb}
 use Rattle.rules.specs.Image.{recordAt, labelB}
-use Rattle.rules.specs.Statements.{statementOf, Way, following, branching, transferring, entering, posting, calling, returning, ending}
-use Rattle.rules.specs.Statements.{way}
+use Rattle.rules.specs.Statements.{statementOf, Way, following, branching, transferring, entering, posting, founding, calling, returning}
+use Rattle.rules.specs.Statements.{ending, way}
 use Rattle.rules.specs.Machine.{ThreadState, idle, running, Machine, threadAt, fresh}
 use Rattle.rules.specs.Events.{Event, arrive, turn}
 use Rattle.rules.specs.Steps.{Rules, older, react}
@@ -28,6 +28,7 @@ opened branching b rs = rs
 opened transferring b rs = rs
 opened entering b rs = rs
 opened posting b rs = rs
+opened founding b rs = rs
 opened calling b rs = rs ++ b ∷ []
 opened returning b rs = withoutNewest rs
 opened ending b rs = rs
@@ -59,7 +60,7 @@ noted NoWork w path = path
 noted (Waiting l) w path = path
 noted Started w path = []
 noted Moved w path = path ++ labelOf w
-noted Exited w path = path
+noted (Exited n) w path = path
 noted (Trapped r) w path = path
 noted WasCut w path = path
 noted NothingToCut w path = path

@@ -8,8 +8,8 @@ use Prim.Native.Nat.{ℕ, _<_}
 use lib.Dec.{ltb}
 use borrow.Author.Tests.{ltb-true}
 use Rattle.rules.specs.Image.{labels, recordAt, blockField, labelB}
-use Rattle.rules.specs.Statements.{operationAt, otherAt, statementOf, Way, following, branching, transferring, entering, posting, calling}
-use Rattle.rules.specs.Statements.{returning, ending, way, wayB}
+use Rattle.rules.specs.Statements.{operationAt, otherAt, statementOf, Way, following, branching, transferring, entering, posting}
+use Rattle.rules.specs.Statements.{founding, calling, returning, ending, way, wayB}
 use Rattle.rules.specs.Check.{labelOk, Checked}
 use Rattle.rules.specs.Machine.{Job, ThreadState, running, Machine, threadAt, fresh}
 use Rattle.rules.specs.Events.{Event, step}
@@ -55,6 +55,7 @@ module _ (image : List ℕ) where
   opened-called path rs x transferring e h l m = further path x l (h l m)
   opened-called path rs x entering e h l m = further path x l (h l m)
   opened-called path rs x posting e h l m = further path x l (h l m)
+  opened-called path rs x founding e h l m = further path x l (h l m)
   opened-called path rs x calling e h l m = case (List·Memᴰ·append-cases rs m)
     where
       case : List·Memᴰ l rs ⊎ List·Memᴰ l (labelB (recordAt image x) ∷ []) → CalledFrom image (path ++ x ∷ []) l
@@ -108,7 +109,7 @@ module _ (image table : List ℕ) (t : ℕ) where
     where
       same : {l : ℕ} {k : Job} → threadAt s t ≡ running l k → k ≡ j
       same v = cc
-  returned s locks j w i e r (ends u l k a v c) n m = never (let z = sym c ∙ ap sort m in cc)
+  returned s locks j w i e r (ends u l k gs a v f c) n m = never (let z = sym c ∙ ap sort m in cc)
 
   -- the label that RETURN leads to is label B of a CALL that the same job carried out
   pub return-leads-to-a-call : (words : List ℕ) (l : List Event) (locks locks′ : ℕ) (j j′ : Job)

@@ -5,9 +5,9 @@ use mathlib.Core.Option.{Option, none, some}
 use mathlib.Core.List.{List, [], _∷_, _++_, List·Memᴰ, List·Memᴰ·head, List·Memᴰ·tail}
 use Prim.Native.Nat.{ℕ}
 use Rattle.rules.specs.Image.{recordAt, labelA, labelB, Row, rowAt}
-use Rattle.rules.specs.Statements.{statementOf, dataOf, Way, following, branching, transferring, entering, posting, calling, returning}
-use Rattle.rules.specs.Statements.{ending, way, reads}
-use Rattle.rules.specs.Machine.{Job}
+use Rattle.rules.specs.Statements.{statementOf, dataOf, Way, following, branching, transferring, entering, posting, founding, calling}
+use Rattle.rules.specs.Statements.{returning, ending, way, reads}
+use Rattle.rules.specs.Machine.{Signal, Job}
 use Rattle.rules.specs.Effects.{Got, trap, got, then, unless, Cells, readAll, Next, onA, onB, intoA, callA, back, Going, Outcome, ends}
 use Rattle.rules.specs.Effects.{goes, View, leave, overflow, worked, chosen, perform, outcome}
 use Rattle.rules.specs.Steps.{Effect, traps, exits, moves, trapIf, newest, alien, steer, resolve, blockAt, actBy, view}
@@ -44,6 +44,7 @@ leave-opens branching false vs d = λ b rs. refl
 leave-opens transferring c vs d = λ b rs. refl
 leave-opens entering c vs d = λ b rs. refl
 leave-opens posting c vs d = λ b rs. refl
+leave-opens founding c vs d = λ b rs. refl
 leave-opens calling c vs d = λ b rs. refl
 leave-opens returning c vs d = λ b rs. refl
 leave-opens ending c vs d = tt
@@ -62,7 +63,7 @@ pub record Turned (w : Way) (b : ℕ) (rs : List ℕ) (j : Job) : Type 0 where
 
 abbrev pub EffectTurned : Way → ℕ → List ℕ → Effect → Type 0
 EffectTurned s b rs (traps r) = Unit {0}
-EffectTurned s b rs exits = Unit {0}
+EffectTurned s b rs (exits gs) = Unit {0}
 EffectTurned s b rs (moves j words g want) = Turned s b rs j
 
 newest-of : (r : ℕ) (rs : List ℕ) → List·Memᴰ (newest r rs) (r ∷ rs)
@@ -73,13 +74,13 @@ newest-of r (x ∷ rs) = List·Memᴰ·tail (newest-of x rs)
 no-return : (s : Way) (n : ℕ) (q : List ℕ) → n ∷ q ≡ opened s 0 (0 ∷ []) → s ≡ returning → ⊥
 no-return s n q h e = let z : n ∷ q ≡ [] = h ∙ ap (λ (w : Way). opened w 0 (0 ∷ [])) e in never (cc)
 
-module _ (s : Way) (block : ℕ → ℕ) (row : ℕ → Row) (t a b : ℕ) where
+module _ (s : Way) (block : ℕ → ℕ) (row : ℕ → Row) (t a b : ℕ) (gs : List Signal) where
   trap-turned : (c : Bool) (r : ℕ) (rs : List ℕ) (e : Effect) → EffectTurned s b rs e → EffectTurned s b rs (trapIf c r e)
   trap-turned true r rs e h = tt
   trap-turned false r rs e h = h
 
   steer-turned : (g : Going) (n : Next) (rs : List ℕ) → ((c : ℕ) (q : List ℕ) → nextReturns n c q ≡ opened s c q)
-      → EffectTurned s b rs (steer block row t a b g n rs)
+      → EffectTurned s b rs (steer block row t a b gs g n rs)
   steer-turned g onA rs h = record { returns = h b rs; label = λ e. absurd (no-return s _ _ (h 0 (0 ∷ [])) e) }
   steer-turned g onB rs h = record { returns = h b rs; label = λ e. absurd (no-return s _ _ (h 0 (0 ∷ [])) e) }
   steer-turned g intoA rs h =
@@ -89,7 +90,7 @@ module _ (s : Way) (block : ℕ → ℕ) (row : ℕ → Row) (t a b : ℕ) where
   steer-turned g back [] h = tt
   steer-turned g back (r ∷ rs) h = record { returns = h b (r ∷ rs); label = λ e. newest-of r rs }
 
-  resolve-turned : (rs : List ℕ) (o : Got Outcome) → Opens s o → EffectTurned s b rs (resolve block row t rs a b o)
+  resolve-turned : (rs : List ℕ) (o : Got Outcome) → Opens s o → EffectTurned s b rs (resolve block row t rs gs a b o)
   resolve-turned rs (trap r) h = tt
   resolve-turned rs (got ends) h = tt
   resolve-turned rs (got (goes g)) h = steer-turned g (g .next) rs h
@@ -99,6 +100,6 @@ pub act-turned : (image table : List ℕ) (t : ℕ) (j : Job) (words : List ℕ)
 unfolding actBy
 act-turned image table t j words n =
     let r = recordAt image (j .label) in
-    resolve-turned (wayAt image (j .label)) (blockAt image) (rowAt table) t (labelA r) (labelB r) (j .returns)
+    resolve-turned (wayAt image (j .label)) (blockAt image) (rowAt table) t (labelA r) (labelB r) (j .held) (j .returns)
     (outcome (view j words n) (statementOf r) (dataOf r))
     (outcome-opens (view j words n) (statementOf r) (dataOf r))

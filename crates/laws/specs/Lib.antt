@@ -9,6 +9,8 @@ pub mod Disjoint
 pub mod Locks
 pub mod Trees
 pub mod Words
+-- what an EXIT adds to the list of trees
+pub mod Admitted
 -- what passes the image check
 pub mod Faults
 pub mod Passed

@@ -5,8 +5,8 @@ use mathlib.Core.Bool.{Bool, true, false}
 use mathlib.Core.Option.{Option, none, some}
 use mathlib.Core.List.{List}
 use Prim.Native.Nat.{ℕ}
-use Rattle.rules.specs.Statements.{Way, following, branching, transferring, entering, posting, founding, calling, returning, ending, way, wayA}
-use Rattle.rules.specs.Statements.{wayB, roleA, roleB, reads}
+use Rattle.rules.specs.Statements.{Way, following, branching, transferring, entering, posting, founding, calling, returning, ending, way}
+use Rattle.rules.specs.Statements.{wayA, wayB, roleA, roleB, reads}
 use Rattle.rules.specs.Effects.{Got, trap, got, then, unless, Cells, readAll, Next, onA, onB, intoA, callA, back, Outcome, ends, goes}
 use Rattle.rules.specs.Effects.{View, leave, overflow, worked, chosen, perform, outcome}
 use Rattle.rules.specs.declared.statement.Operand.{Operand}

@@ -1,7 +1,7 @@
 -- What an event of one thread leaves as it was for another, and that the changes of two threads can be made in either order.
 use mathlib.Core.Path.{_≡_, refl, sym, ap, _∙_}
 use mathlib.Core.Logic.{_≢_}
-use mathlib.Core.Bool.{true, false, true≢false}
+use mathlib.Core.Bool.{Bool, true, false, cond, true≢false}
 use mathlib.Core.Option.{Option, none, some}
 use mathlib.Core.List.{List, [], _∷_, List·Memᴰ·head}
 use Prim.Native.Nat.{ℕ}
@@ -10,8 +10,10 @@ use Rattle.rules.specs.Bytes.{has}
 use Rattle.rules.specs.Machine.{Signal, Tree, Job, ThreadState, idle, running, Machine, threadAt, locksOf, jobOf, first, put, treeThreads}
 use Rattle.rules.specs.Machine.{window}
 use Rattle.rules.specs.Events.{Kind, stepping, cutting, Event, arrive, turn, threadOf}
-use Rattle.rules.specs.Steps.{Rules, Move, plan, planStep, planTurn, planArrive, written, applied, grown, finished, requeued}
-use Rattle.laws.specs.Trees.{first-put-other, put-comm, first-append, put-append}
+use Rattle.rules.specs.Steps.{Rules, Move, plan, planStep, planTurn, planArrive, written, applied, grown, founded, finished, requeued}
+use Rattle.rules.specs.Steps.{admits, admit, admitted, lost}
+use Rattle.laws.specs.Trees.{first-put-other, put-comm, first-append, put-append, threads-put}
+use Rattle.laws.specs.Admitted.{admits-same, admit-keeps, admitted-keeps}
 use Rattle.laws.specs.Words.{window-keep-other, keep-comm}
 use Rattle.soundness.specs.Invariant.{Invariant, Sound}
 
@@ -41,7 +43,7 @@ module _ (R : Rules) where
   pub same-arrive : (g : Signal) (s s′ : Machine) → treeThreads (s′ .trees) ≡ treeThreads (s .trees)
       → plan R s′ (arrive g) ≡ plan R s (arrive g)
   unfolding plan planArrive
-  same-arrive g s s′ h = rw h refl
+  same-arrive g s s′ h = rw (admits-same R (s .trees) (s′ .trees) g h) refl
 
   -- ---- the parts of the machine, changed by one thread and read by another
 
@@ -85,6 +87,18 @@ module _ (R : Rules) where
     cells = λ j e. refl;
   }
 
+  -- the same of the signals of an EXIT, in the machine that it left
+  pub same-admitted : (s z : Machine) (t : ℕ) (gs : List Signal) (p : List Signal) → first t (s .trees) ≡ some p → Same t s z
+      → Same t s (admitted R gs z)
+  same-admitted s z t gs p f =
+      admitted-keeps R (Same t s) gs
+      (λ g m y room h. record {
+        thread = h .thread;
+        tree = first-append t p (y .trees) (founded R g ∷ []) (h .tree ∙ f) ∙ sym f;
+        cells = h .cells;
+      })
+      z
+
   -- ---- the changes of two threads in either order
 
   pub comm-applied : (s : Machine) (t u : ℕ) (m n : Move) → t ≢ u
@@ -115,3 +129,39 @@ module _ (R : Rules) where
         put-comm t u none (some (m .pending)) (s .trees),
         first-put-other u t,
       ) refl)
+
+  -- a move changes no tree's thread, so a signal that founds a tree before it does so after it
+  admits-applied : (t : ℕ) (m : Move) (g : Signal) (s : Machine) → admits R (applied R t m s .trees) g ≡ admits R (s .trees) g
+  admits-applied t m g s = admits-same R (s .trees) (applied R t m s .trees) g (threads-put t (m .pending) (s .trees))
+
+  admit-applied : (t : ℕ) (m : Move) (p : List Signal) (g : Signal) (s : Machine) → first t (s .trees) ≡ some p
+      → admit R g (applied R t m s) ≡ applied R t m (admit R g s)
+  admit-applied t m p g s h = rw (admits-applied t m g s) (case (admits R (s .trees) g))
+    where
+      case : (b : Bool)
+          → cond b (grown (founded R g) (applied R t m s)) (applied R t m s) ≡ applied R t m (cond b (grown (founded R g) s) s)
+      case true = sym (comm-grown s t m (founded R g) p h)
+      case false = refl
+
+  first-admit : (t : ℕ) (p : List Signal) (g : Signal) (s : Machine) → first t (s .trees) ≡ some p
+      → first t (admit R g s .trees) ≡ some p
+  first-admit t p g s h =
+      admit-keeps R (λ (z : Machine). first t (z .trees) ≡ some p) g s (λ e. first-append t p (s .trees) (founded R g ∷ []) h) h
+
+  pub comm-admitted : (t : ℕ) (m : Move) (p : List Signal) (gs : List Signal) (s : Machine) → first t (s .trees) ≡ some p
+      → applied R t m (admitted R gs s) ≡ admitted R gs (applied R t m s)
+  unfolding admitted
+  comm-admitted t m p [] s h = refl
+  comm-admitted t m p (g ∷ gs) s h =
+      comm-admitted t m p gs (admit R g s) (first-admit t p g s h) ∙ ap (admitted R gs) (sym (admit-applied t m p g s h))
+
+  -- and the same signals are lost
+  pub lost-applied : (t : ℕ) (m : Move) (p : List Signal) (gs : List Signal) (s : Machine) → first t (s .trees) ≡ some p
+      → lost R gs (applied R t m s) ≡ lost R gs s
+  unfolding lost
+  lost-applied t m p [] s h = refl
+  lost-applied t m p (g ∷ gs) s h =
+      let k : lost R gs (admit R g (applied R t m s)) ≡ lost R gs (admit R g s) =
+      ap (lost R gs) (admit-applied t m p g s h) ∙ lost-applied t m p gs (admit R g s) (first-admit t p g s h)
+      in
+      rw (k, admits-applied t m g s) refl

@@ -10,10 +10,10 @@ use native.Mathlib.Decide.{ℕ-discrete}
 use lib.ListN.{length, getD, set, length-set}
 use lib.Seq.{getD-set-same, getD-set-other}
 use Rattle.rules.specs.Sizes.{threadCount}
-use Rattle.rules.specs.Machine.{Signal, ThreadState, idle, running, Machine, threadAt, fresh, first, treeThreads}
+use Rattle.rules.specs.Machine.{Signal, ThreadState, idle, running, Machine, threadAt, fresh, first}
 use Rattle.rules.specs.Events.{Kind, stepping, cutting, Event, arrive, turn, threadOf, Valid}
 use Rattle.rules.specs.Answers.{Sort, out, now, join, close, sort}
-use Rattle.rules.specs.Steps.{Rules, Effect, traps, exits, moves, Move, Plan, stay, grow, move, finish, home, founded}
+use Rattle.rules.specs.Steps.{Rules, Effect, traps, exits, moves, Move, Plan, stay, grow, move, finish, leave, founded, admits, finished}
 use Rattle.rules.specs.Steps.{planArrive, planIdle, planRunning, planStep, planCut, planTurn, plan, attempt, carry, react, final}
 use Rattle.rules.specs.Order.{Sheet, noteAs, notesBy, blank, Entry, rowOf, log}
 use Rattle.rules.specs.declared.answer.Answer.{Answer}
@@ -21,6 +21,7 @@ use Rattle.rules.specs.declared.answer.Answer.the-variants.{ListFull, Started, 
 use Rattle.laws.specs.Logic.{getD-same}
 use Rattle.soundness.specs.Laws.{Laws}
 use Rattle.laws.specs.Locks.{getD-set-idle}
+use Rattle.laws.specs.Admitted.{admitted-threads}
 use Rattle.soundness.specs.Invariant.{Invariant, Good, good, at-mover, at-other, invariant-fresh, invariant-react}
 use Rattle.one_by_one.specs.Reading.{AllValid, bySort, byRow, row-is}
 
@@ -86,6 +87,7 @@ module _ (R : Rules) where
   Before s (grow x) = Unit {0}
   Before s (move t m) = Continues (m .answer) (threadAt s t)
   Before s (finish t a) = Running (threadAt s t)
+  Before s (leave t gs) = Running (threadAt s t)
 
   before-idle : (s : Machine) (t : ℕ) (f : Option (List Signal)) → threadAt s t ≡ idle → Before s (planIdle R t f)
   unfolding planIdle
@@ -96,7 +98,7 @@ module _ (R : Rules) where
   before-running : (s : Machine) (t b : ℕ) (p : List Signal) (e : Effect) → Running (threadAt s t) → Before s (planRunning t b p e)
   unfolding planRunning
   before-running s t b p (traps r) h = h
-  before-running s t b p exits h = h
+  before-running s t b p (exits gs) h = h
   before-running s t b p (moves j words g want) h = inr (refl, h)
 
   before-turn : (k : Kind) (s : Machine) (t : ℕ) (w : ThreadState) → threadAt s t ≡ w
@@ -109,7 +111,7 @@ module _ (R : Rules) where
 
   before : (s : Machine) (e : Event) → Before s (plan R s e)
   unfolding plan planArrive
-  before s (arrive g) = case (R .room (treeThreads (s .trees)) (home R g))
+  before s (arrive g) = case (admits R (s .trees) g)
     where
       case : (d : Bool) → Before s (cond d (grow (founded R g)) (stay ListFull))
       case true = tt
@@ -146,6 +148,9 @@ module _ (R : Rules) (L : Laws R) where
   turn-carry s e (move t m) i v g h = rw (row-is e t (g .1)) (turn-attempt s e t m _ i v g h)
   turn-carry s e (finish t a) i v g h =
       rw (row-is e t (g .0), g .1) (h, getD-set-idle (s .threads) t, (λ k n. getD-set-other (s .threads) t k idle idle n), g .0)
+  turn-carry s e (leave t gs) i v g h =
+      rw (row-is e t g, admitted-threads R gs (finished R t s))
+      (h, getD-set-idle (s .threads) t, (λ k n. getD-set-other (s .threads) t k idle idle n), g)
 
   turn-of : (s : Machine) (e : Event) → Invariant R s → Valid e
       → Turn s e (rowOf e) (react R s e .state) (react R s e .answer) (sort (react R s e .answer))

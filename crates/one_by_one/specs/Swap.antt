@@ -4,24 +4,27 @@ use mathlib.Core.Path.{_≡_, refl, sym, ap, _∙_}
 use mathlib.Core.Logic.{_≢_, _⊎_, inl, inr}
 use mathlib.Core.Bool.{true, false, true≢false}
 use mathlib.Core.Option.{Option, none, some}
+use mathlib.Core.List.{List, []}
 use Prim.Native.Nat.{ℕ, _<_}
 use native.Mathlib.Decide.{ℕ-discrete}
 use lib.Seq.{getD-set-other}
 use Rattle.rules.specs.Sizes.{threadCount}
 use Rattle.rules.specs.Bytes.{has}
-use Rattle.rules.specs.Machine.{idle, Machine, threadAt, locksOf}
+use Rattle.rules.specs.Machine.{Signal, idle, Machine, threadAt, locksOf}
 use Rattle.rules.specs.Events.{Event, arrive, turn, threadOf, Valid}
 use Rattle.rules.specs.Answers.{out, join, sort}
-use Rattle.rules.specs.Steps.{Rules, Move, Plan, stay, grow, move, finish, Reply, plan, blocked, grant, applied, grown, finished, attempt}
-use Rattle.rules.specs.Steps.{carry, react}
+use Rattle.rules.specs.Steps.{Rules, Move, Plan, stay, grow, move, finish, leave, Reply, plan, blocked, grant, applied, grown, finished}
+use Rattle.rules.specs.Steps.{admitted, lost, attempt, carry, react}
+use Rattle.rules.specs.declared.answer.Answer.the-variants.{Exited}
 use Rattle.laws.specs.Logic.{never, not-true}
 use Rattle.laws.specs.Sets.{has-none}
 use Rattle.laws.specs.Trees.{threads-put}
+use Rattle.laws.specs.Admitted.{admitted-threads}
 use Rattle.soundness.specs.Laws.{Laws}
 use Rattle.laws.specs.Locks.{grant-keeps, grant-takes, grant-either, Clear, blocked-clear, clear-blocked, getD-set-idle}
 use Rattle.soundness.specs.Invariant.{Invariant, Sound, Good, good, at-mover, at-other}
 use Rattle.one_by_one.specs.Frame.{Same, same-plan, same-arrive, same-applied, same-grown, same-finished, comm-applied, comm-grown}
-use Rattle.one_by_one.specs.Frame.{comm-finished, unlike}
+use Rattle.one_by_one.specs.Frame.{comm-finished, same-admitted, comm-admitted, lost-applied, unlike}
 
 module _ (R : Rules) (L : Laws R) where
   -- x then y, and y then x, from the machine s
@@ -62,6 +65,7 @@ module _ (R : Rules) (L : Laws R) where
   joined-plan s x (grow z) k g e = never (cc)
   joined-plan s x (move t m) k g e = joined-move s x t m _ k g refl e
   joined-plan s x (finish t a) k g e = never (cc (g .1))
+  joined-plan s x (leave t gs) k g e = never (cc)
 
   pub joined : (s : Machine) (x : Event) → Invariant R s → sort (react R s x .answer) ≡ join → Joined s x
   unfolding react
@@ -158,8 +162,30 @@ module _ (R : Rules) (L : Laws R) where
               (λ p q e e′. unlike R s (j .thread) t (p .0) (q .0) i d (j .sound .writes p e) (g .0 .writes q e′))));
         }
 
+    -- an end of another thread's job, with the signals that found trees: none but at an EXIT
+    rest-end : (t : ℕ) (gs : List Signal) → threadOf y ≡ some t
+        → react R (admitted R gs (finished R t s)) x ≡ record { state = admitted R gs (finished R t after); answer = j .act .answer }
+    rest-end t gs g =
+        let r = j .sound .root in
+        let d : j .thread ≢ t = other t g in
+        let a : Same R (j .thread) s (finished R t s) = same-finished R s (j .thread) t (r .0) (r .1) d in
+        again (admitted R gs (finished R t s)) (same-admitted R s (finished R t s) (j .thread) gs (r .0) (r .1) a)
+        (rw (admitted-threads R gs (finished R t s)) (clear-finished s t (j .thread) (j .act .want) free))
+        ∙ leaves
+        (comm-admitted R (j .thread) (j .act) (r .0) gs (finished R t s) (a .tree ∙ r .1)
+        ∙ ap (admitted R gs) (comm-finished R s (j .thread) t (j .act) (r .0) d (r .1)))
+
+    -- and as many are lost
+    same-lost : (t : ℕ) (gs : List Signal) → threadOf y ≡ some t → lost R gs (finished R t s) ≡ lost R gs (finished R t after)
+    same-lost t gs g =
+        let r = j .sound .root in
+        let d : j .thread ≢ t = other t g in
+        sym (lost-applied R (j .thread) (j .act) (r .0) gs (finished R t s)
+        (same-finished R s (j .thread) t (r .0) (r .1) d .tree ∙ r .1))
+        ∙ ap (lost R gs) (comm-finished R s (j .thread) t (j .act) (r .0) d (r .1))
+
     rest : (q : Plan) → Good R s (threadOf y) q → ¬ (sort (carry R after q .answer) ≡ out) → Rest q
-    unfolding carry
+    unfolding carry admitted
     rest (stay a) g k = record { same = refl; then = react-move s x (j .thread) (j .act) (j .plans) (j .clear) }
     rest (grow z) g k =
         let r = j .sound .root in
@@ -170,15 +196,8 @@ module _ (R : Rules) (L : Laws R) where
               ∙ leaves (comm-grown R s (j .thread) (j .act) z (r .0) (r .1));
         }
     rest (move t m) g k = rest-move t m _ g refl k
-    rest (finish t a) g k =
-        let r = j .sound .root in
-        let d : j .thread ≢ t = other t (g .0) in
-        record {
-          same = refl;
-          then =
-              again (finished R t s) (same-finished R s (j .thread) t (r .0) (r .1) d) (clear-finished s t (j .thread) (j .act .want) free)
-              ∙ leaves (comm-finished R s (j .thread) t (j .act) (r .0) d (r .1));
-        }
+    rest (finish t a) g k = record { same = refl; then = rest-end t [] (g .0) }
+    rest (leave t gs) g k = record { same = ap Exited (same-lost t gs g); then = rest-end t gs g }
 
     swap-joined : ¬ (sort (react R (react R s x .state) y .answer) ≡ out) → Swapped s x y
     swap-joined k =

@@ -77,25 +77,26 @@ module _ (R : Rules) where
   mem-older a (c ∷ l) b (List·Memᴰ·tail (List·Memᴰ·tail m)) = List·Memᴰ·tail (mem-older c l b (List·Memᴰ·tail m))
 
 module _ (R : Rules) (row : ℕ → Row) where
-  back-stays : (t : ℕ) (j : Job) (a b : ℕ) (g : Going) (rs : List ℕ) → j .returns ≡ rs → Stays R j (steer (R .block) row t a b g back rs)
+  back-stays : (t : ℕ) (j : Job) (a b : ℕ) (g : Going) (rs : List ℕ) → j .returns ≡ rs
+      → Stays R j (steer (R .block) row t a b (j .held) g back rs)
   back-stays t j a b g [] e = tt
   back-stays t j a b g (r ∷ rs) e =
       λ c m. inl (List·Memᴰ·tail (subst (λ (z : List ℕ). List·Memᴰ c (map (R .block) z)) (sym e) (mem-older R r rs c m)))
 
   module _ (t : ℕ) (j : Job) (x y : Role) (a b : ℕ) (ha : Home R (R .block (j .label)) x a) (hb : Home R (R .block (j .label)) y b) where
-    steer-stays : (g : Going) (n : Next) → Leads x y n → Stays R j (steer (R .block) row t a b g n (j .returns))
+    steer-stays : (g : Going) (n : Next) → Leads x y n → Stays R j (steer (R .block) row t a b (j .held) g n (j .returns))
     steer-stays g onA n = on-home R j a (home-A R _ x a ha n)
     steer-stays g onB n = on-home R j b (home-as R _ y Inner b hb n)
     steer-stays g intoA n = trap-stays R j (alien (row (R .block a)) t) 5 _ (into-other R j a)
     steer-stays g callA n = trap-stays R j (alien (row (R .block a)) t) 5 _ (calls-other R j a b (home-as R _ y Inner b hb (n .1)))
     steer-stays g back n = back-stays t j a b g (j .returns) refl
 
-    resolve-stays : (o : Got Outcome) → Refers x y o → Stays R j (resolve (R .block) row t (j .returns) a b o)
+    resolve-stays : (o : Got Outcome) → Refers x y o → Stays R j (resolve (R .block) row t (j .returns) (j .held) a b o)
     resolve-stays (trap r) k = tt
     resolve-stays (got ends) k = tt
     resolve-stays (got (goes g)) k = steer-stays g (g .next) (k .0)
 
   pub statement-stays : (t : ℕ) (j : Job) (s : Statement) (a b : ℕ) → Home R (R .block (j .label)) (roleA s) a
       → Home R (R .block (j .label)) (roleB s) b
-      → (v : View) (given : List Operand) → Stays R j (resolve (R .block) row t (j .returns) a b (outcome v s given))
+      → (v : View) (given : List Operand) → Stays R j (resolve (R .block) row t (j .returns) (j .held) a b (outcome v s given))
   statement-stays t j s a b ha hb v given = resolve-stays t j (roleA s) (roleB s) a b ha hb (outcome v s given) (refers v s given)

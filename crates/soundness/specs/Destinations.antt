@@ -1,5 +1,5 @@
 -- Where a statement of a checked image leads: every label of the job that it leaves is below n and in a block that the thread may be
--- in, and a signal that it sends has entry 2.
+-- in, and a signal that it sends or holds has entry 2.
 use mathlib.Core.Path.{_≡_, refl, subst}
 use mathlib.Core.Bool.{Bool, true, false, not, _&&_, _||_, true≢false}
 use mathlib.Core.Logic.{_⊎_, inl, inr}
@@ -16,8 +16,9 @@ use Rattle.rules.specs.Statements.{statementOf, roleA, roleB, dataOf}
 use Rattle.rules.specs.Check.{labelOk, recordOk}
 use Rattle.rules.specs.Machine.{Signal, Job}
 use Rattle.rules.specs.Effects.{Got, trap, got, Next, onA, onB, intoA, callA, back, Going, Outcome, ends, goes, outcome}
-use Rattle.rules.specs.Steps.{Effect, traps, exits, moves, trapIf, newest, older, signalTo, alien, steer, resolve, blockAt, actBy, view}
-use Rattle.rules.specs.WellFormed.{openTo, pendingOk}
+use Rattle.rules.specs.Steps.{Effect, traps, exits, moves, trapIf, newest, older, signalTo, holdOn, alien, onward, steer, resolve, blockAt}
+use Rattle.rules.specs.Steps.{actBy, view}
+use Rattle.rules.specs.WellFormed.{openTo, heldOk}
 use Rattle.rules.specs.declared.statement.Role.{Role}
 use Rattle.rules.specs.declared.statement.Role.the-variants.{Unused, Inner, Direct, Local, Buffered}
 use Rattle.fields.specs.Each.{Each, each-append}
@@ -25,7 +26,7 @@ use Rattle.laws.specs.Roles.{Leads, Sends, Refers, refers}
 use Rattle.laws.specs.Heads.{Head, head-fields}
 use Rattle.laws.specs.Passed.{Passed, row-in, Parts, rule-parts}
 use Rattle.laws.specs.Logic.{and-both}
-use Rattle.soundness.specs.Sound.{PlaceIn, PendingIn}
+use Rattle.soundness.specs.Sound.{PlaceIn, HeldIn, JobIn}
 
 module _ (image table : List ℕ) where
   -- what the check says of a label v of this role, in a record of block b
@@ -89,21 +90,25 @@ module _ (image table : List ℕ) where
 
     abbrev pub SentIn : Option Signal → Type 0
     SentIn none = Unit {0}
-    SentIn (some g) = PendingIn image table g
+    SentIn (some g) = HeldIn image table g
 
     abbrev pub EffectIn : ℕ → Effect → Type 0
     EffectIn t (traps r) = Unit {0}
-    EffectIn t exits = Unit {0}
-    EffectIn t (moves j words g want) = Each (PlaceIn image table t) (j .label ∷ j .returns) × SentIn g
+    EffectIn t (exits gs) = Each (HeldIn image table) gs
+    EffectIn t (moves j words g want) = JobIn image table t j × SentIn g
 
     trap-in : (t : ℕ) (c : Bool) (r : ℕ) (e : Effect) → (c ≡ false → EffectIn t e) → EffectIn t (trapIf c r e)
     trap-in t true r e h = tt
     trap-in t false r e h = h refl
 
     sent-in : (a b : ℕ) (x : Role) (o : Option (List ℕ)) → LabelIn b x a → Sends x o → SentIn (signalTo a o)
-    unfolding pendingOk
+    unfolding heldOk
     sent-in a b x none h k = tt
     sent-in a b x (some vs) h k = let e : entry (recordAt image a) ≡ 2 = subst (λ (z : Role). LabelIn b z a) k h in rw e refl
+
+    hold-in : (gs : List Signal) (o : Option Signal) → Each (HeldIn image table) gs → SentIn o → Each (HeldIn image table) (holdOn gs o)
+    hold-in gs none h k = h
+    hold-in gs (some g) h k = each-append (HeldIn image table) gs (g ∷ []) h (k, tt)
 
     newest-in : (P : ℕ → Type 0) (a : ℕ) (l : List ℕ) → P a → Each P l → P (newest a l)
     newest-in P a [] h k = h
@@ -113,7 +118,7 @@ module _ (image table : List ℕ) where
     older-in P a [] h k = tt
     older-in P a (b ∷ l) h k = (h, older-in P b l (k .0) (k .1))
 
-    module _ (t : ℕ) (j : Job) (p : Each (PlaceIn image table t) (j .label ∷ j .returns)) (x y : Role) (a b : ℕ)
+    module _ (t : ℕ) (j : Job) (p : JobIn image table t j) (x y : Role) (a b : ℕ)
         (ha : LabelIn (blockAt image (j .label)) x a) (hb : LabelIn (blockAt image (j .label)) y b) where
       a-as : (z : Role) → x ≡ z → LabelIn (blockAt image (j .label)) z a
       a-as z e = subst (λ (w : Role). LabelIn (blockAt image (j .label)) w a) e ha
@@ -122,41 +127,51 @@ module _ (image table : List ℕ) where
       b-as z e = subst (λ (w : Role). LabelIn (blockAt image (j .label)) w b) e hb
 
       on-A : (x ≡ Inner) ⊎ (x ≡ Local) → PlaceIn image table t a
-      on-A (inl e) = inside t (j .label) a (p .0) (a-as Inner e .0) (a-as Inner e .1)
-      on-A (inr e) = inside t (j .label) a (p .0) (a-as Local e .0) (a-as Local e .1)
+      on-A (inl e) = inside t (j .label) a (p .places .0) (a-as Inner e .0) (a-as Inner e .1)
+      on-A (inr e) = inside t (j .label) a (p .places .0) (a-as Local e .0) (a-as Local e .1)
 
       on-B : y ≡ Inner → PlaceIn image table t b
-      on-B e = inside t (j .label) b (p .0) (b-as Inner e .0) (b-as Inner e .1)
+      on-B e = inside t (j .label) b (p .places .0) (b-as Inner e .0) (b-as Inner e .1)
 
-      back-in : (g : Going) (rs : List ℕ) → Each (PlaceIn image table t) rs → SentIn (signalTo a (g .sent))
-          → EffectIn t (steer (blockAt image) (rowAt table) t a b g back rs)
-      back-in g [] h k = tt
-      back-in g (r ∷ rs) h k =
-          ((newest-in (PlaceIn image table t) r rs (h .0) (h .1), older-in (PlaceIn image table t) r rs (h .0) (h .1)), k)
+      module _ (g : Going) (sent : Sends x (g .sent)) (held : Sends x (g .held)) where
+        -- whatever lock it asks for
+        onward-in : (l : ℕ) (rs : List ℕ) → Each (PlaceIn image table t) (l ∷ rs)
+            → EffectIn t (onward (blockAt image) (rowAt table) l rs (j .held) a g none)
+        onward-in l rs q = (
+          record { places = q; held = hold-in (j .held) (signalTo a (g .held)) (p .held) (sent-in a _ x (g .held) ha held) },
+          sent-in a _ x (g .sent) ha sent,
+        )
 
-      steer-in : (g : Going) (n : Next) → Leads x y n → SentIn (signalTo a (g .sent))
-          → EffectIn t (steer (blockAt image) (rowAt table) t a b g n (j .returns))
-      steer-in g onA n k = ((on-A n, p .1), k)
-      steer-in g onB n k = ((on-B n, p .1), k)
-      steer-in g intoA n k = trap-in t (alien (rowAt table (blockAt image a)) t) 5 _ (λ e. ((entered t a (a-as Direct n) e, p .1), k))
-      steer-in g callA n k =
-          trap-in t (alien (rowAt table (blockAt image a)) t) 5 _
-          (λ e.
-          let returns = each-append (PlaceIn image table t) (j .returns) (b ∷ []) (p .1) (on-B (n .1), tt) in
-          ((entered t a (a-as Direct (n .0)) e, returns), k))
-      steer-in g back n k = back-in g (j .returns) (p .1) k
+        back-in : (rs : List ℕ) → Each (PlaceIn image table t) rs
+            → EffectIn t (steer (blockAt image) (rowAt table) t a b (j .held) g back rs)
+        back-in [] h = tt
+        back-in (r ∷ rs) h =
+            onward-in _ _ (newest-in (PlaceIn image table t) r rs (h .0) (h .1), older-in (PlaceIn image table t) r rs (h .0) (h .1))
 
-      resolve-in : (o : Got Outcome) → Refers x y o → EffectIn t (resolve (blockAt image) (rowAt table) t (j .returns) a b o)
+        steer-in : (n : Next) → Leads x y n → EffectIn t (steer (blockAt image) (rowAt table) t a b (j .held) g n (j .returns))
+        steer-in onA n = onward-in a (j .returns) (on-A n, p .places .1)
+        steer-in onB n = onward-in b (j .returns) (on-B n, p .places .1)
+        steer-in intoA n =
+            trap-in t (alien (rowAt table (blockAt image a)) t) 5 _
+            (λ e. onward-in a (j .returns) (entered t a (a-as Direct n) e, p .places .1))
+        steer-in callA n =
+            trap-in t (alien (rowAt table (blockAt image a)) t) 5 _
+            (λ e.
+            let returns = each-append (PlaceIn image table t) (j .returns) (b ∷ []) (p .places .1) (on-B (n .1), tt) in
+            onward-in a _ (entered t a (a-as Direct (n .0)) e, returns))
+        steer-in back n = back-in (j .returns) (p .places .1)
+
+      resolve-in : (o : Got Outcome) → Refers x y o
+          → EffectIn t (resolve (blockAt image) (rowAt table) t (j .returns) (j .held) a b o)
       resolve-in (trap r) k = tt
-      resolve-in (got ends) k = tt
-      resolve-in (got (goes g)) k = steer-in g (g .next) (k .0) (sent-in a _ x (g .sent) ha (k .1))
+      resolve-in (got ends) k = p .held
+      resolve-in (got (goes g)) k = steer-in g (k .1) (k .2) (g .next) (k .0)
 
-    pub act-in : (t : ℕ) (j : Job) (words : List ℕ) (n : ℕ) → Each (PlaceIn image table t) (j .label ∷ j .returns)
-        → EffectIn t (actBy image table t j words n)
+    pub act-in : (t : ℕ) (j : Job) (words : List ℕ) (n : ℕ) → JobIn image table t j → EffectIn t (actBy image table t j words n)
     unfolding actBy
     act-in t j words n p =
         let r = recordAt image (j .label) in
-        let k = parts (j .label) (p .0 .below) in
+        let k = parts (j .label) (p .places .0 .below) in
         resolve-in t j p (roleA (statementOf r)) (roleB (statementOf r)) (labelA r) (labelB r)
         (label-in (roleA (statementOf r)) (blockField r) (labelA r) (k .a))
         (label-in (roleB (statementOf r)) (blockField r) (labelB r) (k .b))

@@ -7,12 +7,12 @@ use mathlib.Core.Option.{Option, none, some}
 use mathlib.Core.List.{List, [], _∷_, _++_}
 use Prim.Native.Nat.{ℕ}
 use lib.ListN.{length}
-use Rattle.rules.specs.Machine.{Signal, Job, ThreadState, idle, running, Machine, threadAt, first, treeThreads, window}
+use Rattle.rules.specs.Machine.{Signal, Job, ThreadState, idle, running, Machine, threadAt, first, window}
 use Rattle.rules.specs.Answers.{out, close, sort}
 use Rattle.rules.specs.Events.{Kind, stepping, cutting, Event, arrive, turn, threadOf}
-use Rattle.rules.specs.Steps.{Rules, Effect, traps, exits, moves, Move, stay, grow, Reply, begin, added, pendingOf, home, founded}
-use Rattle.rules.specs.Steps.{planArrive, planIdle, planRunning, planStep, planCut, plan, blocked, applied, grown, finished, attempt}
-use Rattle.rules.specs.Steps.{carry, react}
+use Rattle.rules.specs.Steps.{Rules, Effect, traps, exits, moves, Move, stay, grow, Reply, begin, added, pendingOf, founded, admits}
+use Rattle.rules.specs.Steps.{planArrive, planIdle, planRunning, planStep, planCut, plan, blocked, applied, grown, finished, admitted}
+use Rattle.rules.specs.Steps.{attempt, carry, react}
 use Rattle.rules.specs.declared.answer.Answer.{Answer}
 use Rattle.rules.specs.declared.answer.Answer.the-variants.{Taken, ListFull, Started, Moved}
 
@@ -28,29 +28,38 @@ goOf b p j words g want = record { job = j; write = some (b, words); pending = p
 abbrev pub Quiet : Event → Answer → Type 0
 Quiet e a = (sort a ≡ out) ⊎ ((threadOf e ≡ none) × (a ≡ ListFull))
 
+-- what the statement of a job of thread t does
+abbrev pub effectOf : Rules → Machine → ℕ → Job → Effect
+effectOf R s t j = R .act t j (window (R .block (j .label)) (s .words)) (length (pendingOf (first t (s .trees))))
+
+-- the signals that found trees when a job of thread t ends: those of its EXIT; after a trap or a cut, none
+abbrev pub EndsWith : Rules → Machine → ℕ → Job → List Signal → Type 0
+EndsWith R s t j gs = (gs ≡ []) ⊎ (effectOf R s t j ≡ exits gs)
+
 module _ (R : Rules) (s : Machine) where
   pub data Happens : Event → Reply → Type 0 where
     remains : (e : Event) (a : Answer) → Quiet e a → Happens e (record { state = s; answer = a })
-    founds : (g : Signal) → R .room (treeThreads (s .trees)) (home R g) ≡ true
+    founds : (g : Signal) → admits R (s .trees) g ≡ true
         → Happens (arrive g) (record { state = grown (founded R g) s; answer = Taken })
     starts : {k : Kind} (t : ℕ) (g : Signal) (p : List Signal) → threadAt s t ≡ idle → first t (s .trees) ≡ some (g ∷ p)
         → blocked R t (s .threads) (some (R .block (g .label))) ≡ none
         → Happens (turn k t) (record { state = applied R t (startOf R g p) s; answer = Started })
     goes : {k : Kind} (t locks : ℕ) (j j′ : Job) (words : List ℕ) (g : Option Signal) (want : Option ℕ) → threadAt s t ≡ running locks j
-        → R .act t j (window (R .block (j .label)) (s .words)) (length (pendingOf (first t (s .trees)))) ≡ moves j′ words g want
+        → effectOf R s t j ≡ moves j′ words g want
         → blocked R t (s .threads) want ≡ none
         → Happens (turn k t) (record {
           state = applied R t (goOf (R .block (j .label)) (pendingOf (first t (s .trees))) j′ words g want) s;
           answer = Moved;
         })
-    ends : {k : Kind} (t locks : ℕ) (j : Job) (a : Answer) → threadAt s t ≡ running locks j → sort a ≡ close
-        → Happens (turn k t) (record { state = finished R t s; answer = a })
+    ends : {k : Kind} (t locks : ℕ) (j : Job) (gs : List Signal) (a : Answer) → threadAt s t ≡ running locks j → EndsWith R s t j gs
+        → sort a ≡ close
+        → Happens (turn k t) (record { state = admitted R gs (finished R t s); answer = a })
 
   on-arrival : (g : Signal) → Happens (arrive g) (carry R s (planArrive R g (s .trees)))
   unfolding carry planArrive
-  on-arrival g = case (R .room (treeThreads (s .trees)) (home R g)) refl
+  on-arrival g = case (admits R (s .trees) g) refl
     where
-      case : (b : Bool) → R .room (treeThreads (s .trees)) (home R g) ≡ b
+      case : (b : Bool) → admits R (s .trees) g ≡ b
           → Happens (arrive g) (carry R s (cond b (grow (founded R g)) (stay ListFull)))
       case true h = founds g h
       case false h = remains (arrive g) ListFull (inr (refl, refl))
@@ -69,21 +78,18 @@ module _ (R : Rules) (s : Machine) where
   on-idle t (some (g ∷ p)) w f = on-start t g p _ w f refl
 
   module _ (t locks : ℕ) (j : Job) (w : threadAt s t ≡ running locks j) where
-    abbrev own : Effect → Type 0
-    own e = R .act t j (window (R .block (j .label)) (s .words)) (length (pendingOf (first t (s .trees)))) ≡ e
-
-    on-move : {k : Kind} (j′ : Job) (words : List ℕ) (g : Option Signal) (want o : Option ℕ) → own (moves j′ words g want)
+    on-move : {k : Kind} (j′ : Job) (words : List ℕ) (g : Option Signal) (want o : Option ℕ) → effectOf R s t j ≡ moves j′ words g want
         → blocked R t (s .threads) want ≡ o
         → Happens (turn k t) (attempt R t (goOf (R .block (j .label)) (pendingOf (first t (s .trees))) j′ words g want) s o)
     unfolding attempt
     on-move j′ words g want none a b = goes t locks j j′ words g want w a b
     on-move j′ words g want (some l) a b = remains (turn _ t) _ (inl refl)
 
-    on-running : {k : Kind} (e : Effect) → own e
+    on-running : {k : Kind} (e : Effect) → effectOf R s t j ≡ e
         → Happens (turn k t) (carry R s (planRunning t (R .block (j .label)) (pendingOf (first t (s .trees))) e))
-    unfolding carry planRunning
-    on-running (traps r) a = ends t locks j _ w refl
-    on-running exits a = ends t locks j _ w refl
+    unfolding carry planRunning admitted
+    on-running (traps r) a = ends t locks j [] _ w (inl refl) refl
+    on-running (exits gs) a = ends t locks j gs _ w (inr a) refl
     on-running (moves j′ words g want) a = on-move j′ words g want _ a refl
 
   on-step : {k : Kind} (t : ℕ) (w : ThreadState) → threadAt s t ≡ w
@@ -93,9 +99,9 @@ module _ (R : Rules) (s : Machine) where
   on-step t (running locks j) w = on-running t locks j w _ refl
 
   on-cut : {k : Kind} (t : ℕ) (w : ThreadState) → threadAt s t ≡ w → Happens (turn k t) (carry R s (planCut t w))
-  unfolding carry planCut
+  unfolding carry planCut admitted
   on-cut t idle w = remains (turn _ t) _ (inl refl)
-  on-cut t (running locks j) w = ends t locks j _ w refl
+  on-cut t (running locks j) w = ends t locks j [] _ w (inl refl) refl
 
   pub happens : (e : Event) → Happens e (react R s e)
   unfolding react plan

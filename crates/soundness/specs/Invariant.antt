@@ -11,17 +11,18 @@ use lib.Seq.{getD-set-same, getD-set-other}
 use Rattle.rules.specs.Sizes.{threadCount}
 use Rattle.rules.specs.Bytes.{has}
 use Rattle.rules.specs.Machine.{Signal, Tree, Job, ThreadState, idle, running, Machine, threadAt, locksOf, jobOf, fresh, first, put}
-use Rattle.rules.specs.Machine.{treeThreads, window}
 use Rattle.rules.specs.Events.{Kind, stepping, cutting, Event, arrive, turn, threadOf, Valid}
 use Rattle.rules.specs.Answers.{out, now, join, close, sort}
-use Rattle.rules.specs.Steps.{Rules, Effect, traps, exits, moves, Move, Plan, stay, grow, move, finish, begin, pendingOf, home, founded}
-use Rattle.rules.specs.Steps.{planArrive, planIdle, planRunning, planStep, planCut, planTurn, plan, blocked, grant, applied, grown}
-use Rattle.rules.specs.Steps.{finished, attempt, carry, react}
+use Rattle.rules.specs.Steps.{Rules, Effect, traps, exits, moves, Move, Plan, stay, grow, move, finish, leave, begin, pendingOf, founded}
+use Rattle.rules.specs.Steps.{admits, planArrive, planIdle, planRunning, planStep, planCut, planTurn, plan, blocked, grant, applied, grown}
+use Rattle.rules.specs.Steps.{finished, admitted, attempt, carry, react}
 use Rattle.rules.specs.declared.answer.Answer.the-variants.{ListFull}
 use Rattle.laws.specs.Logic.{never, not-true, getD-same}
 use Rattle.laws.specs.Sets.{has-none}
 use Rattle.laws.specs.Trees.{first-put-other, first-put-same, first-append}
+use Rattle.laws.specs.Admitted.{admitted-keeps}
 use Rattle.soundness.specs.Laws.{Needs, Stays, Laws}
+use Rattle.soundness.specs.Happens.{effectOf}
 use Rattle.laws.specs.Locks.{grant-keeps, grant-takes, grant-either, Clear, blocked-clear, getD-set-idle}
 
 module _ (R : Rules) where
@@ -45,6 +46,7 @@ module _ (R : Rules) where
   Good s o (grow x) = o ≡ none
   Good s o (move t m) = Sound s t m × (o ≡ some t) × (sort (m .answer) ≡ join)
   Good s o (finish t a) = (o ≡ some t) × (sort a ≡ close)
+  Good s o (leave t gs) = o ≡ some t
 
 module _ (R : Rules) (L : Laws R) where
   good-idle : (s : Machine) (t : ℕ) (f : Option (List Signal)) → first t (s .trees) ≡ f → Good R s (some t) (planIdle R t f)
@@ -66,11 +68,11 @@ module _ (R : Rules) (L : Laws R) where
       only b (List·Memᴰ·tail h) = absurd (List·Memᴰ·not-nil h)
 
   good-running : (s : Machine) (t l : ℕ) (j : Job) (e : Effect) → Invariant R s → threadAt s t ≡ running l j
-      → R .act t j (window (R .block (j .label)) (s .words)) (length (pendingOf (first t (s .trees)))) ≡ e
+      → effectOf R s t j ≡ e
       → Good R s (some t) (planRunning t (R .block (j .label)) (pendingOf (first t (s .trees))) e)
   unfolding planRunning
   good-running s t l j (traps r) i w k = (refl, refl)
-  good-running s t l j exits i w k = (refl, refl)
+  good-running s t l j (exits gs) i w k = refl
   good-running s t l j (moves j′ vs o b) i w k = (
     record {
       owns = λ c h. from c (subst (Stays R j) k (L .stays t j _ _) c h);
@@ -98,7 +100,7 @@ module _ (R : Rules) (L : Laws R) where
 
   pub good : (s : Machine) (e : Event) → Invariant R s → Good R s (threadOf e) (plan R s e)
   unfolding plan planArrive
-  good s (arrive g) i = case (R .room (treeThreads (s .trees)) (home R g))
+  good s (arrive g) i = case (admits R (s .trees) g)
     where
       case : (d : Bool) → Good R s none (cond d (grow (founded R g)) (stay ListFull))
       case true = refl
@@ -201,6 +203,9 @@ module _ (R : Rules) (L : Laws R) where
     rooted = λ k j h. let r = i .rooted k j h in (r .0, first-append k (r .0) _ _ (r .1));
   }
 
+  invariant-admitted : (gs : List Signal) (s : Machine) → Invariant R s → Invariant R (admitted R gs s)
+  invariant-admitted gs = admitted-keeps R (Invariant R) gs (λ g m s e i. invariant-grown s (founded R g) i)
+
   invariant-attempt : (s : Machine) (t : ℕ) (m : Move) (o : Option ℕ) → Invariant R s → t < threadCount → Sound R s t m
       → blocked R t (s .threads) (m .want) ≡ o
       → Invariant R (attempt R t m s o .state)
@@ -215,6 +220,7 @@ module _ (R : Rules) (L : Laws R) where
   invariant-carry s e (grow x) i v g = invariant-grown s x i
   invariant-carry s e (move t m) i v g = invariant-attempt s t m _ i (v t (g .1)) (g .0) refl
   invariant-carry s e (finish t a) i v g = invariant-finished s t i
+  invariant-carry s e (leave t gs) i v g = invariant-admitted gs (finished R t s) (invariant-finished s t i)
 
   pub invariant-react : (s : Machine) (e : Event) → Invariant R s → Valid e → Invariant R (react R s e .state)
   unfolding react

@@ -1,18 +1,21 @@
--- Trees keep their places: an event of thread t changes or removes t's first tree alone, and adds at most one tree, at the list's end.
-use mathlib.Core.Path.{_≡_, refl, sym, ap, _∙_}
-use mathlib.Core.Logic.{_≢_}
+-- Trees keep their places: an event of thread t changes or removes t's first tree alone, and adds trees at the list's end alone: at most
+-- that first one, and one for each signal that t's job holds.
+use mathlib.Core.Path.{_≡_, refl, sym, ap, _∙_, subst}
+use mathlib.Core.Logic.{_≢_, inl, inr}
 use mathlib.Core.Option.{Option, none, some}
 use mathlib.Core.List.{List, [], _∷_, _++_, append-nil, append-assoc}
-use Prim.Native.Nat.{ℕ, _≤_}
+use Prim.Native.Nat.{ℕ, suc, _+_, _≤_}
 use native.Mathlib.Decide.{ℕ-discrete}
 use native.Mathlib.Omega.{arith}
-use lib.ListN.{length}
-use Rattle.rules.specs.Machine.{Signal, Tree, Machine, queue, first, put}
+use lib.ListN.{length, length-append}
+use Rattle.rules.specs.Machine.{Signal, Tree, Job, running, Machine, threadAt, heldOf, queue, first, put}
 use Rattle.rules.specs.Events.{Event, threadOf}
-use Rattle.rules.specs.Steps.{Rules, Reply, founded, requeued, react}
+use Rattle.rules.specs.Steps.{Rules, Reply, founded, requeued, finished, admitted, react}
 use Rattle.laws.specs.Trees.{first-there, put-there, first-here}
 use Rattle.laws.specs.Logic.{never}
-use Rattle.soundness.specs.Happens.{Happens, remains, founds, starts, goes, ends, happens}
+use Rattle.laws.specs.Admitted.{admitted-trees}
+use Rattle.soundness.specs.Laws.{Releases, Releasing}
+use Rattle.soundness.specs.Happens.{EndsWith, Happens, remains, founds, starts, goes, ends, happens}
 use Rattle.soundness.specs.Queues.{queue-here, queue-there, queue-append, queue-put-other, Place, place}
 use Rattle.soundness.specs.Untouched.{Changed, same, given, taken, only-the-first-tree-changes}
 
@@ -22,8 +25,8 @@ pub record OneOf (t : ℕ) (l : List Tree) : Type 0 where
   pub mine : queue t l ≡ l
 
 -- the list l and the list l′ that an event of thread t makes of it: the trees before and after t's first keep their places; that first
--- one may be changed or leave; and at most one tree comes to the end
-pub record InPlace (t : ℕ) (l l′ : List Tree) : Type 0 where
+-- one may be changed or leave; and at most so many trees come to the end
+pub record InPlace (t most : ℕ) (l l′ : List Tree) : Type 0 where
   pub before : List Tree
   pub own : List Tree
   pub own′ : List Tree
@@ -34,7 +37,7 @@ pub record InPlace (t : ℕ) (l l′ : List Tree) : Type 0 where
   pub first : queue t before ≡ []
   pub was : OneOf t own
   pub is : OneOf t own′
-  pub added : length last ≤ 1
+  pub added : length last ≤ most
 
 none-of : (t : ℕ) → OneOf t []
 none-of t = unfold queue in record { one = omega arith; mine = refl }
@@ -54,21 +57,27 @@ put-missing t o (x ∷ l) f = case (ℕ-discrete (x .thread) t) (put-missing t o
         let r = ih (sym (first-there t x l e) ∙ f) in
         (put-there t x l o e ∙ ap (λ (z : List Tree). x ∷ z) (r .0), queue-there t x l e ∙ r .1)
 
--- another thread's queue may only become longer, at its end, by at most one tree
-pub record Longer (q q′ : List Tree) : Type 0 where
+-- another thread's queue may only become longer, at its end, by at most so many trees
+pub record Longer (most : ℕ) (q q′ : List Tree) : Type 0 where
   pub more : List Tree
   pub whole : q′ ≡ q ++ more
-  pub one : length more ≤ 1
+  pub few : length more ≤ most
 
-unchanged : (q : List Tree) → Longer q q
-unchanged q = record { more = []; whole = sym (append-nil q); one = omega arith }
+unchanged : (most : ℕ) (q : List Tree) → Longer most q q
+unchanged most q = record { more = []; whole = sym (append-nil q); few = omega arith }
 
-queue-one : (u : ℕ) (x : Tree) → length (queue u (x ∷ [])) ≤ 1
-queue-one u x = case (ℕ-discrete (x .thread) u)
+queue-short : (u : ℕ) (l : List Tree) → length (queue u l) ≤ length l
+queue-short u [] = unfold queue in omega arith
+queue-short u (x ∷ l) = case (ℕ-discrete (x .thread) u) (queue-short u l)
   where
-    case : Dec (x .thread ≡ u) → length (queue u (x ∷ [])) ≤ 1
-    case (yes e) = rw (queue-here u x [] e) (unfold queue in omega arith)
-    case (no e) = rw (queue-there u x [] e) (unfold queue in omega arith)
+    case : Dec (x .thread ≡ u) → length (queue u l) ≤ length l → length (queue u (x ∷ l)) ≤ suc (length l)
+    case (yes e) ih = rw (queue-here u x l e) (omega arith)
+    case (no e) ih = rw (queue-there u x l e) (omega arith)
+
+-- how many trees an event may add: an arrival one; an event of thread t its first tree, and one for each signal that its job holds
+abbrev pub newTrees : Machine → Option ℕ → ℕ
+newTrees s none = 1
+newTrees s (some t) = 1 + length (heldOf (threadAt s t))
 
 module _ (R : Rules) where
   pub requeued-one : (o : Option (List Signal)) → length (requeued R o) ≤ 1
@@ -76,32 +85,64 @@ module _ (R : Rules) where
   requeued-one (some []) = omega arith
   requeued-one (some (g ∷ p)) = omega arith
 
-  module _ (s : Machine) where
-    -- t has no tree in the list: nothing changes
-    absent : (t : ℕ) (l′ : List Tree) → first t (s .trees) ≡ none → Changed R s t l′ → InPlace t (s .trees) l′
-    absent t l′ f c = record {
-      before = s .trees;
-      own = [];
-      own′ = [];
-      after = [];
-      last = [];
-      old = sym (append-nil (s .trees));
-      new = case l′ c ∙ sym (append-nil (s .trees));
-      first = put-missing t none (s .trees) f .1;
-      was = none-of t;
-      is = none-of t;
-      added = omega arith;
-    }
-      where
-        case : (r : List Tree) → Changed R s t r → r ≡ s .trees
-        case r same = refl
-        case r (given p) = put-missing t (some p) (s .trees) f .0
-        case r taken = rw (put-missing t none (s .trees) f .0, f) (append-nil (s .trees))
+  -- the trees that come to the list's end when a job of thread t ends
+  record Last (s : Machine) (t : ℕ) (gs : List Signal) : Type 0 where
+    last : List Tree
+    trees : admitted R gs (finished R t s) .trees ≡ put t none (s .trees) ++ last
+    few : length last ≤ 1 + length gs
+
+  ended : (s : Machine) (t : ℕ) (gs : List Signal) → Last s t gs
+  ended s t gs =
+      let k = admitted-trees R gs (finished R t s) in
+      record {
+        last = requeued R (first t (s .trees)) ++ k .more;
+        trees = k .trees ∙ append-assoc (put t none (s .trees)) (requeued R (first t (s .trees))) (k .more);
+        few = rw (length-append (requeued R (first t (s .trees))) (k .more))
+            (omega (arith, requeued-one (first t (s .trees)), k .count));
+      }
+
+  module _ (L : Releasing R) (s : Machine) where
+    -- an EXIT leaves with the signals that its job holds
+    few-held : (t locks : ℕ) (j : Job) (gs : List Signal) → threadAt s t ≡ running locks j → EndsWith R s t j gs
+        → length gs ≤ length (heldOf (threadAt s t))
+    few-held t locks j gs w (inl f) = rw f (omega arith)
+    few-held t locks j gs w (inr f) = rw (w, subst (Releases j) f (L .releases t j _ _)) (omega arith)
+
+    few-last : (t locks : ℕ) (j : Job) (gs : List Signal) → threadAt s t ≡ running locks j → EndsWith R s t j gs
+        → length (ended s t gs .last) ≤ newTrees s (some t)
+    few-last t locks j gs w f = omega (arith, ended s t gs .few, few-held t locks j gs w f)
+
+    -- t has no tree in the list: the others keep their places
+    module _ (t : ℕ) (f : first t (s .trees) ≡ none) where
+      behind : (l′ last : List Tree) → l′ ≡ s .trees ++ last → length last ≤ newTrees s (some t)
+          → InPlace t (newTrees s (some t)) (s .trees) l′
+      behind l′ last e n = record {
+        before = s .trees;
+        own = [];
+        own′ = [];
+        after = [];
+        last = last;
+        old = sym (append-nil (s .trees));
+        new = e;
+        first = put-missing t none (s .trees) f .1;
+        was = none-of t;
+        is = none-of t;
+        added = n;
+      }
+
+      absent : (l′ : List Tree) → Changed R s t l′ → InPlace t (newTrees s (some t)) (s .trees) l′
+      absent l′ same = behind _ [] (sym (append-nil (s .trees))) (omega arith)
+      absent l′ (given p) = behind _ [] (put-missing t (some p) (s .trees) f .0 ∙ sym (append-nil (s .trees))) (omega arith)
+      absent l′ (taken locks j gs w e) =
+          behind _ (ended s t gs .last)
+          (ended s t gs .trees ∙ ap (λ (z : List Tree). z ++ ended s t gs .last) (put-missing t none (s .trees) f .0))
+          (few-last t locks j gs w e)
 
     module _ (t : ℕ) (p : Place t (s .trees)) where
-      present : (l′ own′ last : List Tree) → l′ ≡ p .before ++ (own′ ++ (p .after ++ last)) → OneOf t own′ → length last ≤ 1
-          → InPlace t (s .trees) l′
-      present l′ own′ last e o n = record {
+      inside : (l′ own′ last : List Tree) → l′ ≡ p .before ++ (own′ ++ (p .after ++ last)) → OneOf t own′
+          → length last ≤ newTrees s (some t)
+          → InPlace t (newTrees s (some t)) (s .trees) l′
+      inside l′ own′ last e o n = record {
         before = p .before;
         own = p .own ∷ [];
         own′ = own′;
@@ -115,50 +156,49 @@ module _ (R : Rules) where
         added = n;
       }
 
-      in-place : (l′ : List Tree) → Changed R s t l′ → InPlace t (s .trees) l′
-      in-place l′ same = present _ (p .own ∷ []) [] (rw (append-nil (p .after)) (p .whole)) (one-of t (p .own) (p .mine)) (omega arith)
-      in-place l′ (given q) =
-          present _ (record { thread = t; pending = q } ∷ []) [] (rw (append-nil (p .after)) (p .changed (some q))) (one-of t _ refl)
+      present : (l′ : List Tree) → Changed R s t l′ → InPlace t (newTrees s (some t)) (s .trees) l′
+      present l′ same = inside _ (p .own ∷ []) [] (rw (append-nil (p .after)) (p .whole)) (one-of t (p .own) (p .mine)) (omega arith)
+      present l′ (given q) =
+          inside _ (record { thread = t; pending = q } ∷ []) [] (rw (append-nil (p .after)) (p .changed (some q))) (one-of t _ refl)
           (omega arith)
-      in-place l′ taken =
-          present _ [] (requeued R (first t (s .trees)))
-          (ap (λ (z : List Tree). z ++ requeued R (first t (s .trees))) (p .changed none) ∙ append-assoc (p .before) (p .after) _)
-          (none-of t) (requeued-one (first t (s .trees)))
+      present l′ (taken locks j gs w e) =
+          inside _ [] (ended s t gs .last)
+          (ended s t gs .trees ∙ ap (λ (z : List Tree). z ++ ended s t gs .last) (p .changed none)
+          ∙ append-assoc (p .before) (p .after) (ended s t gs .last))
+          (none-of t) (few-last t locks j gs w e)
 
-    pub trees-keep-their-places : (e : Event) (t : ℕ) → threadOf e ≡ some t → InPlace t (s .trees) (react R s e .state .trees)
+    pub trees-keep-their-places : (e : Event) (t : ℕ) → threadOf e ≡ some t
+        → InPlace t (newTrees s (some t)) (s .trees) (react R s e .state .trees)
     trees-keep-their-places e t h = case (first t (s .trees)) refl
       where
-        case : (o : Option (List Signal)) → first t (s .trees) ≡ o → InPlace t (s .trees) (react R s e .state .trees)
-        case none f = absent t _ f (only-the-first-tree-changes R s e t h)
-        case (some q) f = in-place t (place t (s .trees) q f) _ (only-the-first-tree-changes R s e t h)
+        case : (o : Option (List Signal)) → first t (s .trees) ≡ o
+            → InPlace t (newTrees s (some t)) (s .trees) (react R s e .state .trees)
+        case none f = absent t f _ (only-the-first-tree-changes R s e t h)
+        case (some q) f = present t (place t (s .trees) q f) _ (only-the-first-tree-changes R s e t h)
 
     -- ---- as each thread sees its queue
 
-    queue-requeued : (u : ℕ) (o : Option (List Signal)) → length (queue u (requeued R o)) ≤ 1
-    queue-requeued u none = unfold queue in omega arith
-    queue-requeued u (some []) = unfold queue in omega arith
-    queue-requeued u (some (g ∷ p)) = queue-one u _
-
     longer : (u : ℕ) (e : Event) (r : Reply) → Happens R s e r → threadOf e ≢ some u
-        → Longer (queue u (s .trees)) (queue u (r .state .trees))
-    longer u e r (remains f a q) n = unchanged _
+        → Longer (newTrees s (threadOf e)) (queue u (s .trees)) (queue u (r .state .trees))
+    longer u e r (remains f a q) n = unchanged _ _
     longer u e r (founds g room) n = record {
       more = queue u (founded R g ∷ []);
       whole = queue-append u (s .trees) _;
-      one = queue-one u (founded R g);
+      few = queue-short u (founded R g ∷ []);
     }
-    longer u e r (starts t g p w f b) n = rw (queue-put-other u t (some p) (s .trees) (λ k. n (ap some (sym k)))) (unchanged _)
+    longer u e r (starts t g p w f b) n = rw (queue-put-other u t (some p) (s .trees) (λ k. n (ap some (sym k)))) (unchanged _ _)
     longer u e r (goes t l j j′ words g want w a b) n =
-        rw (queue-put-other u t (some _) (s .trees) (λ k. n (ap some (sym k)))) (unchanged _)
-    longer u e r (ends t l j a w c) n = record {
-      more = queue u (requeued R (first t (s .trees)));
-      whole =
-          queue-append u (put t none (s .trees)) _
-          ∙ ap (λ (z : List Tree). z ++ queue u (requeued R (first t (s .trees))))
-          (queue-put-other u t none (s .trees) (λ k. n (ap some (sym k))));
-      one = queue-requeued u (first t (s .trees));
-    }
+        rw (queue-put-other u t (some _) (s .trees) (λ k. n (ap some (sym k)))) (unchanged _ _)
+    longer u e r (ends t l j gs a w f c) n =
+        let k = ended s t gs in
+        record {
+          more = queue u (k .last);
+          whole =
+              ap (queue u) (k .trees) ∙ queue-append u (put t none (s .trees)) (k .last)
+              ∙ ap (λ (z : List Tree). z ++ queue u (k .last)) (queue-put-other u t none (s .trees) (λ q. n (ap some (sym q))));
+          few = omega (arith, queue-short u (k .last), few-last t l j gs w f);
+        }
 
     pub queues-of-others-stay : (e : Event) (u : ℕ) → threadOf e ≢ some u
-        → Longer (queue u (s .trees)) (queue u (react R s e .state .trees))
+        → Longer (newTrees s (threadOf e)) (queue u (s .trees)) (queue u (react R s e .state .trees))
     queues-of-others-stay e u n = longer u e (react R s e) (happens R s e) n

@@ -15,7 +15,8 @@ use Rattle.rules.specs.Bytes.{has, every}
 use Rattle.rules.specs.Image.{labels, rowAt}
 use Rattle.rules.specs.Machine.{Signal, Tree, Job, ThreadState, idle, running, Machine, threadAt, locksOf, jobOf, queue, first}
 use Rattle.rules.specs.Steps.{rulesBy, blockAt}
-use Rattle.rules.specs.WellFormed.{openTo, placeOk, threadOk, threadsOk, pendingOk, treeOk, homed, queueOk, queuesOk, apart, machineOk}
+use Rattle.rules.specs.WellFormed.{openTo, placeOk, heldOk, threadOk, threadsOk, pendingOk, treeOk, homed, queueOk, queuesOk, apart}
+use Rattle.rules.specs.WellFormed.{machineOk}
 use Rattle.fields.specs.Each.{Each}
 use Rattle.laws.specs.Logic.{never, and-both, both-hold}
 use Rattle.soundness.specs.Laws.{Needs}
@@ -30,9 +31,17 @@ module _ (image table : List ℕ) where
     pub below : l < labels image
     pub allowed : openTo (rowAt table (blockAt image l)) t ≡ true
 
+  -- a held signal has entry 2
+  abbrev pub HeldIn : Signal → Type 0
+  HeldIn g = heldOk image table g ≡ true
+
+  pub record JobIn (t : ℕ) (j : Job) : Type 0 where
+    pub places : Each (PlaceIn t) (j .label ∷ j .returns)
+    pub held : Each HeldIn (j .held)
+
   abbrev pub ThreadIn : ℕ → ThreadState → Type 0
   ThreadIn t idle = Unit {0}
-  ThreadIn t (running locks j) = Each (PlaceIn t) (j .label ∷ j .returns)
+  ThreadIn t (running locks j) = JobIn t j
 
   -- a tree's thread is within limits; its pending signals have entry 2 or 3
   abbrev pub PendingIn : Signal → Type 0
@@ -146,21 +155,31 @@ module _ (image table : List ℕ) where
 
   -- ---- one for the other
 
-  thread-places : (t : ℕ) (w : ThreadState) → threadOk image table t w ≡ true → ThreadIn t w
+  job-tests : (t locks : ℕ) (j : Job) → threadOk image table t (running locks j) ≡ true
+      → Each (λ l. placeOk image table t locks l ≡ true) (j .label ∷ j .returns) × Each HeldIn (j .held)
   unfolding threadOk
-  thread-places t idle h = tt
-  thread-places t (running locks j) h =
-      let e = every-each (placeOk image table t locks) (j .label ∷ j .returns) h in
-      member-each (PlaceIn t) (j .label ∷ j .returns) (λ l m. place-parts t locks l (each-member _ (j .label ∷ j .returns) e l m) .0)
+  job-tests t locks j h =
+      let k = and-both (every (placeOk image table t locks) (j .label ∷ j .returns)) (every (heldOk image table) (j .held)) h in
+      (every-each (placeOk image table t locks) (j .label ∷ j .returns) (k .0), every-each (heldOk image table) (j .held) (k .1))
+
+  thread-parts : (t : ℕ) (w : ThreadState) → threadOk image table t w ≡ true → ThreadIn t w
+  thread-parts t idle h = tt
+  thread-parts t (running locks j) h =
+      let e = job-tests t locks j h in
+      record {
+        places =
+            member-each (PlaceIn t) (j .label ∷ j .returns)
+            (λ l m. place-parts t locks l (each-member _ (j .label ∷ j .returns) (e .0) l m) .0);
+        held = e .1;
+      }
 
   thread-locks : (t : ℕ) (w : ThreadState) → threadOk image table t w ≡ true → (j : Job) → jobOf w ≡ some j → (b : ℕ)
       → Needs (rulesBy image table) j b
       → has (rowAt table b .lock) (locksOf w) ≡ true
-  unfolding threadOk
   thread-locks t idle h j q b m = never (cc)
   thread-locks t (running locks k) h j q b m =
       let e : k ≡ j = cc in
-      let f = every-each (placeOk image table t locks) (k .label ∷ k .returns) h in
+      let f = job-tests t locks k h .0 in
       let n = map-member (blockAt image) b (j .label ∷ j .returns) m in
       rw (n .2) (place-parts t locks (n .0) (each-member _ (k .label ∷ k .returns) f (n .0) (rw e (n .1))) .1)
 
@@ -170,9 +189,11 @@ module _ (image table : List ℕ) where
   unfolding threadOk
   thread-whole t idle p k = refl
   thread-whole t (running locks j) p k =
-      each-every (placeOk image table t locks) (j .label ∷ j .returns) (member-each _ (j .label ∷ j .returns) (λ l m.
-      place-whole t locks l (each-member (PlaceIn t) (j .label ∷ j .returns) p l m)
-      (k j refl (blockAt image l) (member-map (blockAt image) l (j .label ∷ j .returns) m))))
+      both-hold (every (placeOk image table t locks) (j .label ∷ j .returns)) (every (heldOk image table) (j .held))
+      (each-every (placeOk image table t locks) (j .label ∷ j .returns) (member-each _ (j .label ∷ j .returns) (λ l m.
+      place-whole t locks l (each-member (PlaceIn t) (j .label ∷ j .returns) (p .places) l m)
+      (k j refl (blockAt image l) (member-map (blockAt image) l (j .label ∷ j .returns) m)))))
+      (each-every (heldOk image table) (j .held) (p .held))
 
   -- a running thread has a tree
   root : (t : ℕ) (w : ThreadState) (l : List Tree) → QueueIn w (queue t l) → (j : Job) → jobOf w ≡ some j
@@ -220,7 +241,7 @@ module _ (image table : List ℕ) where
           keeps = λ t. thread-locks t (threadAt s t) (threadsOk′ t);
           rooted = λ t. root t (threadAt s t) (s .trees) (queues t);
         };
-        threads = λ t. thread-places t (threadAt s t) (threadsOk′ t);
+        threads = λ t. thread-parts t (threadAt s t) (threadsOk′ t);
         trees = trees;
         queues = queues;
       }

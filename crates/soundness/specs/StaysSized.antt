@@ -1,26 +1,32 @@
 -- The counts stay within the limits: 256 words, 8 threads, 8 return labels and 25 registers a thread, 16 trees, 8 pending signals a
--- tree, 25 values a signal; and no running thread is at label 65,535. So the state's bytes always have room for the machine.
+-- tree, 4 held signals a job, 25 values a signal; and no running thread is at label 65,535. So the state's bytes always have room for
+-- the machine.
 use mathlib.Core.Path.{_≡_, refl, sym, ap, _∙_, subst}
+use mathlib.Core.Logic.{inl, inr}
+use mathlib.Core.Bool.{true}
 use mathlib.Core.Option.{Option, none, some}
 use mathlib.Core.List.{List, [], _∷_, _++_, append-nil}
 use Prim.Native.Nat.{ℕ, zero, suc, _+_, _*_, _≤_, _<_}
 use native.Mathlib.Omega.{arith}
 use lib.ListN.{length, replicate, length-append, length-set, length-map}
 use borrow.Author.Tests.{ltb-true}
-use Rattle.rules.specs.Sizes.{threadCount, blockCount, wordCount, treeCount, pendingCount, idleLabel}
-use Rattle.rules.specs.Machine.{Signal, Tree, Job, idle, running, Machine, threadAt, fresh, first, put, treeThreads, stores, window, keep}
+use Rattle.rules.specs.Sizes.{threadCount, blockCount, wordCount, treeCount, pendingCount, heldCount, idleLabel}
+use Rattle.rules.specs.Machine.{Signal, Tree, Job, idle, running, Machine, threadAt, fresh, first, put, treeThreads, stores, keep}
 use Rattle.rules.specs.Events.{Event}
-use Rattle.rules.specs.Steps.{Rules, Effect, Reply, begin, added, pendingOf, founded, requeued, rulesBy, react, final}
+use Rattle.rules.specs.Steps.{Rules, Effect, Reply, begin, added, pendingOf, founded, admits, requeued, rulesBy, grown, finished, react}
+use Rattle.rules.specs.Steps.{final}
 use Rattle.rules.specs.Check.{Checked}
 use Rattle.fields.specs.Each.{Each, each-at, each-set, each-append}
 use Rattle.laws.specs.Passed.{Passed, passed}
 use Rattle.laws.specs.Trees.{threads-put}
-use Rattle.encoding.specs.Sized.{SizedJob, SizedThread, SizedSignal, SizedTree, Sized}
-use Rattle.soundness.specs.Happens.{Happens, remains, founds, starts, goes, ends, happens}
+use Rattle.laws.specs.Admitted.{admitted-keeps, admitted-words, admitted-threads}
+use Rattle.encoding.specs.Sized.{SizedJob, SizedThread, SizedSignal, SizedSignals, SizedTree, Sized}
+use Rattle.soundness.specs.Happens.{effectOf, EndsWith, Happens, remains, founds, starts, goes, ends, happens}
 use Rattle.soundness.specs.Queues.{Place, place, FirstHas, first-has, put-each}
 use Rattle.soundness.specs.Places.{put-missing, requeued-one}
-use Rattle.soundness.specs.Sound.{PlaceIn, ThreadIn, Sound}
-use Rattle.soundness.specs.StatementLimits.{length-fill, SignalSized, EffectSized, act-sized, labels-limit}
+use Rattle.soundness.specs.Members.{each-member}
+use Rattle.soundness.specs.Sound.{PlaceIn, JobIn, ThreadIn, Sound}
+use Rattle.soundness.specs.StatementLimits.{length-fill, SignalSized, EffectSized, one-more, act-sized, labels-limit}
 use Rattle.soundness.specs.StaysWellFormed.{Accepted, effect-in, start-in, sound-react}
 
 -- ---- words
@@ -37,41 +43,36 @@ length-keep b vs ws = length-stores wordCount (wordCount * b) vs ws
 
 -- ---- trees
 
--- at most 8 pending signals, each with at most 25 values
-pub record SizedPending (p : List Signal) : Type 0 where
-  pub count : length p ≤ pendingCount
-  pub each : Each SizedSignal p
-
 abbrev FirstSized : Option (List Signal) → Type 0
-FirstSized o = FirstHas SizedTree SizedPending o
+FirstSized o = FirstHas SizedTree (SizedSignals pendingCount) o
 
 first-sized : (t : ℕ) (l : List Tree) → Each SizedTree l → FirstSized (first t l)
-first-sized = first-has SizedTree SizedPending (λ x h. record { count = h .count; each = h .each })
+first-sized = first-has SizedTree (SizedSignals pendingCount) (λ x h. h)
 
 put-sized : (t : ℕ) (o : Option (List Signal)) (l : List Tree) → FirstSized o → Each SizedTree l → Each SizedTree (put t o l)
-put-sized t = put-each SizedTree SizedPending t (λ p h. record { count = h .count; each = h .each })
+put-sized t = put-each SizedTree (SizedSignals pendingCount) t (λ p h. h)
 
 length-put : (t : ℕ) (p : List Signal) (l : List Tree) → length (put t (some p) l) ≡ length l
 length-put t p l =
     sym (length-map (put t (some p) l) (λ (x : Tree). x .thread)) ∙ ap length (threads-put t p l) ∙ length-map l (λ (x : Tree). x .thread)
 
-pending-sized : (o : Option (List Signal)) → FirstSized o → SizedPending (pendingOf o)
-pending-sized none h = record { count = omega arith; each = tt }
+none-sized : (n : ℕ) → SizedSignals n []
+none-sized n = record { count = omega arith; each = tt }
+
+pending-sized : (o : Option (List Signal)) → FirstSized o → SizedSignals pendingCount (pendingOf o)
+pending-sized none h = none-sized pendingCount
 pending-sized (some p) h = h
 
--- a signal is added where there is room
-added-sized : (p : List Signal) (o : Option Signal) → SizedPending p → SignalSized (length p) o → SizedPending (p ++ added o)
+added-sized : (p : List Signal) (o : Option Signal) → SizedSignals pendingCount p → SignalSized pendingCount (length p) o
+    → SizedSignals pendingCount (p ++ added o)
 added-sized p none h k = rw (append-nil p) h
-added-sized p (some g) h k = record {
-  count = rw (length-append p (g ∷ [])) (omega arith);
-  each = each-append SizedSignal p (g ∷ []) (h .each) (k .0, tt);
-}
+added-sized p (some g) h k = one-more pendingCount p g h k
 
 module _ (R : Rules) where
   requeued-sized : (o : Option (List Signal)) → FirstSized o → Each SizedTree (requeued R o)
   requeued-sized none h = tt
   requeued-sized (some []) h = tt
-  requeued-sized (some (g ∷ p)) h = (record { count = h .count; each = h .each }, tt)
+  requeued-sized (some (g ∷ p)) h = (h, tt)
 
   -- an ended job's tree leaves the list before it comes to its end
   length-finished : (t : ℕ) (l : List Tree) → length (put t none l ++ requeued R (first t l)) ≤ length l
@@ -104,70 +105,89 @@ module _ (image table : List ℕ) (ok : Passed image table) (s : Machine) (k : S
 
   -- what the statement of a running thread leaves
   effect-sized : (t locks : ℕ) (j : Job) (e : Effect) → t < threadCount → threadAt s t ≡ running locks j
-      → R .act t j (window (R .block (j .label)) (s .words)) (length (pendingOf (first t (s .trees)))) ≡ e
+      → effectOf R s t j ≡ e
       → EffectSized (length (pendingOf (first t (s .trees)))) e
   effect-sized t locks j e v w a =
       let y : SizedJob j = subst SizedThread w (each-at SizedThread (s .threads) t idle (z .eachThread) (rw (z .threads) v)) in
-      let p : Each (PlaceIn image table t) (j .label ∷ j .returns) = subst (ThreadIn image table t) w (k .threads t) in
-      subst (EffectSized _) a (act-sized image table ok t j _ _ (p .0 .below) (y .registers) (y .returns))
+      let p : JobIn image table t j = subst (ThreadIn image table t) w (k .threads t) in
+      subst (EffectSized _) a (act-sized image table ok t j _ _ (p .places .0 .below) y)
+
+  -- the signals that found trees when a job ends
+  held-sized : (t locks : ℕ) (j : Job) (gs : List Signal) → t < threadCount → threadAt s t ≡ running locks j → EndsWith R s t j gs
+      → Each SizedSignal gs
+  held-sized t locks j gs v w (inl f) = rw f tt
+  held-sized t locks j gs v w (inr f) = effect-sized t locks j _ v w f .each
 
   words-kept : (e : Event) (r : Reply) → Happens R s e r → length (r .state .words) ≡ blockCount * wordCount
   words-kept e r (remains f a q) = z .words
   words-kept e r (founds g room) = z .words
   words-kept e r (starts t g p w f b) = z .words
   words-kept e r (goes t l j j′ words g want w a b) = length-keep (R .block (j .label)) words (s .words) ∙ z .words
-  words-kept e r (ends t l j a w c) = z .words
+  words-kept e r (ends t l j gs a w f c) = ap length (admitted-words R gs (finished R t s)) ∙ z .words
 
   threads-count : (e : Event) (r : Reply) → Happens R s e r → length (r .state .threads) ≡ threadCount
   threads-count e r (remains f a q) = z .threads
   threads-count e r (founds g room) = z .threads
   threads-count e r (starts t g p w f b) = length-set (s .threads) t _ ∙ z .threads
   threads-count e r (goes t l j j′ words g want w a b) = length-set (s .threads) t _ ∙ z .threads
-  threads-count e r (ends t l j a w c) = length-set (s .threads) t _ ∙ z .threads
+  threads-count e r (ends t l j gs a w f c) =
+      ap length (admitted-threads R gs (finished R t s)) ∙ length-set (s .threads) t _ ∙ z .threads
 
   -- 16 trees leave no room for another
+  count-founded : (y : Machine) (g : Signal) → admits R (y .trees) g ≡ true → length (grown (founded R g) y .trees) ≤ treeCount
+  count-founded y g room =
+      rw (length-append (y .trees) (founded R g ∷ []))
+      (omega (arith, ltb-true (length (treeThreads (y .trees))) treeCount room, length-map (y .trees) (λ (x : Tree). x .thread)))
+
   trees-count : (e : Event) (r : Reply) → Happens R s e r → length (r .state .trees) ≤ treeCount
   trees-count e r (remains f a q) = z .trees
-  trees-count e r (founds g room) =
-      rw (length-append (s .trees) (founded R g ∷ []))
-      (omega (arith, ltb-true (length (treeThreads (s .trees))) treeCount room, length-map (s .trees) (λ (x : Tree). x .thread)))
+  trees-count e r (founds g room) = count-founded s g room
   trees-count e r (starts t g p w f b) = rw (length-put t p (s .trees)) (z .trees)
   trees-count e r (goes t l j j′ words g want w a b) = rw (length-put t (pendingOf (first t (s .trees)) ++ added g) (s .trees)) (z .trees)
-  trees-count e r (ends t l j a w c) = omega (arith, length-finished R t (s .trees), z .trees)
+  trees-count e r (ends t l j gs a w f c) =
+      admitted-keeps R (λ (y : Machine). length (y .trees) ≤ treeCount) gs (λ g m y room h. count-founded y g room) (finished R t s)
+      (omega (arith, length-finished R t (s .trees), z .trees))
 
   threads-sized : (e : Event) (r : Reply) → Happens R s e r → Accepted image e → Each SizedThread (r .state .threads)
   threads-sized e r (remains f a q) v = z .eachThread
   threads-sized e r (founds g room) v = z .eachThread
   threads-sized e r (starts t g p w f b) v =
-      let h : SizedPending (g ∷ p) = subst FirstSized f (firsts t) in
+      let h : SizedSignals pendingCount (g ∷ p) = subst FirstSized f (firsts t) in
       each-set SizedThread (s .threads) t (running _ (begin g)) (z .eachThread) (record {
         label = label-limit t (g .label) (start-in image table ok s k t g p w f);
         returns = omega arith;
         registers = length-fill (g .values) (h .each .0);
+        held = none-sized heldCount;
       })
   threads-sized e r (goes t l j j′ words g want w a b) v =
       let h = effect-sized t l j _ v w a in
       each-set SizedThread (s .threads) t (running _ j′) (z .eachThread) (record {
-        label = label-limit t (j′ .label) (effect-in image table ok s k t l j _ w a .0 .0);
+        label = label-limit t (j′ .label) (effect-in image table ok s k t l j _ w a .0 .places .0);
         returns = h .1;
         registers = h .0;
+        held = h .2;
       })
-  threads-sized e r (ends t l j a w c) v = each-set SizedThread (s .threads) t idle (z .eachThread) tt
+  threads-sized e r (ends t l j gs a w f c) v =
+      rw (admitted-threads R gs (finished R t s)) (each-set SizedThread (s .threads) t idle (z .eachThread) tt)
+
+  tree-founded : (y : Machine) (g : Signal) → SizedSignal g → Each SizedTree (y .trees) → Each SizedTree (grown (founded R g) y .trees)
+  tree-founded y g h e = each-append SizedTree (y .trees) (founded R g ∷ []) e (record { count = omega arith; each = (h, tt) }, tt)
 
   trees-sized : (e : Event) (r : Reply) → Happens R s e r → Accepted image e → Each SizedTree (r .state .trees)
   trees-sized e r (remains f a q) v = z .eachTree
-  trees-sized e r (founds g room) v =
-      each-append SizedTree (s .trees) (founded R g ∷ []) (z .eachTree) (record { count = omega arith; each = (v .1, tt) }, tt)
+  trees-sized e r (founds g room) v = tree-founded s g (v .1) (z .eachTree)
   trees-sized e r (starts t g p w f b) v =
-      let h : SizedPending (g ∷ p) = subst FirstSized f (firsts t) in
+      let h : SizedSignals pendingCount (g ∷ p) = subst FirstSized f (firsts t) in
       put-sized t (some p) (s .trees) (record { count = omega (arith, h .count); each = h .each .1 }) (z .eachTree)
   trees-sized e r (goes t l j j′ words g want w a b) v =
       put-sized t (some (pendingOf (first t (s .trees)) ++ added g)) (s .trees)
-      (added-sized (pendingOf (first t (s .trees))) g (pending-sized (first t (s .trees)) (firsts t)) (effect-sized t l j _ v w a .2))
+      (added-sized (pendingOf (first t (s .trees))) g (pending-sized (first t (s .trees)) (firsts t)) (effect-sized t l j _ v w a .3))
       (z .eachTree)
-  trees-sized e r (ends t l j a w c) v =
-      each-append SizedTree (put t none (s .trees)) _ (put-sized t none (s .trees) tt (z .eachTree))
-      (requeued-sized R (first t (s .trees)) (firsts t))
+  trees-sized e r (ends t l j gs a w f c) v =
+      admitted-keeps R (λ (y : Machine). Each SizedTree (y .trees)) gs
+      (λ g m y room. tree-founded y g (each-member SizedSignal gs (held-sized t l j gs v w f) g m)) (finished R t s)
+      (each-append SizedTree (put t none (s .trees)) _ (put-sized t none (s .trees) tt (z .eachTree))
+      (requeued-sized R (first t (s .trees)) (firsts t)))
 
 module _ (image table : List ℕ) (checked : Checked image table) where
   ok : Passed image table

@@ -2,6 +2,7 @@
 -- machine is well formed.
 use mathlib.Core.Path.{_≡_, refl, sym, ap, _∙_, subst}
 use mathlib.Core.Bool.{true, false}
+use mathlib.Core.Logic.{inl, inr}
 use mathlib.Core.Option.{Option, none, some}
 use mathlib.Core.List.{List, [], _∷_, _++_}
 use Prim.Native.Nat.{ℕ, _≤_, _<_}
@@ -15,23 +16,24 @@ use Rattle.rules.specs.Check.{Checked}
 use Rattle.rules.specs.Machine.{Signal, Job, ThreadState, idle, running, Machine, threadAt, locksOf, jobOf, fresh, queue, first, put}
 use Rattle.rules.specs.Machine.{window}
 use Rattle.rules.specs.Events.{Event, arrive, turn, threadOf, Valid}
-use Rattle.rules.specs.Steps.{Rules, Effect, Move, Reply, added, pendingOf, founded, requeued, rulesBy, grant, applied, finished, react}
-use Rattle.rules.specs.Steps.{final}
+use Rattle.rules.specs.Steps.{Rules, Effect, Move, Reply, added, pendingOf, founded, requeued, rulesBy, grant, applied, grown, finished}
+use Rattle.rules.specs.Steps.{react, final}
 use Rattle.rules.specs.WellFormed.{pendingOk, machineOk}
 use Rattle.fields.specs.Each.{Each, each-append}
 use Rattle.laws.specs.Logic.{never, getD-same}
 use Rattle.soundness.specs.Invariant.{invariant-react, invariant-fresh}
 use Rattle.laws.specs.Locks.{getD-set-idle}
+use Rattle.laws.specs.Admitted.{admitted-keeps, admitted-threads}
 use Rattle.laws.specs.Passed.{Passed, passed}
 use Rattle.soundness.specs.CheckedRules.{checked-laws}
-use Rattle.soundness.specs.Happens.{startOf, goOf, Happens, remains, founds, starts, goes, ends, happens}
+use Rattle.soundness.specs.Happens.{startOf, goOf, effectOf, EndsWith, Happens, remains, founds, starts, goes, ends, happens}
 use Rattle.soundness.specs.Untouched.{words-of-other-blocks-stay}
 use Rattle.soundness.specs.Queues.{first-queue, queue-append, queue-put, queue-put-other}
-use Rattle.soundness.specs.Members.{getD-set}
-use Rattle.soundness.specs.Sound.{PlaceIn, ThreadIn, PendingIn, TreeIn, QueueIn, Sound, sound-of, sound-ok}
+use Rattle.soundness.specs.Members.{each-member, getD-set}
+use Rattle.soundness.specs.Sound.{PlaceIn, HeldIn, ThreadIn, PendingIn, TreeIn, QueueIn, Sound, sound-of, sound-ok}
 use Rattle.soundness.specs.Destinations.{SentIn, EffectIn, act-in}
-use Rattle.soundness.specs.Trees.{FirstIn, first-in, put-trees, on-home, home-open, requeued-trees, requeued-homed, queue-homed}
-use Rattle.soundness.specs.Trees.{first-home, queue-longer, queue-runs, queue-idle}
+use Rattle.soundness.specs.Trees.{FirstIn, first-in, put-trees, held-pending, on-home, home-open, requeued-trees, requeued-homed}
+use Rattle.soundness.specs.Trees.{queue-homed, first-home, queue-longer, queue-runs, queue-idle}
 
 -- an event that the image accepts: an arrival's label has entry 3 and it has at most 25 values; a step and a cut name a thread 0 to 7
 abbrev pub Accepted : List ℕ → Event → Type 0
@@ -55,13 +57,19 @@ module _ (image table : List ℕ) (ok : Passed image table) (s : Machine) (k : S
 
   added-in : (o : Option Signal) → SentIn image table ok o → Each (PendingIn image table) (added o)
   added-in none h = tt
-  added-in (some g) h = (h, tt)
+  added-in (some g) h = (held-pending image table g h, tt)
 
   -- what the statement of a running thread leaves
   pub effect-in : (t locks : ℕ) (j : Job) (e : Effect) → threadAt s t ≡ running locks j
-      → R .act t j (window (R .block (j .label)) (s .words)) (length (pendingOf (first t (s .trees)))) ≡ e → EffectIn image table ok t e
+      → effectOf R s t j ≡ e → EffectIn image table ok t e
   effect-in t locks j e w a =
       subst (EffectIn image table ok t) a (act-in image table ok t j _ _ (subst (ThreadIn image table t) w (k .threads t)))
+
+  -- the signals that found trees when a job ends
+  held-in : (t locks : ℕ) (j : Job) (gs : List Signal) → threadAt s t ≡ running locks j → EndsWith R s t j gs
+      → Each (HeldIn image table) gs
+  held-in t locks j gs w (inl f) = rw f tt
+  held-in t locks j gs w (inr f) = effect-in t locks j _ w f
 
   -- an arrival's signal is one that may be pending
   arrival-in : (g : Signal) → Accepted image (arrive g) → PendingIn image table g
@@ -81,17 +89,22 @@ module _ (image table : List ℕ) (ok : Passed image table) (s : Machine) (k : S
   threads-kept : (e : Event) (r : Reply) → Happens R s e r → (u : ℕ) → ThreadIn image table u (threadAt (r .state) u)
   threads-kept e r (remains f a q) = k .threads
   threads-kept e r (founds g room) = k .threads
-  threads-kept e r (starts t g p w f b) = getD-set idle (ThreadIn image table) (s .threads) t _ (k .threads) (start-in t g p w f, tt)
+  threads-kept e r (starts t g p w f b) = getD-set idle (ThreadIn image table) (s .threads) t _ (k .threads)
+      (record { places = (start-in t g p w f, tt); held = tt })
   threads-kept e r (goes t l j j′ words g want w a b) =
       getD-set idle (ThreadIn image table) (s .threads) t _ (k .threads) (effect-in t l j _ w a .0)
-  threads-kept e r (ends t l j a w c) = getD-set idle (ThreadIn image table) (s .threads) t idle (k .threads) tt
+  threads-kept e r (ends t l j gs a w f c) =
+      rw (admitted-threads R gs (finished R t s)) (getD-set idle (ThreadIn image table) (s .threads) t idle (k .threads) tt)
 
   -- ---- trees
 
+  tree-founded : (z : Machine) (g : Signal) → PendingIn image table g → Each (TreeIn image table) (z .trees)
+      → Each (TreeIn image table) (grown (founded R g) z .trees)
+  tree-founded z g h e = each-append (TreeIn image table) (z .trees) _ e (on-home image table ok g [] (h, tt), tt)
+
   trees-kept : (e : Event) (r : Reply) → Happens R s e r → Accepted image e → Valid e → Each (TreeIn image table) (r .state .trees)
   trees-kept e r (remains f a q) h v = k .trees
-  trees-kept e r (founds g room) h v =
-      each-append (TreeIn image table) (s .trees) _ (k .trees) (on-home image table ok g [] (arrival-in g h, tt), tt)
+  trees-kept e r (founds g room) h v = tree-founded s g (arrival-in g h) (k .trees)
   trees-kept e r (starts t g p w f b) h v =
       put-trees image table t (some p) (s .trees) (subst (FirstIn image table) f (firsts t) .1) h (k .trees)
   trees-kept e r (goes t l j j′ words g want w a b) h v =
@@ -99,10 +112,13 @@ module _ (image table : List ℕ) (ok : Passed image table) (s : Machine) (k : S
       let new = added-in g (effect-in t l j _ w a .1) in
       put-trees image table t (some (pendingOf (first t (s .trees)) ++ added g)) (s .trees)
       (each-append (PendingIn image table) (pendingOf (first t (s .trees))) (added g) old new) h (k .trees)
-  trees-kept e r (ends t l j a w c) h v =
-      each-append (TreeIn image table) (put t none (s .trees)) _
+  trees-kept e r (ends t l j gs a w f c) h v =
+      admitted-keeps R (λ (z : Machine). Each (TreeIn image table) (z .trees)) gs
+      (λ g m z room. tree-founded z g (held-pending image table g (each-member _ gs (held-in t l j gs w f) g m)))
+      (finished R t s)
+      (each-append (TreeIn image table) (put t none (s .trees)) _
       (put-trees image table t none (s .trees) tt h (k .trees))
-      (requeued-trees image table ok (first t (s .trees)) (firsts t))
+      (requeued-trees image table ok (first t (s .trees)) (firsts t)))
 
   -- ---- queues
 
@@ -140,18 +156,24 @@ module _ (image table : List ℕ) (ok : Passed image table) (s : Machine) (k : S
           (queue-idle image table (threadAt s t) (queue t (s .trees)) t (k .queues t))
       case (no e) = rw (getD-set-other (s .threads) t u idle idle e, queue-put-other u t none (s .trees) e) (k .queues u)
 
-  queues-kept : (e : Event) (r : Reply) → Happens R s e r → Accepted image e → (u : ℕ)
-      → QueueIn image table (threadAt (r .state) u) (queue u (r .state .trees))
-  queues-kept e r (remains f a q) h = k .queues
-  queues-kept e r (founds g room) h =
-      λ u. rw (queue-append u (s .trees) (founded R g ∷ []))
-      (queue-longer image table (threadAt s u) _ _ (k .queues u)
+  abbrev QueuesIn : Machine → Type 0
+  QueuesIn z = (u : ℕ) → QueueIn image table (threadAt z u) (queue u (z .trees))
+
+  queue-founded : (z : Machine) (g : Signal) → QueuesIn z → QueuesIn (grown (founded R g) z)
+  queue-founded z g h u =
+      rw (queue-append u (z .trees) (founded R g ∷ []))
+      (queue-longer image table (threadAt z u) _ _ (h u)
       (queue-homed image table u (founded R g ∷ []) (requeued-homed image table (some (g ∷ [])))))
+
+  queues-kept : (e : Event) (r : Reply) → Happens R s e r → Accepted image e → QueuesIn (r .state)
+  queues-kept e r (remains f a q) h = k .queues
+  queues-kept e r (founds g room) h = queue-founded s g (k .queues)
   queues-kept e r (starts t g p w f b) h = queue-applied t (startOf R g p) (g ∷ p) h f
   queues-kept e r (goes t l j j′ words g want w a b) h =
       let root = k .invariant .rooted t j (ap jobOf w) in
       queue-applied t (goOf (R .block (j .label)) (pendingOf (first t (s .trees))) j′ words g want) (root .0) h (root .1)
-  queues-kept e r (ends t l j a w c) h = queue-finished t
+  queues-kept e r (ends t l j gs a w f c) h =
+      admitted-keeps R QueuesIn gs (λ g m z room. queue-founded z g) (finished R t s) (queue-finished t)
 
 module _ (image table : List ℕ) (checked : Checked image table) where
   ok : Passed image table

@@ -12,13 +12,13 @@ use Rattle.rules.specs.Sizes.{threadCount}
 use Rattle.rules.specs.Image.{labels, recordAt, entry, rowAt}
 use Rattle.rules.specs.Machine.{Signal, Tree, Job, ThreadState, idle, running, queue, first, put}
 use Rattle.rules.specs.Steps.{home, requeued, blockAt, rulesBy}
-use Rattle.rules.specs.WellFormed.{pendingOk, homed, homedAs}
+use Rattle.rules.specs.WellFormed.{heldOk, pendingOk, homed, homedAs}
 use Rattle.fields.specs.Each.{Each, each-append}
 use Rattle.laws.specs.Trees.{first-here, first-there}
 use Rattle.laws.specs.Logic.{never}
 use Rattle.laws.specs.Passed.{Passed, row-in, no-record}
 use Rattle.soundness.specs.Queues.{queue-here, queue-there, headPending, refitted, FirstHas, first-has, put-each}
-use Rattle.soundness.specs.Sound.{PlaceIn, PendingIn, TreeIn, Homed, QueueIn}
+use Rattle.soundness.specs.Sound.{PlaceIn, HeldIn, PendingIn, TreeIn, Homed, QueueIn}
 use Rattle.soundness.specs.Destinations.{block-below}
 
 -- a label with an entry is below n
@@ -33,6 +33,11 @@ module _ (image table : List ℕ) where
   pub pending-below : (g : Signal) → PendingIn image table g → g .label < labels image
   unfolding pendingOk
   pending-below g h = entry-below image (g .label) (λ z. never (let e : _≡_ {A = Bool} false true = rw z at h in cc))
+
+  -- a held signal is one that may be pending
+  pub held-pending : (g : Signal) → HeldIn image table g → PendingIn image table g
+  unfolding heldOk pendingOk
+  held-pending g h = rw h refl
 
   -- a signal of the thread's own block starts a job that may be there
   pub home-open : (t : ℕ) (g : Signal) → PendingIn image table g → t ≡ home (rulesBy image table) g → PlaceIn image table t (g .label)
