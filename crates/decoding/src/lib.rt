@@ -13,6 +13,7 @@ use rules::codes::REGISTER_OPERAND;
 use rules::codes::RETURN;
 use rules::codes::SEND_BUFFERED;
 use rules::codes::SEND_DIRECT;
+use rules::codes::SEND_TREE;
 use rules::codes::SKIP;
 use rules::codes::SUBTRACT;
 use rules::codes::TRANSFER;
@@ -192,6 +193,7 @@ pub fn other_of(r: &[u8]) -> Statement
         CALL => Statement::Call,
         RETURN => Statement::Return,
         TRANSFER => Statement::Transfer,
+        SEND_TREE => Statement::SendTree,
         _ => Statement::Exit,
     }
 }

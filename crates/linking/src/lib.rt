@@ -10,6 +10,7 @@ use rules::codes::GOTO;
 use rules::codes::IF;
 use rules::codes::SEND_BUFFERED;
 use rules::codes::SEND_DIRECT;
+use rules::codes::SEND_TREE;
 use rules::codes::SKIP;
 use rules::codes::TRANSFER;
 use rules::layout::LABEL_A_PLACE;
@@ -40,9 +41,10 @@ const USING_A: u16 = (1 << SKIP)
     | (1 << SEND_DIRECT)
     | (1 << SEND_BUFFERED)
     | (1 << CALL)
-    | (1 << TRANSFER);
+    | (1 << TRANSFER)
+    | (1 << SEND_TREE);
 
-const USING_B: u16 = (1 << IF) | (1 << SEND_BUFFERED) | (1 << CALL);
+const USING_B: u16 = (1 << IF) | (1 << SEND_BUFFERED) | (1 << CALL) | (1 << SEND_TREE);
 
 // Whether an opcode is in a set.
 pub fn is_in(set: u16, opcode: u8) -> bool

@@ -22,6 +22,7 @@ use Rattle.rules.specs.declared.statement.Assignment.{Assignment}
 use Rattle.rules.specs.declared.statement.Condition.{Condition}
 use Rattle.rules.specs.declared.statement.Statement.{Statement}
 use Rattle.rules.specs.declared.statement.Statement.the-variants.{Skip, Assign, If, SendDirect, SendBuffered, Call, Return, Transfer, Exit}
+use Rattle.rules.specs.declared.statement.Statement.the-variants.{SendTree}
 use Rattle.laws.specs.Logic.{never, and-both}
 use Rattle.laws.specs.Heads.{head-fields, Assigning, assigning}
 use Rattle.laws.specs.Passed.{Parts}
@@ -39,6 +40,7 @@ Says r Call = Unit {0}
 Says r Return = Unit {0}
 Says r Transfer = Unit {0}
 Says r Exit = Unit {0}
+Says r SendTree = Unit {0}
 
 -- each row of the opcodes that are not of ASSIGN's kind
 AllSay : List ℕ → List Other → Type 0
@@ -55,7 +57,7 @@ others-say r = (
       λ e f. (f, e, refl),
       (
         λ e f. tt,
-        (λ e f. tt, (λ e f. tt, (λ e f. tt, (λ e f. tt, (λ e f. tt, tt))))),
+        (λ e f. tt, (λ e f. tt, (λ e f. tt, (λ e f. tt, (λ e f. tt, (λ e f. tt, tt)))))),
       ),
     ),
   ),

@@ -23,6 +23,7 @@ use rules::codes::REGISTER_OPERAND;
 use rules::codes::RETURN;
 use rules::codes::SEND_BUFFERED;
 use rules::codes::SEND_DIRECT;
+use rules::codes::SEND_TREE;
 use rules::codes::SKIP;
 use rules::codes::TRANSFER;
 use rules::layout::BLOCK_PLACE;
@@ -138,6 +139,7 @@ pub fn other_ok(image: &[u8], n: usize, r: &[u8], c: usize) -> bool
         RETURN => (o == 0) & labels_ok(image, n, r, Role::Unused, Role::Unused),
         TRANSFER => (o == 0) & labels_ok(image, n, r, Role::Local, Role::Unused),
         EXIT => (o == 0) & (c == 0) & labels_ok(image, n, r, Role::Unused, Role::Unused),
+        SEND_TREE => (o == 0) & labels_ok(image, n, r, Role::Buffered, Role::Inner),
         _ => false,
     }
 }

@@ -35,15 +35,19 @@ unfolding otherAt
 returns-7 c = rw (c .match .keys7)
 
 returns-8 : tie.Need-returns-8
-returns-8 c =
+unfolding otherAt
+returns-8 c = rw (c .match .keys8)
+
+returns-9 : tie.Need-returns-9
+returns-9 c =
     let no = c .match .rest in
     sym (else-exits _ (
-      λ h. no .0 .0 .0 .0 .0 .0 .1 (inl h),
+      λ h. no .0 .0 .0 .0 .0 .0 .0 .1 (inl h),
       (
-        λ h. no .0 .0 .0 .0 .0 .0 .1 (inr h),
-        (no .0 .0 .0 .0 .0 .1, (no .0 .0 .0 .0 .1, (no .0 .0 .0 .1, (no .0 .0 .1, (no .0 .1, (no .1, tt)))))),
+        λ h. no .0 .0 .0 .0 .0 .0 .0 .1 (inr h),
+        (no .0 .0 .0 .0 .0 .0 .1, (no .0 .0 .0 .0 .0 .1, (no .0 .0 .0 .0 .1, (no .0 .0 .0 .1, (no .0 .0 .1, (no .0 .1, tt)))))),
       ),
-    ))
+    ) (no .1, tt))
 
 pub other-of-spec : {M : Type 1} → statement M
 other-of-spec =
@@ -58,4 +62,5 @@ other-of-spec =
     returns-5
     returns-6
     returns-7
-    returns-8)
+    returns-8
+    returns-9)

@@ -5,9 +5,11 @@ use native.Mathlib.Omega.{arith}
 use borrow.Author.Needs.{needs}
 use Rattle.rules.specs.Sizes.{operandCount}
 use Rattle.rules.specs.Codes.{skipCode, gotoCode, ifCode, sendDirectCode, sendBufferedCode, callCode, returnCode, transferCode, exitCode}
+use Rattle.rules.specs.Codes.{sendTreeCode}
 use Rattle.rules.specs.Image.{operands}
 use Rattle.rules.specs.Statements.{conditionOf, otherAt}
 use Rattle.rules.specs.declared.statement.Statement.the-variants.{Skip, If, SendDirect, SendBuffered, Call, Return, Transfer, Exit}
+use Rattle.rules.specs.declared.statement.Statement.the-variants.{SendTree}
 use mathlib.Core.Option.{some}
 use Rattle.laws.specs.Heads.{other-found}
 use Rattle.record_check.proofs.Forms.{no-other, form-other, form-carried}
@@ -70,12 +72,21 @@ returns-8 c =
 
 returns-9 : tie.Need-returns-9
 returns-9 c =
+    let s = c .before .before .before .before .before .before in
+    let found = other-found (s .args .r .now) sendTreeCode SendTree (c .before .match .keys9) refl in
+    rw (c .labels-ok9 .ensures, form-carried (s .args .image .now) (s .args .r .now) SendTree found refl refl (few s))
+
+returns-10 : tie.Need-returns-10
+returns-10 c =
     let no = c .match .rest in
     rw (no-other _ (
-      λ h. no .0 .0 .0 .0 .0 .0 .0 .1 (inl h),
+      λ h. no .0 .0 .0 .0 .0 .0 .0 .0 .1 (inl h),
       (
-        λ h. no .0 .0 .0 .0 .0 .0 .0 .1 (inr h),
-        (no .0 .0 .0 .0 .0 .0 .1, (no .0 .0 .0 .0 .0 .1, (no .0 .0 .0 .0 .1, (no .0 .0 .0 .1, (no .0 .0 .1, (no .0 .1, (no .1, tt))))))),
+        λ h. no .0 .0 .0 .0 .0 .0 .0 .0 .1 (inr h),
+        (
+          no .0 .0 .0 .0 .0 .0 .0 .1,
+          (no .0 .0 .0 .0 .0 .0 .1, (no .0 .0 .0 .0 .0 .1, (no .0 .0 .0 .0 .1, (no .0 .0 .0 .1, (no .0 .0 .1, (no .0 .1, (no .1, tt))))))),
+        ),
       ),
     ))
 
@@ -93,6 +104,7 @@ other-ok-spec =
     (λ c κs. (c .before .before .before .before .before .pre .0, c .before .before .before .before .before .pre .1))
     (λ c κs. (c .before .before .before .before .before .pre .0, c .before .before .before .before .before .pre .1))
     (λ c κs. (c .before .before .before .before .before .pre .0, c .before .before .before .before .before .pre .1))
+    (λ c κs. (c .before .before .before .before .before .pre .0, c .before .before .before .before .before .pre .1))
     returns
     returns-2
     returns-3
@@ -101,4 +113,5 @@ other-ok-spec =
     returns-6
     returns-7
     returns-8
-    returns-9)
+    returns-9
+    returns-10)
