@@ -1,11 +1,12 @@
--- Where the tree of an ended job goes.
-use mathlib.Core.Path.{_≡_, refl}
-use mathlib.Core.Option.{some}
-use mathlib.Core.List.{List, [], _∷_}
+-- Where the tree of an ended job goes, and the thread cleared.
+use mathlib.Core.Path.{_≡_, refl, ap, _∙_}
+use mathlib.Core.Option.{none, some}
+use mathlib.Core.List.{List, [], _∷_, _++_}
 use Prim.Native.Nat.{ℕ, _<_}
 use native.Mathlib.Decide.{decLt}
 use native.Mathlib.Omega.{arith}
 use lib.ListN.{length, getD}
+use lib.Seq.{getD-set-same, set-set}
 use Rattle.rules.specs.Sizes.{threadCount, blockCount, tableSize}
 use Rattle.rules.specs.Image.{labels, rowAt}
 use Rattle.rules.specs.Encoding.{noSignal, noTree, machineFrom}
@@ -15,15 +16,18 @@ use Rattle.laws.specs.Passed.{Passed, passed}
 use Rattle.soundness.specs.Sound.{PendingIn, TreeIn}
 use Rattle.soundness.specs.Destinations.{block-below}
 use Rattle.soundness.specs.Trees.{pending-below}
-use Rattle.fields.specs.Put.{put}
-use Rattle.encoding.specs.Encoded.{Encodes}
-use Rattle.threads.specs.Threads.{idleThread, idle-thread}
+use Rattle.fields.specs.Put as bytes
+use Rattle.encoding.specs.Encoded.{Canonical, Encodes}
+use Rattle.threads.specs.Threads.{keepHeld, idleThread, idle-thread}
 use Rattle.threads.specs.Records.{threadPlace, rawBytes}
 use Rattle.threads.specs.declared.thread.ThreadState.{ThreadState}
-use Rattle.step_ready.specs.Ready.{Ready, written}
-use Rattle.step_ready.specs.At.{Busy}
-use Rattle.rules.specs.Machine.{Signal, Tree, Machine, idle, first, withThread}
-use Rattle.rules.specs.Steps.{rulesBy, blockAt, requeued, finished}
+use Rattle.thread_records.specs.Records.{Busy, thread-written}
+use Rattle.step_ready.specs.Ready.{Ready}
+use Rattle.rules.specs.Machine as law
+use Rattle.rules.specs.Machine.{Signal, Tree, Machine, idle, running, heldOf, threadAt, first, put, withThread}
+use Rattle.rules.specs.Steps.{rulesBy, blockAt, requeued}
+use Rattle.encoding.specs.TreeStores.{withTrees}
+use Rattle.held_signals.specs.Held.{withHeldAt}
 use Rattle.encoding.specs.FirstTree.{firstTree, first-some, first-none}
 use Rattle.pending_signals.specs.Canon.{pendingAt}
 use Rattle.trees.specs.Changes.{requeuedOn, ended}
@@ -38,10 +42,13 @@ module _ (image table : List ℕ) where
   requeued-home [] t h = refl
   requeued-home (g ∷ p) t h = rw h refl
 
-  -- the thread is cleared, and then the tree of the job goes
-  pub finished-is : (s : Machine) (t u i : ℕ) → i ≡ firstTree t (s .trees) → i < length (s .trees) → HomeOf image table (pendingAt s i) u
-      → ended t u i (withThread s t idle) ≡ finished (rulesBy image table) t s
-  finished-is s t u i e l h =
+  -- the own tree of thread t's job is settled; cleared besides, the thread's job has ended
+  abbrev pub settled : ℕ → Machine → Machine
+  settled t s = withTrees s (put t none (s .trees) ++ requeued (rulesBy image table) (first t (s .trees)))
+
+  pub settled-is : (s : Machine) (t u i : ℕ) → i ≡ firstTree t (s .trees) → i < length (s .trees) → HomeOf image table (pendingAt s i) u
+      → ended t u i s ≡ settled t s
+  settled-is s t u i e l h =
       let k : first t (s .trees) ≡ some (pendingAt s i) = rw e (first-some t (s .trees) (rw e at l)) in
       rw (requeued-home (pendingAt s i) u h, k) refl
 
@@ -63,6 +70,23 @@ first-inside t p l h = case (decLt (firstTree t l) (length l))
     case (yes k) = k
     case (no k) = never (cc (first-none t l (omega arith)))
 
+-- ---- the thread cleared, once it holds no signal
+
+pub cleared : {b b₁ b₂ : List ℕ} (t : ℕ) {w : ThreadState} → Canonical b → t < threadCount → Encodes b₁ (withHeldAt (machineFrom b) t [])
+    → w ≡ idleThread → b₂ ≡ bytes.put b₁ (threadPlace t) (rawBytes w) → Encodes b₂ (withThread (machineFrom b) t idle)
+cleared {b} {b₁} {b₂} t {w} c l k i e =
+    let s = machineFrom b in
+    let f : b₂ ≡ bytes.put b₁ (threadPlace t) (rawBytes idleThread) = rw i at e in
+    let x : threadAt (withHeldAt s t []) t ≡ keepHeld [] (threadAt s t) =
+    getD-set-same (s .threads) t (keepHeld [] (threadAt s t)) idle (rw (c .sized .threads) l) in
+    let n : heldOf (threadAt (withHeldAt s t []) t) ≡ [] = ap heldOf x ∙ none (threadAt s t) in
+    let z = thread-written b₁ (withHeldAt s t []) k t idleThread l (idle-thread .tidy) (λ q. n) f in
+    rw (idle-thread .state, set-set (s .threads) t) at z
+  where
+    none : (y : law.ThreadState) → heldOf (keepHeld [] y) ≡ []
+    none idle = refl
+    none (running locks j) = refl
+
 -- ---- labels below n
 
 module _ {image table b : List ℕ} (h : Ready image table b) where
@@ -82,14 +106,6 @@ module _ {image table b : List ℕ} (h : Ready image table b) where
 
   pub table-long : length table ≡ tableSize
   table-long = checked-parts .wholeTable
-
-  -- ---- the thread cleared
-
-  pub cleared : (t : ℕ) {w : ThreadState} {b′ : List ℕ} → t < threadCount → w ≡ idleThread → b′ ≡ put b (threadPlace t) (rawBytes w)
-      → Encodes b′ (withThread (machineFrom b) t idle)
-  cleared t {w} {b′} l i e =
-      let f : b′ ≡ put b (threadPlace t) (rawBytes idleThread) = rw i at e in
-      rw (idle-thread .state) at (written h t idleThread l (idle-thread .tidy) f)
 
   -- a running thread has a tree
   pub tree-inside : (t : ℕ) → Busy b t → firstTree t (machineFrom b .trees) < length (machineFrom b .trees)

@@ -1,5 +1,7 @@
-// The ends of a job: EXIT, a trap and a cut. Each clears the thread to idle and keeps the job's shared writes and pending signals.
+// The ends of a job. Each clears the thread to idle and keeps the job's shared writes and pending signals; a trap and a cut drop the
+// signals that it held.
 use block_table::thread_at;
+use held_signals::drop_held;
 use image::records::block_at;
 use pending_signals::oldest_label;
 use pending_signals::pending;
@@ -14,14 +16,14 @@ ghost use mathlib.Core.Path.{_≡_};
 ghost use Prim.Native.Nat.{_<_};
 ghost use lib.ListN.{length};
 ghost use Rattle.rules.specs.Sizes.{threadCount};
+ghost use Rattle.rules.specs.Machine.{withThread, idle};
 ghost use Rattle.rules.specs.Encoding.{machineFrom};
 ghost use Rattle.rules.specs.Events.{cut};
-ghost use Rattle.rules.specs.Statements.{statementOf};
-ghost use Rattle.rules.specs.declared.statement.Statement.the-variants.{Exit};
+ghost use Rattle.encoding.specs.Encoded.{Canonical, Encodes};
+ghost use Rattle.thread_records.specs.Records.{Busy};
 ghost use Rattle.pending_signals.specs.Canon.{pendingAt};
-ghost use Rattle.step_ready.specs.Ready.{Ready, Recorded, Done, Stepped, Ended, replyTo};
-ghost use Rattle.step_ready.specs.At.{At, Busy};
-ghost use Rattle.ending.specs.Home.{HomeOf};
+ghost use Rattle.step_ready.specs.Ready.{Ready, Recorded, Done, Ended, replyTo};
+ghost use Rattle.ending.specs.Home.{HomeOf, settled};
 
 // The thread of tree i's oldest signal's block; any thread where nothing is pending.
 fn home(image: &[u8], table: &[u8], state: &[u8], i: usize) -> Thread
@@ -34,16 +36,33 @@ fn home(image: &[u8], table: &[u8], state: &[u8], i: usize) -> Thread
     thread_at(table, block_at(image, oldest_label(state, i)))
 }
 
-// The job of thread t ends: nothing of it stays in the thread, which is w. Its tree, if empty, leaves the list, and otherwise goes to
-// the list's end.
+// The own tree of thread t's job, which ends: if empty it leaves the list, otherwise it goes to the list's end.
+pub fn settle(image: &[u8], table: &[u8], state: &mut [u8], t: Thread)
+    requires { ⌜ Ready (now image) (now table) (now state) × (t .0 < threadCount) × Busy (now state) (t .0) ⌝ }
+    ensures { λ _. ⌜ Encodes (now (state .exit))
+        (settled (now (image .entry)) (now (table .entry)) (t .0) (machineFrom (now (state .entry)))) ⌝ }
+{
+    let i = first_tree(state, t);
+    let to = home(image, table, state, i);
+    end_tree(state, i, to);
+}
+
+// Nothing of the job stays in the thread, which is w: no signal that it held either.
+pub fn clear_thread(state: &mut [u8], t: Thread, w: ThreadState)
+    requires { ⌜ Canonical (now state) × (t .0 < threadCount) × Busy (now state) (t .0) ⌝ }
+    ensures { λ _. ⌜ Encodes (now (state .exit)) (withThread (machineFrom (now (state .entry))) (t .0) idle) ⌝ }
+{
+    drop_held(state, t);
+    write_thread(state, t, w.end());
+}
+
+// The job of thread t, which is w, ends by a trap or a cut.
 pub fn finish(image: &[u8], table: &[u8], state: &mut [u8], t: Thread, w: ThreadState)
     requires { ⌜ Ready (now image) (now table) (now state) × (t .0 < threadCount) × Busy (now state) (t .0) ⌝ }
     ensures { λ _. ⌜ Ended (now (image .entry)) (now (table .entry)) (now (state .entry)) (t .0) (now (state .exit)) ⌝ }
 {
-    let i = first_tree(state, t);
-    let to = home(image, table, state, i);
-    write_thread(state, t, w.end());
-    end_tree(state, i, to);
+    settle(image, table, state, t);
+    clear_thread(state, t, w);
 }
 
 pub fn trapped(
@@ -60,22 +79,6 @@ pub fn trapped(
 {
     finish(image, table, state, t, w);
     Answer::Trapped(reason)
-}
-
-// EXIT.
-pub fn leave(
-    image: &[u8],
-    table: &[u8],
-    state: &mut [u8],
-    t: Thread,
-    w: ThreadState,
-    r: &[u8],
-) -> Answer
-    requires { ⌜ At (now image) (now table) (now state) (t .0) w (now r) × (statementOf (now r) ≡ Exit) ⌝ }
-    ensures { λ a. ⌜ Stepped (now (image .entry)) (now (table .entry)) (now (state .entry)) (t .0) (now (state .exit)) a ⌝ }
-{
-    finish(image, table, state, t, w);
-    Answer::Exited
 }
 
 // A cut: on an idle thread there is nothing to cut.

@@ -94,7 +94,3 @@ module _ {image events : List ℕ} {i : ℕ} (h : EventAt image events i) (kind 
           let f : Encodes b′ (arrived t signal m) = rw n at c in
           done (grown (founded (rulesBy image table) signal) m) Taken
           (ap (replyTo image table b) arrival-is ∙ arrives (rulesBy image table) m signal (asked e)) refl (rw to at f)
-
--- room for one more tree is room in the list
-pub room-below : (s : Machine) (t : ℕ) → roomFor (treeThreads (s .trees)) t ≡ true → length (s .trees) < treeCount
-room-below s t e = omega (arith, ltb-true (length (treeThreads (s .trees))) treeCount e, length-map (s .trees) (λ (x : Tree). x .thread))

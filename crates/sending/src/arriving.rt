@@ -5,31 +5,17 @@ use image::records::block_at;
 use rules::answer::Answer;
 use rules::layout::EVENT_SIGNAL_PLACE;
 use rules::layout::EVENT_SIZE;
-use rules::limits::Tree;
-use rules::sorts::Thread;
 use rules::sorts::label_of;
 use trees::list::append;
-use trees::list::tree_count;
+use trees::list::room;
 ghost use mathlib.Core.Path.{_≡_};
 ghost use Prim.Native.Nat.{_*_};
 ghost use lib.ListN.{getD, drop};
 ghost use Rattle.rules.specs.Sizes.{eventSize};
 ghost use Rattle.rules.specs.Codes.{arrivalCode};
-ghost use Rattle.rules.specs.Machine.{treeThreads};
-ghost use Rattle.rules.specs.Encoding.{machineFrom};
 ghost use Rattle.rules.specs.Events.{eventFrom};
-ghost use Rattle.rules.specs.Steps.{roomFor};
-ghost use Rattle.encoding.specs.Encoded.{Canonical};
 ghost use Rattle.step_ready.specs.Ready.{Ready, Done, replyTo};
 ghost use Rattle.sending.specs.Arrivals.{EventAt};
-
-// Is there room for one more tree on a thread?
-pub fn room(state: &[u8], t: Thread) -> bool
-    requires { ⌜ Canonical (now state) ⌝ }
-    ensures { λ z. ⌜ z ≡ roomFor (treeThreads (machineFrom (now (state .entry)) .trees)) (t .0) ⌝ }
-{
-    tree_count(state) < Tree::COUNT
-}
 
 // The arrival at an index of the events.
 pub fn arrive(image: &[u8], table: &[u8], state: &mut [u8], events: &[u8], i: usize) -> Answer

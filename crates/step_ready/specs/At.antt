@@ -13,7 +13,8 @@ use Rattle.rules.specs.Image.{labels, recordAt, blockField, labelA, labelB}
 use Rattle.rules.specs.Statements.{statementOf, roleA, roleB, dataOf, reads}
 use Rattle.rules.specs.Check.{recordOk}
 use Rattle.rules.specs.Effects.{Got, trap, Cells, readAll}
-use Rattle.rules.specs.Machine.{Signal, Job, threadAt, first, idle, running, window, job}
+use Rattle.rules.specs.Machine as law
+use Rattle.rules.specs.Machine.{Signal, Job, job, withHeld, heldOf, threadAt, first, idle, running, window}
 use Rattle.rules.specs.Encoding.{machineFrom}
 use Rattle.rules.specs.Steps.{blockAt, rulesBy, finished}
 use Rattle.rules.specs.declared.answer.Answer.{Answer}
@@ -25,16 +26,17 @@ use Rattle.soundness.specs.Sound.{ThreadIn}
 use Rattle.encoding.specs.Slots.{returnsIn, registersIn}
 use Rattle.step_laws.specs.Statements.{unread}
 use Rattle.image.specs.Records.{labels-small, length-record}
-use Rattle.threads.specs.Threads.{jobOf, returnsOf, registersOf, Running, Runs, runs-fields, idle-says, runs-says}
+use Rattle.threads.specs.Threads.{keepHeld, says-whole, jobOf, returnsOf, registersOf, Running, Runs, runs-fields, idle-says, runs-says}
 use Rattle.threads.specs.Records.{rawThread, same-returns, set-registers}
 use Rattle.threads.specs.declared.thread.ThreadState.{ThreadState}
+use Rattle.thread_records.specs.Records.{Busy}
 use Rattle.operands.specs.Legal.{Below, Readable, label-below}
 use Rattle.operands.specs.Cells.{cellsFrom, cellsOf}
 use Rattle.step_ready.specs.Ready.{Ready, Recorded, Stepped, Ended, done, says}
 
--- thread t runs a job
-abbrev pub Busy : List ℕ → ℕ → Type 0
-Busy b t = (l : ℕ) × (j : Job) × (threadAt (machineFrom b) t ≡ running l j)
+-- the job that thread t, which is w, runs in the bytes b: what it holds stands there
+abbrev pub jobAt : List ℕ → ℕ → ThreadState → Job
+jobAt b t w = withHeld (heldOf (threadAt (machineFrom b) t)) (jobOf w)
 
 -- thread t, which is w, runs a job and comes to the record r
 pub record At (image table b : List ℕ) (t : ℕ) (w : ThreadState) (r : List ℕ) : Type 0 where
@@ -42,7 +44,7 @@ pub record At (image table b : List ℕ) (t : ℕ) (w : ThreadState) (r : List �
   pub inside : t < threadCount
   pub read : Recorded b t w
   pub thread : Running w
-  pub runs : threadAt (machineFrom b) t ≡ running (w .locks) (jobOf w)
+  pub runs : threadAt (machineFrom b) t ≡ running (w .locks) (jobAt b t w)
   pub here : r ≡ recordAt image (w .label .0)
   pub parts : Parts image r
   pub readable : Readable r
@@ -50,19 +52,21 @@ pub record At (image table b : List ℕ) (t : ℕ) (w : ThreadState) (r : List �
 -- a thread that was read and is idle, or is not
 pub at-rest : {image table b : List ℕ} (h : Ready image table b) (t : ℕ) (w : ThreadState) → t < threadCount → Recorded b t w
     → eqb (w .label .0) idleLabel ≡ true → threadAt (machineFrom b) t ≡ idle
-at-rest h t w l e n = sym (says h t l e .state) ∙ idle-says w n
+at-rest {b = b} h t w l e n =
+    let x = threadAt (machineFrom b) t in
+    says-whole (says h t l e) ∙ ap (keepHeld (heldOf x)) (idle-says w n)
 
 module _ {image table b : List ℕ} (h : Ready image table b) (t : ℕ) (w : ThreadState) (l : t < threadCount) (e : Recorded b t w)
     (n : eqb (w .label .0) idleLabel ≡ false) where
-  pub runs-job : threadAt (machineFrom b) t ≡ running (w .locks) (jobOf w)
-  runs-job = sym (says h t l e .state) ∙ runs-says w n
+  pub runs-job : threadAt (machineFrom b) t ≡ running (w .locks) (jobAt b t w)
+  runs-job = let x = threadAt (machineFrom b) t in says-whole (says h t l e) ∙ ap (keepHeld (heldOf x)) (runs-says w n)
 
   pub busy : Busy b t
-  busy = (w .locks, jobOf w, runs-job)
+  busy = (w .locks, jobAt b t w, runs-job)
 
   -- its label is below n
   pub label-inside : w .label .0 < labels image
-  label-inside = subst (ThreadIn image table t) runs-job (h .sound .threads t) .0 .below
+  label-inside = subst (ThreadIn image table t) runs-job (h .sound .threads t) .places .0 .below
 
   pub at : {r : List ℕ} → r ≡ recordAt image (w .label .0) → At image table b t w r
   unfolding recordOk
@@ -88,11 +92,11 @@ module _ {image table b : List ℕ} (h : Ready image table b) (t : ℕ) (w : Thr
 
 module _ {image table b : List ℕ} {t : ℕ} {w : ThreadState} {r : List ℕ} (h : At image table b t w r) where
   pub at-busy : Busy b t
-  at-busy = (w .locks, jobOf w, h .runs)
+  at-busy = (w .locks, jobAt b t w, h .runs)
 
   -- a running thread has a tree
   pub tree : (p : List Signal) × (first t (machineFrom b .trees) ≡ some p)
-  tree = h .ready .sound .invariant .rooted t (jobOf w) (rw (h .runs) refl)
+  tree = h .ready .sound .invariant .rooted t (jobAt b t w) (ap law.jobOf (h .runs))
 
   -- the statement at the law's record
   pub statement-here : (S : Statement) → statementOf r ≡ S → statementOf (recordAt image (w .label .0)) ≡ S
@@ -137,7 +141,7 @@ module _ {image table b : List ℕ} {t : ℕ} {w : ThreadState} {r : List ℕ} (
       → Stepped image table b t b′ a
   unread-stepped S {reason} e g f k =
       done (finished (rulesBy image table) t (machineFrom b)) (Trapped reason)
-      (unread image table (machineFrom b) t (w .locks) (jobOf w) (tree .0) (h .runs) (tree .1) S reason (statement-here S e)
+      (unread image table (machineFrom b) t (w .locks) (jobAt b t w) (tree .0) (h .runs) (tree .1) S reason (statement-here S e)
       (reads-here S g)) f k
 
   -- as many return labels as the thread counts

@@ -6,7 +6,7 @@ use Prim.Native.Nat.{ℕ, _<_}
 use lib.ListN.{drop}
 use Rattle.rules.specs.Sizes.{threadCount}
 use Rattle.rules.specs.Check.{Checked}
-use Rattle.rules.specs.Machine.{Machine, Job, threadAt, running, withThread}
+use Rattle.rules.specs.Machine.{Machine, Job, threadAt, withJob}
 use Rattle.rules.specs.Encoding.{machineFrom}
 use Rattle.rules.specs.Events.{Event, step}
 use Rattle.rules.specs.Steps.{rulesBy, Reply, react, finished}
@@ -15,7 +15,8 @@ use Rattle.fields.specs.Put.{put}
 use Rattle.encoding.specs.Encoded.{Encodes, Canonical, encoded-machine, encoded-canonical}
 use Rattle.soundness.specs.Sound.{Sound}
 use Rattle.soundness.specs.StaysWellFormed.{Accepted, sound-react}
-use Rattle.threads.specs.Threads.{stateOf, Tidy, Says, Runs}
+use Rattle.laws.specs.Logic.{never}
+use Rattle.threads.specs.Threads.{Says, Runs}
 use Rattle.threads.specs.Records.{threadPlace, rawThread, rawBytes}
 use Rattle.threads.specs.declared.thread.ThreadState.{ThreadState}
 use Rattle.thread_records.specs.Records.{thread-read, thread-written}
@@ -57,8 +58,8 @@ done {r} {b} {a} s x e f h = record {
 
 -- a thread that runs a job, written
 pub job-written : {b b′ : List ℕ} (t : ℕ) {w : ThreadState} {locks : ℕ} {j : Job} → Canonical b → t < threadCount → Runs w locks j
-    → b′ ≡ put b (threadPlace t) (rawBytes w) → Encodes b′ (withThread (machineFrom b) t (running locks j))
-job-written {b} t {w} h l r e = rw (r .state) at (thread-written b (machineFrom b) h t w l (r .running .tidy) e)
+    → b′ ≡ put b (threadPlace t) (rawBytes w) → Encodes b′ (withJob (machineFrom b) t locks j)
+job-written {b} t {w} h l r e = rw (r .state) at (thread-written b (machineFrom b) h t w l (r .running .tidy) (λ q. never (cc (r .state))) e)
 
 module _ {image table b : List ℕ} (h : Ready image table b) where
   pub ready-again : {b′ : List ℕ} {a : Answer} (e : Event) → Accepted image e → Done (replyTo image table b e) b′ a → Ready image table b′
@@ -68,17 +69,13 @@ module _ {image table b : List ℕ} (h : Ready image table b) where
     sound = rw (d .machine) (sound-react image table (h .checked) (machineFrom b) e (h .sound) k);
   }
 
-  -- thread t, read and written
+  -- thread t, read
   pub says : (t : ℕ) {w : ThreadState} → t < threadCount → Recorded b t w → Says w (threadAt (machineFrom b) t)
   says t l e = rw e (thread-read b (machineFrom b) (h .canonical) t l)
 
-  pub written : (t : ℕ) (w : ThreadState) {b′ : List ℕ} → t < threadCount → Tidy w → b′ ≡ put b (threadPlace t) (rawBytes w)
-      → Encodes b′ (withThread (machineFrom b) t (stateOf w))
-  written t w l z e = thread-written b (machineFrom b) (h .canonical) t w l z e
-
   -- a step that leaves the thread with these locks and this job, and all else as it was
   pub thread-stepped : (t : ℕ) {w : ThreadState} {locks : ℕ} {j : Job} {b′ : List ℕ} (x : Answer) → t < threadCount
-      → replyTo image table b (step t) ≡ record { state = withThread (machineFrom b) t (running locks j); answer = x }
+      → replyTo image table b (step t) ≡ record { state = withJob (machineFrom b) t locks j; answer = x }
       → Runs w locks j → b′ ≡ put b (threadPlace t) (rawBytes w) → Stepped image table b t b′ x
   thread-stepped t {w} {locks} {j} x l e r f =
-      done (withThread (machineFrom b) t (running locks j)) x e refl (job-written t (h .canonical) l r f)
+      done (withJob (machineFrom b) t locks j) x e refl (job-written t (h .canonical) l r f)

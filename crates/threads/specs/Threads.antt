@@ -15,7 +15,7 @@ use Rattle.rules.specs.Sorts.{label}
 use Rattle.rules.specs.Sizes.{returnCount, registerCount, idleLabel}
 use Rattle.rules.specs.Bytes.{pad}
 use Rattle.rules.specs.Machine as law
-use Rattle.rules.specs.Machine.{Signal, Job, job, withHeld, idle, running, fill}
+use Rattle.rules.specs.Machine.{Signal, Job, job, withHeld, heldOf, idle, running, fill}
 use Rattle.rules.specs.Encoding.{registersFrom}
 use Rattle.threads.specs.Returns.{TidyReturns, no-returns}
 use Rattle.threads.specs.Registers.{TidyRegisters, none-tidy, filled-registers, filled-tidy, overlaid-registers, overlaid-tidy}
@@ -48,6 +48,14 @@ pub record Tidy (w : ThreadState) : Type 0 where
 pub record Says (w : ThreadState) (x : law.ThreadState) : Type 0 where
   pub state : stateOf w ≡ keepHeld [] x
   pub tidy : Tidy w
+
+-- and x is what it says, with the signals that x holds
+pub says-whole : {w : ThreadState} {x : law.ThreadState} → Says w x → x ≡ keepHeld (heldOf x) (stateOf w)
+says-whole {w} {x} h = rw (h .state) (whole x)
+  where
+    whole : (y : law.ThreadState) → y ≡ keepHeld (heldOf y) (keepHeld [] y)
+    whole idle = refl
+    whole (running locks j) = refl
 
 abbrev pub Idle : ThreadState → Type 0
 Idle w = Says w idle

@@ -79,5 +79,5 @@ module _ {image table b : List ℕ} {t : ℕ} {w : ThreadState} {r : List ℕ} (
 
   pub newest-small : 0 < w .depth → newestOf (returnsOf w) < idleLabel
   newest-small l =
-      let places = subst (ThreadIn image table t) (h .runs) (h .ready .sound .threads t) .1 in
+      let places = subst (ThreadIn image table t) (h .runs) (h .ready .sound .threads t) .places .1 in
       small h _ (newest-below image table t (returnsOf w) places (omega (arith, depth-is h)))

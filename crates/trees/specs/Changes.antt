@@ -1,14 +1,17 @@
 -- What becomes of the tree list, in the words of the law, from what the stores leave.
 use mathlib.Core.Path.{_≡_, refl, sym, _∙_}
+use mathlib.Core.Bool.{true}
 use mathlib.Core.Option.{none}
 use mathlib.Core.List.{List, [], _∷_, _++_, append-nil}
 use Prim.Native.Nat.{ℕ, zero, suc, _+_, _<_}
 use native.Mathlib.Omega.{arith}
-use lib.ListN.{length, getD, take, drop, length-append, drop-of-length-le}
+use lib.ListN.{length, getD, take, drop, length-append, length-map, drop-of-length-le}
+use borrow.Author.Tests.{ltb-true}
 use lib.Seq.{split-at}
 use Rattle.rules.specs.Sizes.{treeCount}
-use Rattle.rules.specs.Machine.{Signal, Tree, Machine, put}
+use Rattle.rules.specs.Machine.{Signal, Tree, Machine, put, treeThreads}
 use Rattle.rules.specs.Encoding.{noTree}
+use Rattle.rules.specs.Steps.{roomFor}
 use Rattle.fields.specs.Each.{Each, each-append}
 use Rattle.fields.specs.Filled.{removeAt, length-removeAt}
 use Rattle.encoding.specs.Sized.{SizedSignal, SizedTree, Sized}
@@ -86,3 +89,7 @@ unfolding removeAt
 last-stays l i e =
     let o : drop (suc i) l ≡ [] = drop-of-length-le l {i = suc i} (omega arith) in
     rw (o, append-nil) (sym (split-at l i noTree (omega arith) ∙ rw o))
+
+-- room for one more tree is room in the list
+pub room-below : (s : Machine) (t : ℕ) → roomFor (treeThreads (s .trees)) t ≡ true → length (s .trees) < treeCount
+room-below s t e = omega (arith, ltb-true (length (treeThreads (s .trees))) treeCount e, length-map (s .trees) (λ (x : Tree). x .thread))

@@ -9,6 +9,7 @@ use rules::layout::SIGNALS_PLACE;
 use rules::layout::TREE_COUNT_PLACE;
 use rules::layout::TREE_SIZE;
 use rules::layout::TREES_PLACE;
+use rules::limits::Tree;
 use rules::sorts::Thread;
 use rules::sorts::thread_number;
 use signal_records::Signal;
@@ -20,8 +21,10 @@ ghost use mathlib.Core.List.{[], _∷_, _++_};
 ghost use Prim.Native.Nat.{ℕ, _+_, _*_, _<_, _≤_};
 ghost use lib.ListN.{length, drop};
 ghost use Rattle.rules.specs.Sizes.{treeCount, treeSize, treeCountPlace, treesPlace, signalSize, stateSize};
+ghost use Rattle.rules.specs.Machine.{treeThreads};
 ghost use Rattle.rules.specs.Encoding.{signalBytes, signalFrom, treeBytes, machineFrom};
 ghost use Rattle.rules.specs.WellFormed.{signalTidy};
+ghost use Rattle.rules.specs.Steps.{roomFor};
 ghost use Rattle.fields.specs.Put.{put};
 ghost use Rattle.fields.specs.Filled.{removeAt};
 ghost use Rattle.encoding.specs.FirstTree.{firstTree};
@@ -36,6 +39,14 @@ pub fn tree_count(state: &[u8]) -> usize
     ensures { λ r. ⌜ r ≡ length (machineFrom (now (state .entry)) .trees) ⌝ }
 {
     get8(state, TREE_COUNT_PLACE)
+}
+
+// Is there room for one more tree on a thread? Arrivals and the signals that a job held go by this.
+pub fn room(state: &[u8], t: Thread) -> bool
+    requires { ⌜ Canon (now state) ⌝ }
+    ensures { λ z. ⌜ z ≡ roomFor (treeThreads (machineFrom (now (state .entry)) .trees)) (t .0) ⌝ }
+{
+    tree_count(state) < Tree::COUNT
 }
 
 // The place of the first tree on a thread, or the number of trees where there is none.
@@ -66,7 +77,7 @@ fn write_tree(s: &mut [u8], at: usize, t: Thread, g: Signal)
 }
 
 // That tree comes to the list's end.
-fn append_tree(state: &mut [u8], t: Thread, g: Signal)
+pub fn append_tree(state: &mut [u8], t: Thread, g: Signal)
     requires { ⌜ Canon (now state) × (length (machineFrom (now state) .trees) < treeCount) × TidySignal g ⌝ }
     ensures { λ _. ⌜ Canon (now (state .exit)) ⌝ }
     ensures { λ _. ⌜ machineFrom (now (state .exit)) ≡ arrived (t .0) (signalOf g) (machineFrom (now (state .entry))) ⌝ }

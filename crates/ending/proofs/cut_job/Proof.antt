@@ -3,7 +3,6 @@ use mathlib.Core.Path.{refl, sym, _∙_}
 use Rattle.rules.specs.Encoding.{machineFrom}
 use Rattle.rules.specs.Steps.{rulesBy, finished}
 use Rattle.rules.specs.declared.answer.Answer.the-variants.{WasCut, NothingToCut}
-use Rattle.threads.specs.Threads.{jobOf}
 use Rattle.step_laws.specs.Events.{cut-idle, cut-running}
 use Rattle.step_ready.specs.Ready.{done}
 use Rattle.step_ready.specs.At.{at-rest, runs-job, busy}
@@ -35,7 +34,7 @@ returns-2 c =
     let R = rulesBy (a .image .now) (a .table .now) in
     let e = runs-job (s .pre .0) (a .t .0) (a .w) (s .pre .1) (s .pre .2)
     (sym (c .before .before .before .before .before .is-idle .ensures) ∙ c .before .before .before .before .if1 .left) in
-    done (finished R (a .t .0) m) WasCut (cut-running R m (a .t .0) (a .w .locks) (jobOf (a .w)) e) refl
+    done (finished R (a .t .0) m) WasCut (cut-running R m (a .t .0) (a .w .locks) _ e) refl
     (c .before .before .finish .ensures)
 
 pub cut-job-spec : {M : Type 1} → statement M

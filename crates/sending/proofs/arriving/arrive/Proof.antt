@@ -8,7 +8,8 @@ use Rattle.rules.specs.Image.{rowAt}
 use Rattle.rules.specs.Encoding.{machineFrom}
 use Rattle.rules.specs.Steps.{blockAt}
 use Rattle.ending.specs.Home.{table-long}
-use Rattle.sending.specs.Arrivals.{arrival-tidy, arrival-below, arrival-block, full-done, arrived-done, room-below}
+use Rattle.trees.specs.Changes.{room-below}
+use Rattle.sending.specs.Arrivals.{arrival-tidy, arrival-below, arrival-block, full-done, arrived-done}
 use borrow.Author.Needs.{needs}
 use Rattle.sending.proofs.arriving.arrive.Statement.{statement}
 use Rattle.sending.proofs.arriving.arrive.Tie as tie

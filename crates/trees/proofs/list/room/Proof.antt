@@ -6,8 +6,8 @@ use Rattle.rules.specs.Sizes.{treeCount}
 use Rattle.rules.specs.Machine.{Tree}
 use Rattle.rules.specs.Encoding.{machineFrom}
 use borrow.Author.Needs.{needs}
-use Rattle.sending.proofs.arriving.room.Statement.{statement}
-use Rattle.sending.proofs.arriving.room.Tie as tie
+use Rattle.trees.proofs.list.room.Statement.{statement}
+use Rattle.trees.proofs.list.room.Tie as tie
 
 returns : tie.Need-returns
 returns c =
