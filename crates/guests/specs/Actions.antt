@@ -10,10 +10,10 @@ use lib.ListN.{length-map}
 use Rattle.rules.specs.Codes.{foreignFdBlockCode}
 use Rattle.rules.specs.Image.{labels, recordAt, blockField, labelA, labelB, Row, rowAt}
 use Rattle.rules.specs.Statements.{statementOf, roleA, roleB, dataOf}
-use Rattle.rules.specs.Machine.{Job}
+use Rattle.rules.specs.Machine.{Signal, Job}
 use Rattle.rules.specs.Effects.{Got, trap, got, Next, onA, onB, intoA, callA, back, Going, Outcome, ends, goes, outcome}
-use Rattle.rules.specs.Steps.{Effect, trapIf, newest, older, signalTo, alien, steer, resolve, blockAt, actBy, rulesBy, view}
-use Rattle.rules.specs.Link.{used, shiftLabel, shiftJob}
+use Rattle.rules.specs.Steps.{Effect, trapIf, newest, older, signalTo, holdOn, alien, steer, resolve, blockAt, actBy, rulesBy, view}
+use Rattle.rules.specs.Link.{used, shiftLabel, shiftSignal, shiftJob}
 use Rattle.rules.specs.declared.statement.Role.{Role}
 use Rattle.rules.specs.declared.statement.Role.the-variants.{Inner, Direct, Local, Buffered}
 use Rattle.laws.specs.Roles.{Leads, Sends, Refers, refers}
@@ -21,7 +21,8 @@ use Rattle.laws.specs.Passed.{Passed, Parts, label-below}
 use Rattle.soundness.specs.Destinations.{parts}
 use Rattle.guests.specs.Shifted.{Shifted}
 use Rattle.guests.specs.Parts.{Part}
-use Rattle.guests.specs.Relabelled.{shiftSent, shiftEffect, Relabels}
+use Rattle.guests.specs.Labels.{shiftSent, shiftEffect}
+use Rattle.guests.specs.Relabelled.{Relabels}
 
 module _ (d : ℕ) where
   newest-shift : (a : ℕ) (l : List ℕ) → newest (a + d) (map (λ v. v + d) l) ≡ newest a l + d
@@ -52,35 +53,44 @@ module _ (d : ℕ) (block block′ : ℕ → ℕ) (row : ℕ → Row) (x y : Rol
   a-on (inl e) = used-as Inner x a refl e
   a-on (inr e) = used-as Local x a refl e
 
-  -- a signal for the job's own tree goes to A by its role
+  -- a signal goes to A by its role
   sent-shift : (o : Option (List ℕ)) → Sends x o → signalTo a′ o ≡ shiftSent d (signalTo a o)
   sent-shift none h = refl
   sent-shift (some values) h = rw (used-as Buffered x a refl h) refl
 
-  steer-shift : (t : ℕ) (g : Going) (n : Next) (rs : List ℕ) → Leads x y n → Sends x (g .sent)
-      → steer block′ row t a′ b′ g n (map (λ v. v + d) rs) ≡ shiftEffect d (steer block row t a b g n rs)
-  steer-shift t g onA rs n s = rw (sent-shift (g .sent) s, a-on n) refl
-  steer-shift t g onB rs n s = rw (sent-shift (g .sent) s, used-as Inner y b refl n) refl
-  steer-shift t g intoA rs n s =
-      rw (sent-shift (g .sent) s, used-as Direct x a refl n, entered n)
-      (trap-shift d (alien (row (block a)) t) foreignFdBlockCode _ _ refl)
-  steer-shift t g callA rs n s =
-      rw (
-        sent-shift (g .sent) s,
-        used-as Direct x a refl (n .0),
-        used-as Inner y b refl (n .1),
-        entered (n .0),
-        ← map-append (λ v. v + d) rs (b ∷ []),
-      )
-      (trap-shift d (alien (row (block a)) t) foreignFdBlockCode _ _ refl)
-  steer-shift t g back [] n s = refl
-  steer-shift t g back (r ∷ rs) n s = rw (sent-shift (g .sent) s, newest-shift d r rs, older-shift d r rs) refl
+  hold-shift : (gs : List Signal) (o : Option (List ℕ)) → Sends x o
+      → holdOn (map (shiftSignal d) gs) (signalTo a′ o) ≡ map (shiftSignal d) (holdOn gs (signalTo a o))
+  hold-shift gs none h = refl
+  hold-shift gs (some values) h = rw (used-as Buffered x a refl h, map-append (shiftSignal d) gs) refl
 
-  resolve-shift : (t : ℕ) (rs : List ℕ) (o : Got Outcome) → Refers x y o
-      → resolve block′ row t (map (λ v. v + d) rs) a′ b′ o ≡ shiftEffect d (resolve block row t rs a b o)
-  resolve-shift t rs (trap r) k = refl
-  resolve-shift t rs (got ends) k = refl
-  resolve-shift t rs (got (goes g)) k = steer-shift t g (g .next) rs (k .0) (k .1)
+  module _ (t : ℕ) (gs : List Signal) where
+    steer-shift : (g : Going) (n : Next) (rs : List ℕ) → Leads x y n → Sends x (g .sent) → Sends x (g .held)
+        → steer block′ row t a′ b′ (map (shiftSignal d) gs) g n (map (λ v. v + d) rs) ≡ shiftEffect d (steer block row t a b gs g n rs)
+    steer-shift g onA rs n s h = rw (sent-shift (g .sent) s, hold-shift gs (g .held) h, a-on n) refl
+    steer-shift g onB rs n s h = rw (sent-shift (g .sent) s, hold-shift gs (g .held) h, used-as Inner y b refl n) refl
+    steer-shift g intoA rs n s h =
+        rw (sent-shift (g .sent) s, hold-shift gs (g .held) h, used-as Direct x a refl n, entered n)
+        (trap-shift d (alien (row (block a)) t) foreignFdBlockCode _ _ refl)
+    steer-shift g callA rs n s h =
+        rw (
+          sent-shift (g .sent) s,
+          hold-shift gs (g .held) h,
+          used-as Direct x a refl (n .0),
+          used-as Inner y b refl (n .1),
+          entered (n .0),
+          ← map-append (λ v. v + d) rs (b ∷ []),
+        )
+        (trap-shift d (alien (row (block a)) t) foreignFdBlockCode _ _ refl)
+    steer-shift g back [] n s h = refl
+    steer-shift g back (r ∷ rs) n s h =
+        rw (sent-shift (g .sent) s, hold-shift gs (g .held) h, newest-shift d r rs, older-shift d r rs) refl
+
+    resolve-shift : (rs : List ℕ) (o : Got Outcome) → Refers x y o
+        → resolve block′ row t (map (λ v. v + d) rs) (map (shiftSignal d) gs) a′ b′ o
+        ≡ shiftEffect d (resolve block row t rs gs a b o)
+    resolve-shift rs (trap r) k = refl
+    resolve-shift rs (got ends) k = refl
+    resolve-shift rs (got (goes g)) k = steer-shift g (g .next) rs (k .0) (k .1) (k .2)
 
 module _ (d : ℕ) (G L table : List ℕ) (part : Part d G L) (passed : Passed G table) where
   act-shift : (t : ℕ) (j : Job) (words : List ℕ) (k : ℕ) → j .label < labels G
@@ -94,9 +104,16 @@ module _ (d : ℕ) (G L table : List ℕ) (part : Part d G L) (passed : Passed G
       let entered : x ≡ Direct → blockAt L (labelA r + d) ≡ blockAt G (labelA r) =
       λ e. part .at (labelA r) (label-below G x (blockField r) (labelA r) (ok .a) (ap used e)) .block
       in
-      rw (same .statement, same .given, same .a, same .b, length-map (j .returns) (λ v. v + d))
-      (resolve-shift d (blockAt G) (blockAt L) (rowAt table) x (roleB (statementOf r)) (labelA r) (labelB r) entered t (j .returns)
-      (outcome (view j words k) (statementOf r) (dataOf r)) (refers (view j words k) (statementOf r) (dataOf r)))
+      rw (
+        same .statement,
+        same .given,
+        same .a,
+        same .b,
+        length-map (j .returns) (λ v. v + d),
+        length-map (j .held) (shiftSignal d),
+      )
+      (resolve-shift d (blockAt G) (blockAt L) (rowAt table) x (roleB (statementOf r)) (labelA r) (labelB r) entered t (j .held)
+      (j .returns) (outcome (view j words k) (statementOf r) (dataOf r)) (refers (view j words k) (statementOf r) (dataOf r)))
 
   -- so the linked image's rules do to a guest's labels, shifted, what the guest's own do
   pub relabels : Relabels d (labels G) (rulesBy G table) (blockAt L) (actBy L table)

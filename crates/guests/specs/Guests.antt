@@ -23,7 +23,7 @@ use Rattle.soundness.specs.Destinations.{block-below}
 use Rattle.soundness.specs.StaysWellFormed.{Accepted, sound-fresh}
 use Rattle.guests.specs.Parts.{Part, Fits, first-part, second-part}
 use Rattle.guests.specs.Passes.{fits, LinkAccepted, link-accepted}
-use Rattle.guests.specs.Relabelled.{thread-shift, locks-shift}
+use Rattle.guests.specs.Labels.{thread-shift, locks-shift}
 use Rattle.guests.specs.Reading.{GuestReading, guest-reading-fresh, all-accepted}
 use Rattle.guests.specs.OtherBlocks.{Free, words-of-unnamed-blocks-stay, locks-of-unnamed-blocks-stay-free, fresh-free}
 

@@ -1,6 +1,6 @@
 -- A guest leaves alone every block that its image does not name: no shared word of it changes, and no thread comes to hold its lock. A
 -- job writes only to the block that it is in, and takes only the locks of blocks that it enters, and the image names these.
-use mathlib.Core.Path.{_≡_, refl, sym, subst, _∙_}
+use mathlib.Core.Path.{_≡_, refl, sym, ap, subst, _∙_}
 use mathlib.Core.Logic.{_≢_}
 use mathlib.Core.Bool.{Bool, true, false, true≢false}
 use mathlib.Core.Option.{Option, none, some}
@@ -13,17 +13,18 @@ use Rattle.rules.specs.Bytes.{has}
 use Rattle.rules.specs.Image.{labels, recordAt, labelA, labelB, Row, rowAt}
 use Rattle.rules.specs.Statements.{statementOf, dataOf}
 use Rattle.rules.specs.Check.{Checked}
-use Rattle.rules.specs.Machine.{Job, ThreadState, idle, Machine, threadAt, locksOf, fresh, window}
+use Rattle.rules.specs.Machine.{Signal, Job, ThreadState, idle, Machine, threadAt, locksOf, fresh, window}
 use Rattle.rules.specs.Effects.{Got, trap, got, Next, onA, onB, intoA, callA, back, Going, Outcome, ends, goes, outcome}
 use Rattle.rules.specs.Events.{Event}
 use Rattle.rules.specs.Steps.{Effect, traps, exits, moves, trapIf, alien, steer, resolve, blockAt, actBy, rulesBy, view, Reply, grant}
-use Rattle.rules.specs.Steps.{react, final}
+use Rattle.rules.specs.Steps.{finished, react, final}
 use Rattle.rules.specs.Link.{names}
 use Rattle.fields.specs.Each.{Each}
 use Rattle.fields.specs.Runs.{any-at}
 use Rattle.laws.specs.Logic.{getD-same}
 use Rattle.laws.specs.Sets.{has-none, has-other}
 use Rattle.laws.specs.Words.{window-keep-other}
+use Rattle.laws.specs.Admitted.{admitted-words, admitted-threads}
 use Rattle.laws.specs.Passed.{Passed, passed}
 use Rattle.soundness.specs.Happens.{Happens, remains, founds, starts, happens}
 use Rattle.soundness.specs.Members.{getD-set}
@@ -34,16 +35,16 @@ use Rattle.soundness.specs.StaysWellFormed.{Accepted, effect-in, start-in, soun
 
 abbrev Asks : (ℕ → ℕ) → Effect → Type 0
 Asks block (traps r) = Unit {0}
-Asks block exits = Unit {0}
+Asks block (exits gs) = Unit {0}
 Asks block (moves j words g none) = Unit {0}
 Asks block (moves j words g (some b)) = b ≡ block (j .label)
 
-module _ (block : ℕ → ℕ) (row : ℕ → Row) where
+module _ (block : ℕ → ℕ) (row : ℕ → Row) (gs : List Signal) where
   trap-asks : (c : Bool) (r : ℕ) (e : Effect) → Asks block e → Asks block (trapIf c r e)
   trap-asks true r e h = tt
   trap-asks false r e h = h
 
-  steer-asks : (t a b : ℕ) (g : Going) (n : Next) (rs : List ℕ) → Asks block (steer block row t a b g n rs)
+  steer-asks : (t a b : ℕ) (g : Going) (n : Next) (rs : List ℕ) → Asks block (steer block row t a b gs g n rs)
   steer-asks t a b g onA rs = tt
   steer-asks t a b g onB rs = tt
   steer-asks t a b g intoA rs = trap-asks (alien (row (block a)) t) _ _ refl
@@ -51,7 +52,7 @@ module _ (block : ℕ → ℕ) (row : ℕ → Row) where
   steer-asks t a b g back [] = tt
   steer-asks t a b g back (r ∷ rs) = tt
 
-  resolve-asks : (t a b : ℕ) (rs : List ℕ) (o : Got Outcome) → Asks block (resolve block row t rs a b o)
+  resolve-asks : (t a b : ℕ) (rs : List ℕ) (o : Got Outcome) → Asks block (resolve block row t rs gs a b o)
   resolve-asks t a b rs (trap r) = tt
   resolve-asks t a b rs (got ends) = tt
   resolve-asks t a b rs (got (goes g)) = steer-asks t a b g (g .next) rs
@@ -60,7 +61,8 @@ act-asks : (image table : List ℕ) (t : ℕ) (j : Job) (words : List ℕ) (n : 
 unfolding actBy
 act-asks image table t j words n =
     let r = recordAt image (j .label) in
-    resolve-asks (blockAt image) (rowAt table) t (labelA r) (labelB r) (j .returns) (outcome (view j words n) (statementOf r) (dataOf r))
+    resolve-asks (blockAt image) (rowAt table) (j .held) t (labelA r) (labelB r) (j .returns)
+    (outcome (view j words n) (statementOf r) (dataOf r))
 
 -- ---- the blocks of an image's labels
 
@@ -84,8 +86,8 @@ module _ (image table : List ℕ) (b : ℕ) (unnamed : names image b ≡ false) 
     words-kept e r (starts t g p w f c) = refl
     words-kept e r (Happens.goes t l j j′ words g want w a c) =
         window-keep-other (blockAt image (j .label)) b words (s .words)
-        (elsewhere image b (j .label) unnamed (subst (ThreadIn image table t) w (k .threads t) .0 .below))
-    words-kept e r (Happens.ends t l j a w c) = refl
+        (elsewhere image b (j .label) unnamed (subst (ThreadIn image table t) w (k .threads t) .places .0 .below))
+    words-kept e r (Happens.ends t l j gs a w f c) = ap (window b) (admitted-words (rulesBy image table) gs _)
 
     -- a set of locks with the lock of a named block more
     not-granted : (l locks : ℕ) → l < labels image → has (rowAt table b .lock) locks ≡ false
@@ -109,10 +111,11 @@ module _ (image table : List ℕ) (b : ℕ) (unnamed : names image b ≡ false) 
       lock-free e r (Happens.goes t l j j′ words g want w a c) =
           getD-set idle (λ u (z : ThreadState). has (rowAt table b .lock) (locksOf z) ≡ false) (s .threads) t _ free
           (not-asked j′ want _ (subst (Asks (blockAt image)) a (act-asks image table t j _ _))
-          (effect-in image table ok s k t l j _ w a .0 .0 .below) (free t))
-      lock-free e r (Happens.ends t l j a w c) =
-          getD-set idle (λ u (z : ThreadState). has (rowAt table b .lock) (locksOf z) ≡ false) (s .threads) t idle free
-          (has-none (rowAt table b .lock))
+          (effect-in image table ok s k t l j _ w a .0 .places .0 .below) (free t))
+      lock-free e r (Happens.ends t l j gs a w f c) =
+          rw (admitted-threads (rulesBy image table) gs (finished (rulesBy image table) t s))
+          (getD-set idle (λ u (z : ThreadState). has (rowAt table b .lock) (locksOf z) ≡ false) (s .threads) t idle free
+          (has-none (rowAt table b .lock)))
 
   -- ---- a list of events
 

@@ -14,11 +14,13 @@ use Rattle.rules.specs.declared.answer.Answer.{Answer}
 use Rattle.fields.specs.Each.{Each}
 use Rattle.laws.specs.Passed.{passed}
 use Rattle.soundness.specs.Members.{each-map}
-use Rattle.soundness.specs.Sound.{ThreadIn, PendingIn, TreeIn, Sound}
-use Rattle.soundness.specs.Trees.{pending-below}
+use Rattle.soundness.specs.CheckedRules.{releasing}
+use Rattle.soundness.specs.Sound.{HeldIn, ThreadIn, PendingIn, TreeIn, Sound}
+use Rattle.soundness.specs.Trees.{pending-below, held-pending}
 use Rattle.soundness.specs.StaysWellFormed.{Accepted, sound-react, sound-fresh}
 use Rattle.guests.specs.Parts.{Part}
-use Rattle.guests.specs.Relabelled.{shiftReply, ThreadBelow, SignalBelow, TreeBelow, EventBelow, Below, react-shift}
+use Rattle.guests.specs.Labels.{shiftReply, ThreadBelow, SignalBelow, TreeBelow, EventBelow, Below}
+use Rattle.guests.specs.Relabelled.{react-shift}
 use Rattle.guests.specs.Actions.{relabels}
 
 -- the events l of the guest G from the machine s on its own image, and shifted by d from the machine s′ on the image L
@@ -32,7 +34,11 @@ pub record GuestReading (d : ℕ) (G L table : List ℕ) (s s′ : Machine) (l :
 module _ (image table : List ℕ) where
   thread-below : (t : ℕ) (w : ThreadState) → ThreadIn image table t w → ThreadBelow (labels image) w
   thread-below t idle h = tt
-  thread-below t (running locks j) h = h .0 .below
+  thread-below t (running locks j) h = (
+    h .places .0 .below,
+    each-map (HeldIn image table) (SignalBelow (labels image)) (j .held)
+        (λ g k. pending-below image table g (held-pending image table g k)) (h .held),
+  )
 
   tree-below : (x : Tree) → TreeIn image table x → TreeBelow (labels image) x
   tree-below x h = each-map (PendingIn image table) (SignalBelow (labels image)) (x .pending) (pending-below image table) (h .pending)
@@ -55,7 +61,8 @@ module _ (d : ℕ) (G L table : List ℕ) (part : Part d G L) (checked : Checked
       → react (rulesBy L table) (shiftMachine d s) (shiftEvent d e) ≡ shiftReply d (react (rulesBy G table) s e)
   react-guest s e k h =
       react-shift d (labels G) (rulesBy G table) (blockAt L) (actBy L table)
-      (relabels d G L table part (passed G table [] checked .0)) s e (sound-below G table s k) (accepted-below G table e h)
+      (relabels d G L table part (passed G table [] checked .0)) (releasing G table) s e (sound-below G table s k)
+      (accepted-below G table e h)
 
   answers-guest : (s : Machine) (l : List Event) → Sound G table s → Each (Accepted G) l
       → answers (rulesBy L table) (shiftMachine d s) (map (shiftEvent d) l) ≡ answers (rulesBy G table) s l

@@ -1,143 +1,59 @@
 -- Two sets of rules, of which the second says of label l + d what the first says of label l, for every l below n. Then an event with its
 -- labels shifted by d does by the second rules, to a machine with its labels shifted, what the event does by the first to the machine.
-use mathlib.Core.Path.{_≡_, refl, sym, ap, _∙_}
+use mathlib.Core.Path.{_≡_, refl, sym, ap, ap₂, _∙_}
 use mathlib.Core.Bool.{Bool, true, false, cond}
-use mathlib.Core.Logic.{ite}
 use mathlib.Core.Option.{Option, none, some}
 use mathlib.Core.List.{List, [], _∷_, map, map-append}
-use Prim.Native.Nat.{ℕ, zero, suc, _+_, _<_}
-use native.Mathlib.Decide.{ℕ-discrete}
-use lib.ListN.{length, getD, set, length-map}
-use Rattle.rules.specs.Machine.{Signal, Tree, Job, ThreadState, idle, running, Machine, threadAt, locksOf, first, refit, put, treeThreads}
-use Rattle.rules.specs.Machine.{window}
+use Prim.Native.Nat.{ℕ, _+_, _<_}
+use lib.ListN.{length, set, length-map}
+use Rattle.rules.specs.Machine.{Signal, Tree, Job, ThreadState, idle, running, Machine, threadAt, locksOf, first, put, window}
 use Rattle.rules.specs.Events.{Kind, stepping, cutting, Event, arrive, turn}
-use Rattle.rules.specs.Steps.{Effect, traps, exits, moves, Rules, Move, Plan, stay, grow, move, finish, Reply, added, pendingOf, home}
-use Rattle.rules.specs.Steps.{founded, planRunning, planCut, planArrive, planIdle, planStep, planTurn, plan, held, blocked, grant, applied}
-use Rattle.rules.specs.Steps.{requeued, finished, attempt, carry, react}
+use Rattle.rules.specs.Steps.{Effect, traps, exits, moves, Rules, Move, Plan, stay, grow, move, finish, leave, added, pendingOf, home}
+use Rattle.rules.specs.Steps.{founded, admits, planRunning, planCut, planArrive, planIdle, planStep, planTurn, plan, blocked, grant}
+use Rattle.rules.specs.Steps.{applied, requeued, grown, finished, admit, admitted, lost, attempt, carry, react}
 use Rattle.rules.specs.Link.{shiftSignal, shiftJob, shiftThread, shiftTree, shiftMachine, shiftEvent}
-use Rattle.rules.specs.declared.answer.Answer.the-variants.{ListFull}
+use Rattle.rules.specs.declared.answer.Answer.the-variants.{Taken, ListFull, Exited}
 use Rattle.fields.specs.Each.{Each}
-use Rattle.soundness.specs.Queues.{FirstHas, first-has}
+use Rattle.soundness.specs.Laws.{Releases, Releasing}
+use Rattle.guests.specs.Labels.{shiftEffect, shiftPending, shiftMove, shiftPlan, shiftReply, ThreadBelow, SignalBelow, EventBelow}
+use Rattle.guests.specs.Labels.{Below, PlanBelow, FirstBelow, first-below, map-set, locks-shift, thread-shift, held-shift}
+use Rattle.guests.specs.Labels.{threads-shift, first-shift, put-shift, pending-shift, added-shift}
 
--- ---- what an event does, with its labels shifted
-
-abbrev pub shiftSent : ℕ → Option Signal → Option Signal
-shiftSent d none = none
-shiftSent d (some g) = some (shiftSignal d g)
-
-abbrev pub shiftEffect : ℕ → Effect → Effect
-shiftEffect d (traps r) = traps r
-shiftEffect d exits = exits
-shiftEffect d (moves j words g want) = moves (shiftJob d j) words (shiftSent d g) want
-
-abbrev shiftPending : ℕ → Option (List Signal) → Option (List Signal)
-shiftPending d none = none
-shiftPending d (some p) = some (map (shiftSignal d) p)
-
-abbrev shiftMove : ℕ → Move → Move
-shiftMove d m = record {
-  job = shiftJob d (m .job);
-  write = m .write;
-  pending = map (shiftSignal d) (m .pending);
-  want = m .want;
-  answer = m .answer;
-}
-
-abbrev shiftPlan : ℕ → Plan → Plan
-shiftPlan d (stay a) = stay a
-shiftPlan d (grow x) = grow (shiftTree d x)
-shiftPlan d (move t m) = move t (shiftMove d m)
-shiftPlan d (finish t a) = finish t a
-
-abbrev pub shiftReply : ℕ → Reply → Reply
-shiftReply d r = record { state = shiftMachine d (r .state); answer = r .answer }
-
--- ---- labels below n
-
-module _ (n : ℕ) where
-  -- of a running thread its label, of a tree the labels of its pending signals, of an arrival its label
-  abbrev pub ThreadBelow : ThreadState → Type 0
-  ThreadBelow idle = Unit {0}
-  ThreadBelow (running locks j) = j .label < n
-
-  abbrev pub SignalBelow : Signal → Type 0
-  SignalBelow g = g .label < n
-
-  abbrev pub TreeBelow : Tree → Type 0
-  TreeBelow x = Each SignalBelow (x .pending)
-
-  abbrev pub EventBelow : Event → Type 0
-  EventBelow (arrive g) = SignalBelow g
-  EventBelow (turn k t) = Unit {0}
-
-  pub record Below (s : Machine) : Type 0 where
-    pub threads : (t : ℕ) → ThreadBelow (threadAt s t)
-    pub trees : Each TreeBelow (s .trees)
-
-  abbrev FirstBelow : Option (List Signal) → Type 0
-  FirstBelow o = FirstHas TreeBelow (Each SignalBelow) o
-
-  first-below : (t : ℕ) (l : List Tree) → Each TreeBelow l → FirstBelow (first t l)
-  first-below = first-has TreeBelow (Each SignalBelow) (λ x h. h)
-
--- ---- what reads and changes threads and trees does so to the shifted ones
-
-map-set : {A B : Type 0} (f : A → B) (l : List A) (i : ℕ) (a : A) → map f (set l i a) ≡ set (map f l) i (f a)
-map-set f [] i a = refl
-map-set f (x ∷ l) zero a = refl
-map-set f (x ∷ l) (suc i) a = ap (λ z. f x ∷ z) (map-set f l i a)
-
-module _ (d : ℕ) where
-  pub locks-shift : (w : ThreadState) → locksOf (shiftThread d w) ≡ locksOf w
-  locks-shift idle = refl
-  locks-shift (running locks j) = refl
-
-  pub thread-shift : (ws : List ThreadState) (t : ℕ) → getD (map (shiftThread d) ws) t idle ≡ shiftThread d (getD ws t idle)
-  thread-shift [] t = refl
-  thread-shift (w ∷ ws) zero = refl
-  thread-shift (w ∷ ws) (suc t) = thread-shift ws t
-
-  held-shift : (l : ℕ) (ws : List ThreadState) → held l (map (shiftThread d) ws) ≡ held l ws
-  unfolding held
-  held-shift l [] = refl
-  held-shift l (w ∷ ws) = rw (locks-shift w, held-shift l ws) refl
-
-  threads-shift : (l : List Tree) → treeThreads (map (shiftTree d) l) ≡ treeThreads l
-  threads-shift [] = refl
-  threads-shift (x ∷ l) = ap (λ z. x .thread ∷ z) (threads-shift l)
-
-  first-shift : (t : ℕ) (l : List Tree) → first t (map (shiftTree d) l) ≡ shiftPending d (first t l)
-  unfolding first
-  first-shift t [] = refl
-  first-shift t (x ∷ l) = case (ℕ-discrete (x .thread) t) (first-shift t l)
+-- the signals of an EXIT are those that its job holds, whose labels are below n
+module _ (n : ℕ) (R : Rules) where
+  below-arrive : (g : Signal) (l : List Tree) → PlanBelow n (planArrive R g l)
+  unfolding planArrive
+  below-arrive g l = case (admits R l g)
     where
-      case : (c : Dec (x .thread ≡ t)) → first t (map (shiftTree d) l) ≡ shiftPending d (first t l)
-          → ite c (some (map (shiftSignal d) (x .pending))) (first t (map (shiftTree d) l))
-          ≡ shiftPending d (ite c (some (x .pending)) (first t l))
-      case (yes e) h = refl
-      case (no e) h = h
+      case : (c : Bool) → PlanBelow n (cond c (grow (founded R g)) (stay ListFull))
+      case true = tt
+      case false = tt
 
-  put-shift : (t : ℕ) (o : Option (List Signal)) (l : List Tree)
-      → put t (shiftPending d o) (map (shiftTree d) l) ≡ map (shiftTree d) (put t o l)
-  unfolding put
-  put-shift t o [] = refl
-  put-shift t o (x ∷ l) = case o (ℕ-discrete (x .thread) t) (put-shift t o l)
-    where
-      case : (q : Option (List Signal)) (c : Dec (x .thread ≡ t))
-          → put t (shiftPending d o) (map (shiftTree d) l) ≡ map (shiftTree d) (put t o l)
-          → ite c (refit t (shiftPending d q) (map (shiftTree d) l)) (shiftTree d x ∷ put t (shiftPending d o) (map (shiftTree d) l))
-          ≡ map (shiftTree d) (ite c (refit t q l) (x ∷ put t o l))
-      case none (yes e) h = refl
-      case (some p) (yes e) h = refl
-      case q (no e) h = ap (λ z. shiftTree d x ∷ z) h
+  below-idle : (t : ℕ) (o : Option (List Signal)) → PlanBelow n (planIdle R t o)
+  unfolding planIdle
+  below-idle t none = tt
+  below-idle t (some []) = tt
+  below-idle t (some (g ∷ p)) = tt
 
-  pending-shift : (o : Option (List Signal)) → pendingOf (shiftPending d o) ≡ map (shiftSignal d) (pendingOf o)
-  pending-shift none = refl
-  pending-shift (some p) = refl
+  below-running : (t b : ℕ) (p : List Signal) (j : Job) (e : Effect) → Each (SignalBelow n) (j .held) → Releases j e
+      → PlanBelow n (planRunning t b p e)
+  unfolding planRunning
+  below-running t b p j (traps r) h k = tt
+  below-running t b p j (exits gs) h k = rw k h
+  below-running t b p j (moves j′ words g want) h k = tt
 
-  added-shift : (o : Option Signal) → added (shiftSent d o) ≡ map (shiftSignal d) (added o)
-  added-shift none = refl
-  added-shift (some g) = refl
+  below-turn : Releasing R → (k : Kind) (t : ℕ) (w : ThreadState) (o : Option (List Signal)) (words : List ℕ) → ThreadBelow n w
+      → PlanBelow n (planTurn R k t w o words)
+  unfolding planStep planCut
+  below-turn free stepping t idle o words h = below-idle t o
+  below-turn free stepping t (running locks j) o words h = below-running t _ _ j _ (h .1) (free .releases t j _ _)
+  below-turn free cutting t idle o words h = tt
+  below-turn free cutting t (running locks j) o words h = tt
+
+  plan-below : Releasing R → (s : Machine) (e : Event) → Below n s → PlanBelow n (plan R s e)
+  unfolding plan
+  plan-below free s (arrive g) b = below-arrive g (s .trees)
+  plan-below free s (turn k t) b = below-turn free k t (threadAt s t) (first t (s .trees)) (s .words) (b .threads t)
 
 -- the rules R, but for the image
 abbrev pub onImage : Rules → (ℕ → ℕ) → (ℕ → Job → List ℕ → ℕ → Effect) → Rules
@@ -155,12 +71,16 @@ module _ (d n : ℕ) (R : Rules) (block : ℕ → ℕ) (act : ℕ → Job → Li
   home-shift : (g : Signal) → SignalBelow n g → home R′ (shiftSignal d g) ≡ home R g
   home-shift g h = ap (R .thread) (same .blocks (g .label) h)
 
+  admits-shift : (l : List Tree) (g : Signal) → SignalBelow n g
+      → admits R′ (map (shiftTree d) l) (shiftSignal d g) ≡ admits R l g
+  admits-shift l g h = ap₂ (R .room) (threads-shift d l) (home-shift g h)
+
   -- ---- the plan
 
   plan-arrive : (g : Signal) (l : List Tree) → SignalBelow n g
       → planArrive R′ (shiftSignal d g) (map (shiftTree d) l) ≡ shiftPlan d (planArrive R g l)
   unfolding planArrive
-  plan-arrive g l h = rw (threads-shift d l, home-shift g h) (case (R .room (treeThreads l) (home R g)))
+  plan-arrive g l h = rw (admits-shift l g h, home-shift g h) (case (admits R l g))
     where
       case : (c : Bool) → cond c (grow (shiftTree d (founded R g))) (stay ListFull)
           ≡ shiftPlan d (cond c (grow (founded R g)) (stay ListFull))
@@ -177,7 +97,7 @@ module _ (d n : ℕ) (R : Rules) (block : ℕ → ℕ) (act : ℕ → Job → Li
       → planRunning t b (map (shiftSignal d) p) (shiftEffect d e) ≡ shiftPlan d (planRunning t b p e)
   unfolding planRunning
   plan-running t b p (traps r) = refl
-  plan-running t b p exits = refl
+  plan-running t b p (exits gs) = refl
   plan-running t b p (moves j words g want) = rw (map-append (shiftSignal d) p (added g), added-shift d g) refl
 
   plan-step : (t : ℕ) (w : ThreadState) (o : Option (List Signal)) (words : List ℕ) → ThreadBelow n w → FirstBelow n o
@@ -187,9 +107,9 @@ module _ (d n : ℕ) (R : Rules) (block : ℕ → ℕ) (act : ℕ → Job → Li
   plan-step t (running locks j) o words h k =
       rw (
         pending-shift d o,
-        same .blocks (j .label) h,
+        same .blocks (j .label) (h .0),
         length-map (pendingOf o) (shiftSignal d),
-        same .acts t j (window (R .block (j .label)) words) (length (pendingOf o)) h,
+        same .acts t j (window (R .block (j .label)) words) (length (pendingOf o)) (h .0),
       )
       (plan-running t (R .block (j .label)) (pendingOf o) _)
 
@@ -262,23 +182,57 @@ module _ (d n : ℕ) (R : Rules) (block : ℕ → ℕ) (act : ℕ → Job → Li
       )
       refl
 
-  carry-shift : (s : Machine) (q : Plan) → Below n s → carry R′ (shiftMachine d s) (shiftPlan d q) ≡ shiftReply d (carry R s q)
-  unfolding carry
-  carry-shift s (stay a) b = refl
-  carry-shift s (grow x) b = rw (map-append (shiftTree d) (s .trees)) refl
-  carry-shift s (move t m) b =
-      rw (blocked-shift t (s .threads) (m .want)) (attempt-shift t m s (blocked R t (s .threads) (m .want)))
-  carry-shift s (finish t a) b = λ i. record {
-    state = record {
-      words = s .words;
-      threads = sym (map-set (shiftThread d) (s .threads) t idle) i;
-      trees = trees-finished t s b i;
-    };
-    answer = a;
+  finished-shift : (t : ℕ) (s : Machine) → Below n s → finished R′ t (shiftMachine d s) ≡ shiftMachine d (finished R t s)
+  finished-shift t s b = λ i. record {
+    words = s .words;
+    threads = sym (map-set (shiftThread d) (s .threads) t idle) i;
+    trees = trees-finished t s b i;
   }
 
+  -- ---- the signals of an EXIT
+
+  grown-shift : (x : Tree) (s : Machine) → grown (shiftTree d x) (shiftMachine d s) ≡ shiftMachine d (grown x s)
+  grown-shift x s = rw (map-append (shiftTree d) (s .trees)) refl
+
+  admit-shift : (g : Signal) (s : Machine) → SignalBelow n g
+      → admit R′ (shiftSignal d g) (shiftMachine d s) ≡ shiftMachine d (admit R g s)
+  admit-shift g s h = rw (admits-shift (s .trees) g h, home-shift g h) (case (admits R (s .trees) g))
+    where
+      case : (c : Bool) → cond c (grown (shiftTree d (founded R g)) (shiftMachine d s)) (shiftMachine d s)
+          ≡ shiftMachine d (cond c (grown (founded R g) s) s)
+      case true = grown-shift (founded R g) s
+      case false = refl
+
+  admitted-shift : (gs : List Signal) (s : Machine) → Each (SignalBelow n) gs
+      → admitted R′ (map (shiftSignal d) gs) (shiftMachine d s) ≡ shiftMachine d (admitted R gs s)
+  unfolding admitted
+  admitted-shift [] s h = refl
+  admitted-shift (g ∷ gs) s h =
+      ap (admitted R′ (map (shiftSignal d) gs)) (admit-shift g s (h .0)) ∙ admitted-shift gs (admit R g s) (h .1)
+
+  lost-shift : (gs : List Signal) (s : Machine) → Each (SignalBelow n) gs
+      → lost R′ (map (shiftSignal d) gs) (shiftMachine d s) ≡ lost R gs s
+  unfolding lost
+  lost-shift [] s h = refl
+  lost-shift (g ∷ gs) s h = rw (admit-shift g s (h .0), admits-shift (s .trees) g (h .0), lost-shift gs (admit R g s) (h .1)) refl
+
+  -- ---- the whole
+
+  carry-shift : (s : Machine) (q : Plan) → Below n s → PlanBelow n q
+      → carry R′ (shiftMachine d s) (shiftPlan d q) ≡ shiftReply d (carry R s q)
+  unfolding carry
+  carry-shift s (stay a) b h = refl
+  carry-shift s (grow x) b h = λ i. record { state = grown-shift x s i; answer = Taken }
+  carry-shift s (move t m) b h =
+      rw (blocked-shift t (s .threads) (m .want)) (attempt-shift t m s (blocked R t (s .threads) (m .want)))
+  carry-shift s (finish t a) b h = λ i. record { state = finished-shift t s b i; answer = a }
+  carry-shift s (leave t gs) b h =
+      rw (finished-shift t s b)
+      (λ i. record { state = admitted-shift gs (finished R t s) h i; answer = Exited (lost-shift gs (finished R t s) h i) })
+
   -- THE SAME ANSWER, AND THE SAME STATE BUT FOR THE SHIFT
-  pub react-shift : (s : Machine) (e : Event) → Below n s → EventBelow n e
+  pub react-shift : Releasing R → (s : Machine) (e : Event) → Below n s → EventBelow n e
       → react R′ (shiftMachine d s) (shiftEvent d e) ≡ shiftReply d (react R s e)
   unfolding react
-  react-shift s e b h = ap (carry R′ (shiftMachine d s)) (plan-shift s e b h) ∙ carry-shift s (plan R s e) b
+  react-shift free s e b h =
+      ap (carry R′ (shiftMachine d s)) (plan-shift s e b h) ∙ carry-shift s (plan R s e) b (plan-below n R free s e b)

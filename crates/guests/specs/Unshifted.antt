@@ -20,6 +20,7 @@ thread-same (running locks j) = λ i. running locks (record {
   label = add-zero (j .label) i;
   returns = map-same (λ l. l + 0) add-zero (j .returns) i;
   registers = j .registers;
+  held = map-same (shiftSignal 0) signal-same (j .held) i;
 })
 
 tree-same : (x : Tree) → shiftTree 0 x ≡ x

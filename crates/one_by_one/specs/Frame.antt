@@ -87,7 +87,7 @@ module _ (R : Rules) where
     cells = λ j e. refl;
   }
 
-  -- the same of the signals of an EXIT, in the machine that it left
+  -- a machine that looks the same to thread t still does with the trees that an EXIT founds
   pub same-admitted : (s z : Machine) (t : ℕ) (gs : List Signal) (p : List Signal) → first t (s .trees) ≡ some p → Same t s z
       → Same t s (admitted R gs z)
   same-admitted s z t gs p f =

@@ -3,7 +3,7 @@
 -- `other-threads-stay`, `words-of-other-blocks-stay` and `an-arrival-changes-the-end` of Untouched; `trees-keep-their-places` and
 -- `queues-of-others-stay` of Places. And a Run without events: `no-events-return`, `no-events-state` and `no-events-answers` of NoEvents.
 
--- the law that the rules of a checked image keep, and what follows for every machine that events make of a fresh one
+-- the laws that the rules of a checked image keep, and what follows for every machine that events make of a fresh one
 pub mod Laws
 pub mod Blocks
 pub mod CheckedRules
