@@ -12,27 +12,39 @@ use trees::list::append_tree;
 use trees::list::room;
 ghost use mathlib.Core.Path.{_≡_};
 ghost use Prim.Native.Nat.{_<_};
-ghost use lib.ListN.{length};
-ghost use Rattle.rules.specs.Sizes.{threadCount};
-ghost use Rattle.rules.specs.Check.{Checked};
-ghost use Rattle.rules.specs.Encoding.{machineFrom};
+ghost use lib.ListN.{length, getD};
+ghost use Rattle.rules.specs.Encoding.{noSignal, machineFrom};
 ghost use Rattle.rules.specs.Statements.{statementOf};
-ghost use Rattle.rules.specs.Steps.{rulesBy, admitted, lost};
+ghost use Rattle.rules.specs.Steps.{rulesBy, admit, admitted, lost};
 ghost use Rattle.rules.specs.declared.statement.Statement.the-variants.{Exit};
-ghost use Rattle.fields.specs.Each.{Each};
-ghost use Rattle.encoding.specs.Encoded.{Canonical, Encodes};
-ghost use Rattle.soundness.specs.Sound.{HeldIn};
+ghost use Rattle.encoding.specs.Encoded.{Encodes};
 ghost use Rattle.held_signals.specs.Held.{heldAt};
 ghost use Rattle.step_ready.specs.Ready.{Stepped};
 ghost use Rattle.step_ready.specs.At.{At};
+ghost use Rattle.exiting.specs.Founding.{Held, missing};
 
-// Each of the signals that thread t's job holds, in order, becomes a tree at the list's end, on its block's thread, if there is room
-// then. The others are lost: how many.
+// Signal i of those that thread t's job holds becomes a tree at the list's end, on its block's thread, if there is room. How many are
+// lost: 0, or 1 where there is none.
+fn found_tree(image: &[u8], table: &[u8], state: &mut [u8], t: Thread, i: usize) -> u8
+    requires { ⌜ Held (now image) (now table) (now state) (t .0) × (i < length (heldAt (machineFrom (now state)) (t .0))) ⌝ }
+    ensures { λ n. ⌜ n ≡ missing (now (image .entry)) (now (table .entry)) (machineFrom (now (state .entry)))
+        (getD (heldAt (machineFrom (now (state .entry))) (t .0)) i noSignal) ⌝ }
+    ensures { λ _. ⌜ Encodes (now (state .exit)) (admit (rulesBy (now (image .entry)) (now (table .entry)))
+        (getD (heldAt (machineFrom (now (state .entry))) (t .0)) i noSignal) (machineFrom (now (state .entry)))) ⌝ }
+{
+    let g = held_signal(state, t, i);
+    let to = thread_at(table, block_at(image, g.label));
+    if room(state, to) {
+        append_tree(state, to, g);
+        return 0;
+    }
+    1
+}
+
+// The same of all of them, in order.
 fn found_trees(image: &[u8], table: &[u8], state: &mut [u8], t: Thread, count: usize) -> u8
-    requires { ⌜ Checked (now image) (now table) × Canonical (now state) × (t .0 < threadCount)
-        × (count ≡ length (heldAt (machineFrom (now state)) (t .0)))
-        × Each (HeldIn (now image) (now table)) (heldAt (machineFrom (now state)) (t .0)) ⌝ }
-    ensures { λ r. ⌜ r ≡ lost (rulesBy (now (image .entry)) (now (table .entry)))
+    requires { ⌜ Held (now image) (now table) (now state) (t .0) × (count ≡ length (heldAt (machineFrom (now state)) (t .0))) ⌝ }
+    ensures { λ n. ⌜ n ≡ lost (rulesBy (now (image .entry)) (now (table .entry)))
         (heldAt (machineFrom (now (state .entry))) (t .0)) (machineFrom (now (state .entry))) ⌝ }
     ensures { λ _. ⌜ Encodes (now (state .exit)) (admitted (rulesBy (now (image .entry)) (now (table .entry)))
         (heldAt (machineFrom (now (state .entry))) (t .0)) (machineFrom (now (state .entry)))) ⌝ }
@@ -40,13 +52,7 @@ fn found_trees(image: &[u8], table: &[u8], state: &mut [u8], t: Thread, count: u
     let mut missed = 0u8;
     let mut i = 0;
     while i < count {
-        let g = held_signal(state, t, i);
-        let to = thread_at(table, block_at(image, g.label));
-        if room(state, to) {
-            append_tree(state, to, g);
-        } else {
-            missed += 1;
-        }
+        missed += found_tree(image, table, state, t, i);
         i += 1;
     }
     missed

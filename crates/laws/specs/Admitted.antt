@@ -5,7 +5,7 @@ use mathlib.Core.List.{List, [], _∷_, _++_, append-nil, append-assoc, List·Me
 use Prim.Native.Nat.{ℕ, _+_}
 use native.Mathlib.Omega.{arith}
 use lib.ListN.{length, length-append}
-use Rattle.rules.specs.Machine.{Signal, Tree, Machine, treeThreads}
+use Rattle.rules.specs.Machine.{Signal, Tree, ThreadState, Machine, withThread, treeThreads}
 use Rattle.rules.specs.Steps.{Rules, grown, home, founded, admits, admit, admitted, lost}
 
 module _ (R : Rules) where
@@ -37,6 +37,26 @@ module _ (R : Rules) where
 
   pub admitted-threads : (gs : List Signal) (s : Machine) → admitted R gs s .threads ≡ s .threads
   admitted-threads gs s = admitted-keeps (λ (z : Machine). z .threads ≡ s .threads) gs (λ g m z e h. h) s refl
+
+  -- what a thread's state is does not matter to them
+  module _ (t : ℕ) (w : ThreadState) where
+    admit-thread : (g : Signal) (s : Machine) → admit R g (withThread s t w) ≡ withThread (admit R g s) t w
+    admit-thread g s = case (admits R (s .trees) g)
+      where
+        case : (b : Bool) → cond b (grown (founded R g) (withThread s t w)) (withThread s t w)
+            ≡ withThread (cond b (grown (founded R g) s) s) t w
+        case true = refl
+        case false = refl
+
+    pub admitted-thread : (gs : List Signal) (s : Machine) → admitted R gs (withThread s t w) ≡ withThread (admitted R gs s) t w
+    unfolding admitted
+    admitted-thread [] s = refl
+    admitted-thread (g ∷ gs) s = ap (admitted R gs) (admit-thread g s) ∙ admitted-thread gs (admit R g s)
+
+    pub lost-thread : (gs : List Signal) (s : Machine) → lost R gs (withThread s t w) ≡ lost R gs s
+    unfolding lost
+    lost-thread [] s = refl
+    lost-thread (g ∷ gs) s = ap (λ n. cond (admits R (s .trees) g) 0 1 + n) (ap (lost R gs) (admit-thread g s) ∙ lost-thread gs (admit R g s))
 
   -- the trees keep their places, and behind them comes one for each signal that is not lost
   pub record Founded (gs : List Signal) (s : Machine) : Type 0 where

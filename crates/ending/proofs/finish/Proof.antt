@@ -9,7 +9,7 @@ clear-thread-requires : tie.Need-clear-thread-requires
 clear-thread-requires c κs =
     let s = c .before .before .before .before .before .before .before .before in
     let k = c .before .before .before .settle .ensures in
-    (encoded-canonical _ _ k, s .pre .1, s .pre .2 .0, s .pre .2 .1, rw (encoded-machine _ _ k) (s .pre .2 .2))
+    (encoded-canonical _ _ k, s .pre .1, (s .pre .2 .0, s .pre .2 .1, rw (encoded-machine _ _ k) (s .pre .2 .2)))
 
 returns : tie.Need-returns
 returns c =

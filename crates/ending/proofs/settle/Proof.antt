@@ -1,5 +1,7 @@
 use borrow.Author.Needs.{needs}
 use mathlib.Core.Path.{_∙_, subst}
+use Prim.Native.Nat.{_<_}
+use lib.ListN.{length}
 use Rattle.rules.specs.Machine.{Machine}
 use Rattle.rules.specs.Encoding.{machineFrom}
 use Rattle.encoding.specs.Encoded.{Encodes}
@@ -25,7 +27,7 @@ returns c =
     let e = c .before .before .end-tree in
     let t = s .args .t .0 in
     let m = machineFrom (s .args .state .now) in
-    let l = rw (i .ensures) (tree-inside (s .pre .0) t (s .pre .2)) in
+    let l : i .result < length (m .trees) = rw (i .ensures) (tree-inside (s .pre .0) t (s .pre .2)) in
     let f = e .ensures .1 t (i .ensures)
     ∙ settled-is (s .args .image .now) (s .args .table .now) m t (to .result .0) (i .result) (i .ensures) l (to .ensures) in
     subst (λ (q : Machine). Encodes (e .last .0) q) f (e .ensures .0)

@@ -1,32 +1,61 @@
 use borrow.Author.Needs.{needs}
-use mathlib.Core.Path.{refl}
-use Rattle.rules.specs.Steps.{rulesBy, finished}
+use mathlib.Core.Path.{sym, ap, _∙_, subst}
+use mathlib.Core.List.{List}
 use Rattle.rules.specs.Encoding.{machineFrom}
+use Rattle.rules.specs.Machine.{Signal}
+use Rattle.rules.specs.Steps.{rulesBy, finished, admitted, lost}
 use Rattle.rules.specs.declared.answer.Answer.the-variants.{Exited}
 use Rattle.rules.specs.declared.statement.Statement.the-variants.{Exit}
-use Rattle.threads.specs.Threads.{jobOf}
+use Rattle.fields.specs.Each.{Each}
+use Rattle.encoding.specs.Encoded.{encoded-canonical}
+use Rattle.soundness.specs.Sound.{HeldIn}
+use Rattle.held_signals.specs.Held.{heldAt}
 use Rattle.step_laws.specs.Statements.{leaves}
 use Rattle.step_ready.specs.Ready.{done}
 use Rattle.step_ready.specs.At.{tree, at-busy, statement-here}
-use Rattle.ending.proofs.leave.Statement.{statement}
-use Rattle.ending.proofs.leave.Tie as tie
+use Rattle.exiting.specs.Leaving.{count-there, still-held, still-busy, left, lost-there}
+use Rattle.exiting.proofs.leave.Statement.{statement}
+use Rattle.exiting.proofs.leave.Tie as tie
 
-finish-requires : tie.Need-finish-requires
-finish-requires c κs =
-    let h = c .before .before .before .before .before .pre .0 in
-    (h .ready, h .inside, at-busy h)
+held-count-requires : tie.Need-held-count-requires
+held-count-requires c κs = (c .before .before .before .before .before .pre .0 .ready .canonical, c .before .before .before .before .before .pre .0 .inside)
+
+settle-requires : tie.Need-settle-requires
+settle-requires c κs = (c .before .before .before .before .before .before .before .pre .0 .ready, c .before .before .before .before .before .before .before .pre .0 .inside, at-busy (c .before .before .before .before .before .before .before .pre .0))
+
+found-trees-requires : tie.Need-found-trees-requires
+found-trees-requires c κs =
+    let h = c .before .before .before .before .before .before .before .before .before .before .before .pre .0 in
+    let k = c .before .before .before .settle .ensures in
+    (still-held h k, count-there h k (c .before .before .before .before .before .held-count .ensures))
+
+clear-thread-requires : tie.Need-clear-thread-requires
+clear-thread-requires c κs =
+    let h = c .before .before .before .before .before .before .before .before .before .before .before .before .before .before .before .pre .0 in
+    let k = c .before .before .before .found-trees .ensures .1 in
+    (encoded-canonical _ _ k, h .inside, still-busy h (c .before .before .before .before .before .before .before .settle .ensures) k)
 
 returns : tie.Need-returns
 returns c =
-    let s = c .before .before .before .before .before .before .before .before in
+    let s = c .before .before .before .before .before .before .before .before .before .before .before .before .before .before .before .before .before .before in
     let a = s .args in
     let h = s .pre .0 in
     let m = machineFrom (a .state .now) in
-    done (finished (rulesBy (a .image .now) (a .table .now)) (a .t .0) m) Exited
-    (leaves (a .image .now) (a .table .now) m (a .t .0) (a .w .locks) (jobOf (a .w)) (tree h .0) (h .runs) (tree h .1)
-    (statement-here h Exit (s .pre .1)))
-    refl
-    (c .before .before .finish .ensures)
+    let R = rulesBy (a .image .now) (a .table .now) in
+    let k = c .before .before .before .before .before .before .before .before .before .before .settle .ensures in
+    let f = c .before .before .before .before .before .before .found-trees .ensures in
+    done (admitted R (heldAt m (a .t .0)) (finished R (a .t .0) m)) (Exited (lost R (heldAt m (a .t .0)) (finished R (a .t .0) m)))
+    (leaves (a .image .now) (a .table .now) m (a .t .0) (a .w .locks) _ (tree h .0) (h .runs) (tree h .1) (statement-here h Exit (s .pre .1)))
+    (ap Exited (f .0 ∙ lost-there h k))
+    (left h k (f .1) (c .before .before .clear-thread .ensures))
 
 pub leave-spec : {M : Type 1} → statement M
-leave-spec = tie.close (tie.spec finish-requires (λ c. search needs) returns)
+leave-spec =
+    tie.close
+    (tie.spec
+    held-count-requires
+    settle-requires
+    found-trees-requires
+    clear-thread-requires
+    (λ c. search needs)
+    returns)

@@ -1,0 +1,3 @@
+-- The signals that a job held, admitted one after the other.
+pub mod Founding
+pub mod Leaving
