@@ -49,13 +49,14 @@ module _ (image : List ℕ) (external : Bool) where
   good-signals ok h n place b =
       let k = getD b place 0 in
       let z = isZeros (part b (suc place + signalSize * k) (signalSize * (n - k))) in
-      let entries : every ok (signalsFrom place b)
-      ≡ allFrom (λ j. entryGood image external (num16 (drop (suc place + signalSize * j) b))) 0 k =
+      let entry-at : ℕ → Bool = λ j. entryGood image external (num16 (drop (suc place + signalSize * j) b)) in
+      let entries : every ok (signalsFrom place b) ≡ allFrom entry-at 0 k =
       rw add-zero at (every-chunk signalFrom signalSize ok b (suc place) 0 k)
-      ∙ all-same (λ j. ok (signalFrom (drop (suc place + signalSize * j) b))) _ 0 k (λ j p q. h _) in
-      let both : allFrom (signalAtGood image external place b) 0 k ≡ (allFrom (signalAtTidy place b) 0 k && every ok (signalsFrom place b)) =
-      all-both (signalAtTidy place b) (λ j. entryGood image external (num16 (drop (suc place + signalSize * j) b))) 0 k ∙ rw (← entries) in
-      rw both (go (leb k n) (allFrom (signalAtTidy place b) 0 k) z (every ok (signalsFrom place b)))
+      ∙ all-same (λ j. ok (signalFrom (drop (suc place + signalSize * j) b))) entry-at 0 k (λ j p q. h _) in
+      let tidy = allFrom (signalAtTidy place b) 0 k in
+      let both : allFrom (signalAtGood image external place b) 0 k ≡ (tidy && every ok (signalsFrom place b)) =
+      all-both (signalAtTidy place b) entry-at 0 k ∙ rw (← entries) in
+      rw both (go (leb k n) tidy z (every ok (signalsFrom place b)))
     where
       go : (l a z p : Bool) → (l && a && z && p) ≡ (l && (z && (a && p)))
       go false a z p = refl
