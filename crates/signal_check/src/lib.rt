@@ -35,7 +35,7 @@ pub fn signal_tidy(s: &[u8], at: usize) -> bool
     )
 }
 
-// A label below n of entry 2, or of entry 3 too where `external`.
+// A tidy signal, with a label below n of entry 2, or of entry 3 too where `external`.
 pub fn signal_good(image: &[u8], n: usize, s: &[u8], at: usize, external: bool) -> bool
     requires { ⌜ (n ≡ labels (now image)) × (at + signalSize ≤ length (now s)) ⌝ }
     ensures { λ r. ⌜ r ≡ signalGood (now (image .entry)) external (drop at (now (s .entry))) ⌝ }
@@ -48,7 +48,7 @@ pub fn signal_good(image: &[u8], n: usize, s: &[u8], at: usize, external: bool) 
     signal_tidy(s, at) & ((entry == BUFFERED) | (external & (entry == EXTERNAL)))
 }
 
-// Up to `most` signals, whose count stands before them.
+// Up to `most` such signals behind their count, and zeros in the place of others.
 pub fn signals_good(
     image: &[u8],
     n: usize,
