@@ -15,7 +15,7 @@ use rules::layout::EVENT_THREAD_PLACE;
 use rules::layout::SIGNAL_SIZE;
 use rules::sorts::Thread;
 use rules::sorts::label_of;
-use tree_check::signals::signal_tidy;
+use signal_check::signal_tidy;
 ghost use mathlib.Core.Path.{_≡_};
 ghost use Prim.Native.Nat.{_+_, _*_, _≤_};
 ghost use lib.ListN.{length, drop};

@@ -10,7 +10,7 @@ use Rattle.rules.specs.Sizes.{wordTotal, threadCount, treeCount, wordsSize, thr
 use Rattle.rules.specs.Bytes.{num16, le16, part, blocks, pad}
 use Rattle.rules.specs.Machine as law
 use Rattle.rules.specs.Machine.{idle, fresh}
-use Rattle.rules.specs.Encoding.{threadRaw, threadBytes, treeBytes, noTree, encode, wordsFrom}
+use Rattle.rules.specs.Encoding.{threadRaw, threadBytes, signalBytes, treeBytes, noTree, encode, wordsFrom}
 use Rattle.fields.specs.Put.{put, put-then, put-whole, put-inside}
 use Rattle.fields.specs.Blocks.{pad-full, blocks-append, blocks-one, length-blocks}
 use Rattle.encoding.specs.Lengths.{length-thread}
@@ -34,7 +34,7 @@ length-threads k = length-blocks threadBytes threadSize length-thread (replicate
 
 -- the label makes an idle thread of zeros
 idle-record : put (replicate threadSize 0) 0 (le16 idleLabel) ≡ threadBytes idle
-unfolding put threadBytes threadRaw blocks pad
+unfolding put threadBytes threadRaw signalBytes blocks pad
 idle-record = refl
 
 -- the words, k idle threads, and zeros, n bytes after the words in all

@@ -16,7 +16,7 @@ use rules::sorts::Thread;
 use rules::sorts::label_of;
 use rules::sorts::thread_number;
 use rules::sorts::thread_of;
-use tree_check::signals::tree_good;
+use tree_check::tree_good;
 ghost use mathlib.Core.Path.{_≡_};
 ghost use mathlib.Core.List.{map};
 ghost use Prim.Native.Nat.{_+_, _<_, _≤_};

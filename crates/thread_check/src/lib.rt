@@ -1,4 +1,5 @@
-// The labels of a running thread: below n, the lock of the block held, the block CMX or the thread's own.
+// The labels of a running thread: below n, the lock of the block held, the block CMX or the thread's own. The signals that it holds have
+// entry 2.
 use block_table::kind_at;
 use block_table::lock_at;
 use block_table::thread_at;
@@ -10,6 +11,7 @@ use image::records::index_of;
 use lock_sets::held::number_held;
 use register_check::running_tidy;
 use rules::codes::CMX;
+use rules::layout::HELD_COUNT_PLACE;
 use rules::layout::LOCKS_PLACE;
 use rules::layout::RETURN_COUNT_PLACE;
 use rules::layout::RETURNS_PLACE;
@@ -22,6 +24,7 @@ use rules::sorts::label_of;
 use rules::sorts::lock_number;
 use rules::sorts::same_thread;
 use rules::sorts::thread_of;
+use signal_check::signals_good;
 ghost use mathlib.Core.Path.{_≡_};
 ghost use Prim.Native.Nat.{_+_, _<_, _≤_};
 ghost use lib.ListN.{length, getD, drop};
@@ -85,6 +88,7 @@ pub fn thread_good(image: &[u8], n: usize, table: &[u8], t: Thread, s: &[u8], at
         return false;
     }
     places_ok(image, n, table, t, s, at)
+        & signals_good(image, n, s, at + HELD_COUNT_PLACE, Thread::HELD, false)
 }
 
 pub fn threads_good(image: &[u8], n: usize, table: &[u8], state: &[u8]) -> bool

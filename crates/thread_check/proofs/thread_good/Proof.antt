@@ -11,8 +11,8 @@ use Rattle.thread_check.proofs.thread_good.Tie as tie
 returns : tie.Need-returns
 returns c =
     let a = c .before .before .before .before .before .before .args in
-    c .all-zero .ensures ∙ sym (thread-idle (now (a .image)) (now (a .table)) (a .t .0) (now (a .s)) (a .at)
-    (sym (c .before .before .get16 .ensures) ∙ c .before .if1 .taken))
+    rw (c .all-zero .ensures) (sym (thread-idle (now (a .image)) (now (a .table)) (a .t .0) (now (a .s)) (a .at)
+    (sym (c .before .before .get16 .ensures) ∙ c .before .if1 .taken)))
 
 returns-2 : tie.Need-returns-2
 returns-2 c =
@@ -37,12 +37,13 @@ places-ok-requires c κs =
 
 returns-4 : tie.Need-returns-4
 returns-4 c =
-    let a = c .before .before .before .before .before .before .before .before .before .before .before .args in
-    c .places-ok .ensures
-    ∙ sym (thread-runs (now (a .image)) (now (a .table)) (a .t .0) (now (a .s)) (a .at)
-    (λ e. c .before .before .before .before .before .before .if1 .left
-    (c .before .before .before .before .before .before .before .get16 .ensures ∙ e)) (sym (c .before .before .running-tidy .ensures)
-    ∙ not-false _ (c .before .if3 .left)))
+    let d = c .before in
+    let a = d .before .before .before .before .before .before .before .before .before .before .before .args in
+    rw (d .places-ok .ensures, c .signals-good .ensures)
+    (sym (thread-runs (now (a .image)) (now (a .table)) (a .t .0) (now (a .s)) (a .at)
+    (λ e. d .before .before .before .before .before .before .if1 .left
+    (d .before .before .before .before .before .before .before .get16 .ensures ∙ e)) (sym (d .before .before .running-tidy .ensures)
+    ∙ not-false _ (d .before .if3 .left))))
 
 pub thread-good-spec : {M : Type 1} → statement M
 thread-good-spec =
@@ -60,4 +61,6 @@ thread-good-spec =
     (λ c κs. search needs)
     returns-3
     places-ok-requires
+    (λ c. search needs)
+    (λ c κs. search needs)
     returns-4)

@@ -1,9 +1,9 @@
 use mathlib.Core.Path.{sym, _∙_}
 use borrow.Author.Needs.{needs}
 use denote.Ref.{now}
-use Rattle.tree_check.specs.Trees.{signal-many, signal-few}
-use Rattle.tree_check.proofs.signals.signal_tidy.Statement.{statement}
-use Rattle.tree_check.proofs.signals.signal_tidy.Tie as tie
+use Rattle.signal_check.specs.Signals.{signal-many, signal-few}
+use Rattle.signal_check.proofs.signal_tidy.Statement.{statement}
+use Rattle.signal_check.proofs.signal_tidy.Tie as tie
 
 returns : tie.Need-returns
 returns c =
