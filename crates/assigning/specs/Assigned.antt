@@ -27,7 +27,7 @@ use Rattle.operands.specs.Legal.{Fits}
 use Rattle.operands.specs.Cells.{cellsOf}
 use Rattle.operands.specs.Statements.{Lands, assigns, first-lands, second-fits, left-fits, right-fits}
 use Rattle.step_ready.specs.Ready.{Stepped, Ended, done}
-use Rattle.step_ready.specs.At.{At, tree, statement-here, reads-here, slots-assigned}
+use Rattle.step_ready.specs.At.{At, tree, statement-here, reads-here, slots-assigned, jobAt}
 use Rattle.assigning.specs.Destinations.{registersAfter, landed}
 
 -- a running thread runs its job
@@ -76,13 +76,13 @@ module _ {image table b : List ℕ} {t : ℕ} {w : ThreadState} {r : List ℕ} (
           → Ended image table b t b′ → Stepped image table b t b′ z
       uncomputed {reason} c f k =
           done (finished (rulesBy image table) t (machineFrom b)) (Trapped reason)
-          (law.uncomputed image table (machineFrom b) t (w .locks) (jobOf w) (tree h .0) (h .runs) (tree h .1) (x ∷ y ∷ []) a
+          (law.uncomputed image table (machineFrom b) t (w .locks) (jobAt b t w) (tree h .0) (h .runs) (tree h .1) (x ∷ y ∷ []) a
           (statement-here h (Assign a) e) (reads-here h (Assign a) g) reason c) f k
 
       pub assigned-stepped : (u v : ℕ) {b′ : List ℕ} → compute (a .operation) x y ≡ got (record { first = u; second = v })
           → Encodes b′ (landed (machineFrom b) t w r a u v) → Stepped image table b t b′ Moved
       assigned-stepped u v {b′} c k =
           done (landed (machineFrom b) t w (recordAt image (w .label .0)) a u v) Moved
-          (law.assigns image table (machineFrom b) t (w .locks) (jobOf w) (tree h .0) (h .runs) (tree h .1) (x ∷ y ∷ []) a
+          (law.assigns image table (machineFrom b) t (w .locks) (jobAt b t w) (tree h .0) (h .runs) (tree h .1) (x ∷ y ∷ []) a
           (statement-here h (Assign a) e) (reads-here h (Assign a) g) (record { first = u; second = v }) c) refl
           (subst (λ (q : List ℕ). Encodes b′ (landed (machineFrom b) t w q a u v)) (h .here) k)

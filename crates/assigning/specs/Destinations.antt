@@ -6,7 +6,7 @@ use Prim.Native.Nat.{ℕ, _+_, _*_}
 use lib.ListN.{length, set, length-set}
 use Rattle.rules.specs.Sizes.{wordCount}
 use Rattle.rules.specs.Image.{blockField, labelA}
-use Rattle.rules.specs.Machine.{Machine, ThreadState, Tree, Job, running, cells, window, keep, withThread, job}
+use Rattle.rules.specs.Machine.{Machine, ThreadState, Tree, Job, running, cells, window, keep, withThread, job, withJob, withHeld, heldOf, threadAt}
 use Rattle.rules.specs.Encoding.{machineFrom}
 use Rattle.rules.specs.Effects.{Cells, store, assigned}
 use Rattle.rules.specs.declared.statement.Assignment.{Assignment}
@@ -87,7 +87,7 @@ cellsAfter s w r a u v =
 abbrev pub landed : Machine → ℕ → code.ThreadState → List ℕ → Assignment → ℕ → ℕ → Machine
 landed s t w r a u v = record {
   words = keep (blockField r) (cellsAfter s w r a u v .words) (s .words);
-  threads = set (s .threads) t (running (w .locks) (job (labelA r) (returnsOf w) (cellsAfter s w r a u v .registers)));
+  threads = withJob s t (w .locks) (job (labelA r) (returnsOf w) (cellsAfter s w r a u v .registers)) .threads;
   trees = s .trees;
 }
 
@@ -108,18 +108,19 @@ module _ (s : Machine) (t : ℕ) (w : code.ThreadState) (r : List ℕ) (a : Assi
   block = blockField r
 
   abbrev afterBoth : ℕ → Job → ThreadState
-  afterBoth locks j = running locks (job (j .label) (j .returns) (registersAfter (a .second) v (j .registers)))
+  afterBoth locks j =
+      running locks (withHeld (heldOf (threadAt s t)) (job (j .label) (j .returns) (registersAfter (a .second) v (j .registers))))
 
   abbrev machineWith : Cells → Machine
   machineWith c = record {
     words = keep block (c .words) (s .words);
-    threads = set (s .threads) t (running (w .locks) (job (labelA r) (returnsOf w) (c .registers)));
+    threads = withJob s t (w .locks) (job (labelA r) (returnsOf w) (c .registers)) .threads;
     trees = s .trees;
   }
 
   pub both-stored : (x : code.ThreadState) {b₁ b₂ b₃ : List ℕ} → Fits (a .first) → Fits (a .second)
       → Runs x (w .locks) (job (labelA r) (returnsOf w) (registersAfter (a .first) u (registersOf w)))
-      → Encodes b₁ (withThread s t (running (x .locks) (job (x .label .0) (returnsOf x) (registersAfter (a .second) v (registersOf x)))))
+      → Encodes b₁ (withJob s t (x .locks) (job (x .label .0) (returnsOf x) (registersAfter (a .second) v (registersOf x))))
       → Encodes b₂ (withWordAt (machineFrom b₁) block (a .first) u) → Encodes b₃ (withWordAt (machineFrom b₂) block (a .second) v)
       → Encodes b₃ (landed s t w r a u v)
   both-stored x {b₁} {b₂} {b₃} h k q e₁ e₂ e₃ =

@@ -4,7 +4,7 @@ use mathlib.Core.List.{List}
 use Prim.Native.Nat.{ℕ}
 use Rattle.rules.specs.Image.{recordAt, labelA}
 use Rattle.rules.specs.Statements.{statementOf}
-use Rattle.rules.specs.Machine.{Machine, running, withThread, job}
+use Rattle.rules.specs.Machine.{Machine, running, withThread, job, withJob}
 use Rattle.rules.specs.Encoding.{machineFrom}
 use Rattle.rules.specs.declared.answer.Answer.{Answer}
 use Rattle.rules.specs.declared.answer.Answer.the-variants.{Moved}
@@ -14,7 +14,7 @@ use Rattle.step_laws.specs.Statements as law
 use Rattle.threads.specs.Threads.{jobOf, returnsOf, registersOf}
 use Rattle.threads.specs.declared.thread.ThreadState.{ThreadState}
 use Rattle.step_ready.specs.Ready.{Stepped, done}
-use Rattle.step_ready.specs.At.{At, tree, statement-here}
+use Rattle.step_ready.specs.At.{At, tree, statement-here, jobAt}
 
 module _ {image table b : List ℕ} {t : ℕ} {w : ThreadState} {r : List ℕ} (h : At image table b t w r) where
   abbrev m : Machine
@@ -25,11 +25,11 @@ module _ {image table b : List ℕ} {t : ℕ} {w : ThreadState} {r : List ℕ} (
 
   -- the thread at a label, with its registers
   abbrev pub movedTo : ℕ → Machine
-  movedTo l = withThread m t (running (w .locks) (job l (returnsOf w) (registersOf w)))
+  movedTo l = withJob m t (w .locks) (job l (returnsOf w) (registersOf w))
 
   pub skipped : {l : ℕ} {b′ : List ℕ} {a : Answer} → statementOf r ≡ Skip → l ≡ labelA r → a ≡ Moved → Encodes b′ (movedTo l)
       → Stepped image table b t b′ a
   skipped e q f k =
       done (movedTo (labelA here)) Moved
-      (law.skips image table m t (w .locks) (jobOf w) (tree h .0) (h .runs) (tree h .1) (statement-here h Skip e)) f
+      (law.skips image table m t (w .locks) (jobAt b t w) (tree h .0) (h .runs) (tree h .1) (statement-here h Skip e)) f
       (rw (q ∙ ap labelA (h .here)) at k)

@@ -8,7 +8,7 @@ use threads::thread::ThreadState;
 ghost use mathlib.Core.Path.{_≡_};
 ghost use Prim.Native.Nat.{_<_};
 ghost use Rattle.rules.specs.Sizes.{threadCount, idleLabel};
-ghost use Rattle.rules.specs.Machine.{running, withThread, job};
+ghost use Rattle.rules.specs.Machine.{running, withThread, job, withJob};
 ghost use Rattle.rules.specs.Encoding.{machineFrom};
 ghost use Rattle.rules.specs.Statements.{statementOf};
 ghost use Rattle.rules.specs.declared.statement.Statement.the-variants.{Skip};
@@ -21,8 +21,7 @@ ghost use Rattle.step_ready.specs.At.{At};
 pub fn go_on(state: &mut [u8], t: Thread, w: ThreadState, to: Label) -> Answer
     requires { ⌜ Canonical (now state) × (t .0 < threadCount) × Running w × (to .0 < idleLabel) ⌝ }
     ensures { λ a. ⌜ a ≡ Answer.Moved ⌝ }
-    ensures { λ _. ⌜ Encodes (now (state .exit)) (withThread (machineFrom (now (state .entry))) (t .0)
-        (running (w .locks) (job (to .0) (returnsOf w) (registersOf w)))) ⌝ }
+    ensures { λ _. ⌜ Encodes (now (state .exit)) (withJob (machineFrom (now (state .entry))) (t .0) (w .locks) (job (to .0) (returnsOf w) (registersOf w))) ⌝ }
 {
     write_thread(state, t, w.move_on(to));
     Answer::Moved

@@ -3,12 +3,16 @@ use mathlib.Core.Path.{_≡_}
 use mathlib.Core.List.{List}
 use Prim.Native.Nat.{ℕ, _≤_}
 use mathlib.Core.Option.{Option, none, some}
-use lib.ListN.{length, take, drop, getD}
+use lib.ListN.{length, take, drop, getD, replicate}
 use Rattle.rules.specs.Sizes.{operandCount}
-use Rattle.rules.specs.Effects.{Got, trap, got, Cells, present, read}
+use Rattle.rules.specs.Image.{operands}
+use Rattle.rules.specs.Statements.{dataOf}
+use Rattle.rules.specs.Effects.{Got, trap, got, Cells, present, read, readAll}
 use Rattle.rules.specs.declared.statement.Operand.{Operand}
 use Rattle.rules.specs.declared.statement.Operand.the-variants.{Number, Register, Word}
 use Rattle.laws.specs.Logic.{never}
+use Rattle.threads.specs.declared.thread.ThreadState.{ThreadState}
+use Rattle.operands.specs.Cells.{cellsOf}
 use Rattle.operands.specs.declared.Reading.{Reading}
 use Rattle.operands.specs.declared.Reading.the-variants.{Value, Trap}
 
@@ -24,6 +28,10 @@ pub record Reads (g : Got (List ℕ)) (reason n : ℕ) (before vs : List ℕ) : 
   pub sized : length vs ≡ operandCount
   -- behind them stands what stood there before
   pub rest : reason ≡ 0 → drop n vs ≡ drop n before
+
+-- all data of a record could be read, and stand before zeros
+abbrev pub Given : List ℕ → ThreadState → List ℕ → List ℕ → Type 0
+Given b w r values = Reads (readAll (cellsOf b w r) (dataOf r)) 0 (operands r) (replicate operandCount 0) values
 
 pub reading-value : (g : Got ℕ) (v : ℕ) → readingOf g ≡ Value v → g ≡ got v
 reading-value (trap r) v e = never (cc)

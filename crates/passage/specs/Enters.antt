@@ -16,7 +16,7 @@ use Rattle.rules.specs.Codes.{returnsFullCode, foreignFdBlockCode}
 use Rattle.rules.specs.Image.{labels, recordAt, labelA, labelB, operands, Row, rowAt}
 use Rattle.rules.specs.Statements.{statementOf, dataOf}
 use Rattle.rules.specs.Effects.{readAll}
-use Rattle.rules.specs.Machine.{Signal, Job, Machine, idle, running, threadAt, first, fill, withThread, job}
+use Rattle.rules.specs.Machine.{Signal, Job, Machine, idle, running, threadAt, first, fill, withThread, job, withJob}
 use Rattle.rules.specs.Encoding.{machineFrom}
 use Rattle.rules.specs.Events.{step}
 use Rattle.rules.specs.Steps.{Reply, rulesBy, blockAt, alien, held, finished, react}
@@ -34,7 +34,7 @@ use Rattle.state.specs.Locks.{held-by-other}
 use Rattle.operands.specs.Readings.{Reads}
 use Rattle.operands.specs.Cells.{cellsOf}
 use Rattle.operands.specs.Gathered.{zeros-stay}
-use Rattle.step_ready.specs.At.{At, tree, label-A, depth-is}
+use Rattle.step_ready.specs.At.{At, tree, label-A, depth-is, jobAt}
 use Rattle.passage.specs.Passages.{callTrap, otherHolder, byLock, passageTo, go-clear, call-clear}
 use Rattle.passage.specs.declared.Passage.{Passage}
 use Rattle.passage.specs.declared.Passage.the-variants.{Trap, Wait, Go}
@@ -45,7 +45,7 @@ Passes image table s t locks k (Trap x) = react (rulesBy image table) s (step t)
 Passes image table s t locks k (Wait l u) =
     (react (rulesBy image table) s (step t) ≡ reply s (Waiting l)) × (u ≡ thread (holder (l .0) (set (s .threads) t idle)))
 Passes image table s t locks k (Go l) =
-    (l .0 < lockCount) × (react (rulesBy image table) s (step t) ≡ reply (withThread s t (running (bitOr locks (2 ^ l .0)) k)) Moved)
+    (l .0 < lockCount) × (react (rulesBy image table) s (step t) ≡ reply (withJob s t (bitOr locks (2 ^ l .0)) k) Moved)
 
 -- the passage of the statement in the record r, with the return labels and the values with which the thread goes in
 pub record Enters (image table b : List ℕ) (t : ℕ) (w : ThreadState) (r returns vs : List ℕ) (p : Passage) : Type 0 where
@@ -70,7 +70,7 @@ module _ (image table : List ℕ) (s : Machine) (t locks : ℕ) (k : Job) (row :
   none-before : length (s .threads) ≡ threadCount → row .lock < lockCount
       → (alien row t ≡ true → stepped ≡ reply (finished (rulesBy image table) t s) (Trapped foreignFdBlockCode))
       → (alien row t ≡ false → taken ≡ true → stepped ≡ reply s (Waiting (lock (row .lock))))
-      → (alien row t ≡ false → taken ≡ false → stepped ≡ reply (withThread s t (running (bitOr locks (2 ^ row .lock)) k)) Moved)
+      → (alien row t ≡ false → taken ≡ false → stepped ≡ reply (withJob s t (bitOr locks (2 ^ row .lock)) k) Moved)
       → Passes image table s t locks k (passageTo s row t 0)
   unfolding passageTo
   none-before sized inside f g h = case (alien row t) (ltb (otherHolder s row t) threadCount) refl (held-by-other s sized (row .lock) t)
@@ -84,7 +84,7 @@ module _ (image table : List ℕ) (s : Machine) (t locks : ℕ) (k : Job) (row :
 
 -- the record at the label of a running thread, and the data that it reads
 module _ (image table b : List ℕ) (t : ℕ) (w : ThreadState) (p : List Signal)
-    (runs : threadAt (machineFrom b) t ≡ running (w .locks) (jobOf w)) (own : first t (machineFrom b .trees) ≡ some p)
+    (runs : threadAt (machineFrom b) t ≡ running (w .locks) (jobAt b t w)) (own : first t (machineFrom b .trees) ≡ some p)
     (sized : length (machineFrom b .threads) ≡ threadCount) where
   abbrev r : List ℕ
   r = recordAt image (w .label .0)
@@ -105,11 +105,11 @@ module _ (image table b : List ℕ) (t : ℕ) (w : ThreadState) (p : List Signal
         case (yes z) =
             rw z (none-before image table (machineFrom b) t (w .locks) (job (labelA r) (returnsOf w) (fill (take n vs))) into
             sized inside
-            (send-alien image table (machineFrom b) t (w .locks) (jobOf w) p runs own (take n vs) e (g .values z))
-            (send-waits image table (machineFrom b) t (w .locks) (jobOf w) p runs own (take n vs) e (g .values z))
-            (send-enters image table (machineFrom b) t (w .locks) (jobOf w) p runs own (take n vs) e (g .values z)))
+            (send-alien image table (machineFrom b) t (w .locks) (jobAt b t w) p runs own (take n vs) e (g .values z))
+            (send-waits image table (machineFrom b) t (w .locks) (jobAt b t w) p runs own (take n vs) e (g .values z))
+            (send-enters image table (machineFrom b) t (w .locks) (jobAt b t w) p runs own (take n vs) e (g .values z)))
         case (no m) = trapped-before image table (machineFrom b) t (w .locks) _ into x m
-            (unread image table (machineFrom b) t (w .locks) (jobOf w) p runs own SendDirect x e (g .trapped m))
+            (unread image table (machineFrom b) t (w .locks) (jobAt b t w) p runs own SendDirect x e (g .trapped m))
 
     call-by : length (returnsOf w) ≡ w .depth → statementOf r ≡ Call
         → Passes image table (machineFrom b) t (w .locks) (job (labelA r) (returnsOf w ++ labelB r ∷ []) (fill (take n vs)))
@@ -122,15 +122,15 @@ module _ (image table b : List ℕ) (t : ℕ) (w : ThreadState) (p : List Signal
             (passageTo (machineFrom b) into t (cond (eqb x 0) (cond (leb returnCount (w .depth)) returnsFullCode 0) x))
         case (yes z) true f =
             rw (z, f) (trapped-before image table (machineFrom b) t (w .locks) _ into returnsFullCode (λ q. omega arith)
-            (call-deep image table (machineFrom b) t (w .locks) (jobOf w) p runs own (take n vs) e (g .values z) (rw deep f)))
+            (call-deep image table (machineFrom b) t (w .locks) (jobAt b t w) p runs own (take n vs) e (g .values z) (rw deep f)))
         case (yes z) false f =
             rw (z, f) (none-before image table (machineFrom b) t (w .locks) _ into sized inside
-            (call-alien image table (machineFrom b) t (w .locks) (jobOf w) p runs own (take n vs) e (g .values z) (rw deep f))
-            (call-waits image table (machineFrom b) t (w .locks) (jobOf w) p runs own (take n vs) e (g .values z) (rw deep f))
-            (call-enters image table (machineFrom b) t (w .locks) (jobOf w) p runs own (take n vs) e (g .values z) (rw deep f)))
+            (call-alien image table (machineFrom b) t (w .locks) (jobAt b t w) p runs own (take n vs) e (g .values z) (rw deep f))
+            (call-waits image table (machineFrom b) t (w .locks) (jobAt b t w) p runs own (take n vs) e (g .values z) (rw deep f))
+            (call-enters image table (machineFrom b) t (w .locks) (jobAt b t w) p runs own (take n vs) e (g .values z) (rw deep f)))
         case (no m) f q = rw (ne-eqb x 0 m)
             (trapped-before image table (machineFrom b) t (w .locks) _ into x m
-            (unread image table (machineFrom b) t (w .locks) (jobOf w) p runs own Call x e (g .trapped m)))
+            (unread image table (machineFrom b) t (w .locks) (jobAt b t w) p runs own Call x e (g .trapped m)))
 
 module _ {image table b : List ℕ} {t : ℕ} {w : ThreadState} {r : List ℕ} (h : At image table b t w r) where
   -- the signal of a direct SEND or a CALL is below n, and its lock is one of the 16

@@ -23,9 +23,9 @@ ghost use Rattle.rules.specs.Statements.{statementOf};
 ghost use Rattle.rules.specs.declared.statement.Statement.the-variants.{SendBuffered};
 ghost use Rattle.encoding.specs.FirstTree.{firstTree};
 ghost use Rattle.pending_signals.specs.Canon.{pendingAt};
+ghost use Rattle.operands.specs.Readings.{Given};
 ghost use Rattle.step_ready.specs.Ready.{Stepped};
 ghost use Rattle.step_ready.specs.At.{At};
-ghost use Rattle.sending.specs.Buffered.{Given};
 
 // The data have been read, and tree i, the job's own, has room.
 fn buffer(

@@ -13,7 +13,7 @@ use Rattle.rules.specs.Sorts
 use Rattle.rules.specs.Sizes.{lockCount, threadCount, idleLabel}
 use Rattle.rules.specs.Image.{rowAt}
 use Rattle.rules.specs.Machine as law
-use Rattle.rules.specs.Machine.{Signal, Tree, Machine, idle, running, threadAt, first, queue, withThread}
+use Rattle.rules.specs.Machine.{Signal, Tree, Machine, idle, running, threadAt, first, queue, withThread, withJob}
 use Rattle.rules.specs.Encoding.{noSignal, machineFrom}
 use Rattle.rules.specs.WellFormed.{homed, homedAs}
 use Rattle.rules.specs.Events.{step}
@@ -77,7 +77,7 @@ pub record CanBegin (b : List ℕ) (t : ℕ) (w : ThreadState) (i : ℕ) (l : Lo
 
 -- the thread has taken the signal and holds the lock
 abbrev taking : Machine → ℕ → ℕ → Lock → Machine
-taking s t i l = withThread s t (running (bitOr 0 (2 ^ l .0)) (begin (oldestAt s i)))
+taking s t i l = withJob s t (bitOr 0 (2 ^ l .0)) (begin (oldestAt s i))
 
 -- and the signal has left its tree
 abbrev pub begun : Machine → ℕ → ℕ → Lock → Machine
@@ -150,7 +150,7 @@ module _ {image table b : List ℕ} (h : Ready image table b) (t : ℕ) (rests :
 
     -- no other does
     pub start-running : held (l .0) (set (s .threads) t idle) ≡ false → replyTo image table b (step t) ≡ reply (begun s t i l) Started
-    start-running e = rw (k .lock) (start-runs (rulesBy image table) s t (oldestAt s i) (drop 1 (pendingAt s i)) rests first-oldest
+    start-running e = rw (k .lock, rests) (start-runs (rulesBy image table) s t (oldestAt s i) (drop 1 (pendingAt s i)) rests first-oldest
         (rw (k .lock) at e))
 
   -- by the first signal that is found

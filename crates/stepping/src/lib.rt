@@ -2,9 +2,10 @@
 use assigning::assign;
 use branching::branch;
 use decoding::statement_of;
-use ending::leave;
 use entering::call;
 use entering::send_direct;
+use exiting::leave;
+use founding::send_tree;
 use image::records::record_at;
 use onward::skip;
 use rules::answer::Answer;
@@ -43,6 +44,7 @@ fn carry_out(
         Statement::Return => give_back(image, table, state, t, w, r),
         Statement::Transfer => transfer(image, table, state, t, w, r),
         Statement::Exit => leave(image, table, state, t, w, r),
+        Statement::SendTree => send_tree(image, table, state, t, w, r),
     }
 }
 

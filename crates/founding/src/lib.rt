@@ -1,0 +1,76 @@
+// SEND .. JOBTREE: its signal is held for a new tree, and the thread goes on with its registers.
+use ending::trapped;
+use held_signals::held_count;
+use held_signals::hold;
+use image::record_fields::label_a;
+use image::record_fields::label_b;
+use image::record_fields::operand_count;
+use onward::go_on;
+use operands::read_data;
+use rules::answer::Answer;
+use rules::codes::HELD_FULL;
+use rules::sorts::Thread;
+use signal_records::Signal;
+use threads::thread::ThreadState;
+ghost use mathlib.Core.Path.{_≡_};
+ghost use Prim.Native.Nat.{_<_};
+ghost use lib.ListN.{length};
+ghost use Rattle.rules.specs.Sizes.{heldCount};
+ghost use Rattle.rules.specs.Encoding.{machineFrom};
+ghost use Rattle.rules.specs.Statements.{statementOf};
+ghost use Rattle.rules.specs.declared.statement.Statement.the-variants.{SendTree};
+ghost use Rattle.held_signals.specs.Held.{heldAt};
+ghost use Rattle.operands.specs.Readings.{Given};
+ghost use Rattle.step_ready.specs.Ready.{Stepped};
+ghost use Rattle.step_ready.specs.At.{At};
+
+// The data have been read, and the job holds fewer than four signals.
+fn hold_for_tree(
+    image: &[u8],
+    table: &[u8],
+    state: &mut [u8],
+    t: Thread,
+    w: ThreadState,
+    r: &[u8],
+    values: [u16; Thread::REGISTERS],
+) -> Answer
+    requires { ⌜ At (now image) (now table) (now state) (t .0) w (now r) × (statementOf (now r) ≡ SendTree)
+        × Given (now state) w (now r) values × (length (heldAt (machineFrom (now state)) (t .0)) < heldCount) ⌝ }
+    ensures { λ a. ⌜ Stepped (now (image .entry)) (now (table .entry)) (now (state .entry)) (t .0) (now (state .exit)) a ⌝ }
+{
+    let to = label_a(r);
+    let next = label_b(r);
+    let a = go_on(state, t, w, next);
+    hold(
+        state,
+        t,
+        Signal {
+            label: to,
+            count: operand_count(r),
+            values: values,
+        },
+    );
+    a
+}
+
+pub fn send_tree(
+    image: &[u8],
+    table: &[u8],
+    state: &mut [u8],
+    t: Thread,
+    w: ThreadState,
+    r: &[u8],
+) -> Answer
+    requires { ⌜ At (now image) (now table) (now state) (t .0) w (now r) × (statementOf (now r) ≡ SendTree) ⌝ }
+    ensures { λ a. ⌜ Stepped (now (image .entry)) (now (table .entry)) (now (state .entry)) (t .0) (now (state .exit)) a ⌝ }
+{
+    let mut values = [0u16; Thread::REGISTERS];
+    let trap = read_data(state, w, r, &mut values);
+    if trap != 0 {
+        return trapped(image, table, state, t, w, trap);
+    }
+    if Thread::HELD <= held_count(state, t) {
+        return trapped(image, table, state, t, w, HELD_FULL);
+    }
+    hold_for_tree(image, table, state, t, w, r, values)
+}
