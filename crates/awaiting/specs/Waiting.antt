@@ -74,7 +74,7 @@ waits-passage {image} {table} {b} {t} {w} {p = p} e = case _ p (e .passes)
 
 abbrev Quiet : Effect → Type 0
 Quiet (traps r) = Unit {0}
-Quiet exits = Unit {0}
+Quiet (exits gs) = Unit {0}
 Quiet (moves j ws g none) = Unit {0}
 Quiet (moves j ws g (some b)) = ⊥
 
@@ -116,26 +116,26 @@ module _ (r : List ℕ) where
   opcode-other n m = by (operationAt (opcode r) (operator r))
     where
       rows : AllLockless others
-      rows = (λ e. tt, (λ e. tt, (λ e. tt, (λ e. absurd (n e), (λ e. tt, (λ e. absurd (m e), (λ e. tt, (λ e. tt, (λ e. tt, tt)))))))))
+      rows = (λ e. tt, (λ e. tt, (λ e. tt, (λ e. absurd (n e), (λ e. tt, (λ e. absurd (m e), (λ e. tt, (λ e. tt, (λ e. tt, (λ e. tt, tt))))))))))
 
       by : (k : Option Operation) → Lockless (roleA (statementBy k r))
       by none = lockless-in others rows
       by (some k) = tt
 
-module _ (block : ℕ → ℕ) (row : ℕ → Row) (t a b : ℕ) where
-  quiet-back : (g : Going) (rs : List ℕ) → Quiet (steer block row t a b g back rs)
+module _ (block : ℕ → ℕ) (row : ℕ → Row) (t a b : ℕ) (gs : List Signal) where
+  quiet-back : (g : Going) (rs : List ℕ) → Quiet (steer block row t a b gs g back rs)
   quiet-back g [] = tt
   quiet-back g (r ∷ rs) = tt
 
   -- what leads into no other block asks for no lock
-  quiet-steer : (x y : Role) (g : Going) (n : Next) (rs : List ℕ) → Leads x y n → Lockless x → Quiet (steer block row t a b g n rs)
+  quiet-steer : (x y : Role) (g : Going) (n : Next) (rs : List ℕ) → Leads x y n → Lockless x → Quiet (steer block row t a b gs g n rs)
   quiet-steer x y g onA rs l h = tt
   quiet-steer x y g onB rs l h = tt
   quiet-steer x y g intoA rs l h = absurd (subst Lockless l h)
   quiet-steer x y g callA rs l h = absurd (subst Lockless (l .0) h)
   quiet-steer x y g back rs l h = quiet-back g rs
 
-  quiet-resolve : (x y : Role) (o : Got Outcome) (rs : List ℕ) → Refers x y o → Lockless x → Quiet (resolve block row t rs a b o)
+  quiet-resolve : (x y : Role) (o : Got Outcome) (rs : List ℕ) → Refers x y o → Lockless x → Quiet (resolve block row t rs gs a b o)
   quiet-resolve x y (trap r) rs l h = tt
   quiet-resolve x y (got ends) rs l h = tt
   quiet-resolve x y (got (goes g)) rs l h = quiet-steer x y g (g .next) rs (l .0) h
@@ -147,7 +147,7 @@ unfolding actBy
 quiet-act image table t j words pending h =
     let r : List ℕ = recordAt image (j .label) in
     let s : Statement = statementOf r in
-    quiet-resolve (blockAt image) (rowAt table) t (labelA r) (labelB r) (roleA s) (roleB s) (outcome (view j words pending) s (dataOf r))
+    quiet-resolve (blockAt image) (rowAt table) t (labelA r) (labelB r) (j .held) (roleA s) (roleB s) (outcome (view j words pending) s (dataOf r))
     (j .returns)
     (refers (view j words pending) s (dataOf r)) h
 
@@ -158,7 +158,7 @@ module _ (R : Rules) (s : Machine) (t l : ℕ) (j : Job) (p : List Signal) (runs
     where
       case : (e : Effect) → effect R s t l j p runs own ≡ e → Quiet e → Nobody ≡ waitsOf (awaits R s t)
       case (traps r) e q = by-answer R s t (traps-by R s t l j p runs own r e)
-      case exits e q = by-answer R s t (exits-by R s t l j p runs own e)
+      case (exits gs) e q = by-answer R s t (exits-by R s t l j p runs own gs e)
       case (moves k ws g none) e q = by-answer R s t (moves-by R s t l j p runs own k ws g e)
       case (moves k ws g (some b)) e q = absurd q
 

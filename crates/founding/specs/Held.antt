@@ -60,15 +60,15 @@ module _ {image table b : List ℕ} {t : ℕ} {w : ThreadState} {r : List ℕ} (
   thread-moved q = getD-set-same (m .threads) t _ idle inside
 
   -- going on leaves what is held
-  pub few-still : {b₁ : List ℕ} (q : List ℕ) → Encodes b₁ (moved q) → length (heldAt m t) < heldCount
+  pub few-still : {b₁ : List ℕ} → Encodes b₁ (moved r) → length (heldAt m t) < heldCount
       → length (heldAt (machineFrom b₁) t) < heldCount
-  few-still {b₁} q k l =
+  few-still {b₁} k l =
       let e : heldAt (machineFrom b₁) t ≡ heldAt m t =
-      ap (λ (s : Machine). heldAt s t) (encoded-machine b₁ _ k) ∙ ap heldOf (thread-moved q) in
+      ap (λ (s : Machine). heldAt s t) (encoded-machine b₁ _ k) ∙ ap heldOf (thread-moved r) in
       rw e l
 
-  pub still-busy : {b₁ : List ℕ} (q : List ℕ) → Encodes b₁ (moved q) → Busy b₁ t
-  still-busy {b₁} q k = (w .locks, _, ap (λ (s : Machine). threadAt s t) (encoded-machine b₁ _ k) ∙ thread-moved q)
+  pub still-busy : {b₁ : List ℕ} → Encodes b₁ (moved r) → Busy b₁ t
+  still-busy {b₁} k = (w .locks, _, ap (λ (s : Machine). threadAt s t) (encoded-machine b₁ _ k) ∙ thread-moved r)
 
   then-held : (q : List ℕ) → withHeldAt (moved q) t (heldAt (moved q) t ++ signal q ∷ []) ≡ holding q
   then-held q = rw (thread-moved q, set-set (m .threads) t) refl

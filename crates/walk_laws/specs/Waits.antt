@@ -33,7 +33,7 @@ module _ (R : Rules) where
   Turned s t (Waiting l) = held (l .0) (set (s .threads) t idle) ≡ true
   Turned s t Started = Unit {0}
   Turned s t Moved = Unit {0}
-  Turned s t Exited = Unit {0}
+  Turned s t (Exited n) = Unit {0}
   Turned s t (Trapped r) = Unit {0}
   Turned s t WasCut = ⊥
   Turned s t NothingToCut = ⊥
@@ -61,7 +61,7 @@ module _ (R : Rules) where
   turned-running : (s : Machine) (t b : ℕ) (p : List Signal) (e : Effect) → Turned s t (carry R s (planRunning t b p e) .answer)
   unfolding carry planRunning
   turned-running s t b p (traps r) = tt
-  turned-running s t b p exits = tt
+  turned-running s t b p (exits gs) = tt
   turned-running s t b p (moves j ws o w) = turned-move s t _ w tt
 
   pub turned : (s : Machine) (t : ℕ) → Turned s t (react R s (nextTurn s t) .answer)
@@ -141,7 +141,7 @@ module _ (R : Rules) where
       case (Waiting l) p h q = from (l .0) p h (cc)
       case Started p h q = never (cc)
       case Moved p h q = never (cc)
-      case Exited p h q = never (cc)
+      case (Exited n) p h q = never (cc)
       case (Trapped r) p h q = never (cc)
       case WasCut p h q = never (cc)
       case NothingToCut p h q = never (cc)

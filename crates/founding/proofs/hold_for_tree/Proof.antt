@@ -27,8 +27,8 @@ hold-requires c κs =
     (
       encoded-canonical _ _ (c .before .before .before .before .go-on .ensures .1),
       h .inside,
-      still-busy h (s .pre .1) (s .args .values) given _ moved,
-      few-still h (s .pre .1) (s .args .values) given _ moved (s .pre .3),
+      still-busy h (s .pre .1) (s .args .values) given moved,
+      few-still h (s .pre .1) (s .args .values) given moved (s .pre .3),
       record { few = rw n (given .few); zeros = rw n (zeros-stay given refl) },
     )
 

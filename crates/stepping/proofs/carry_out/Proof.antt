@@ -67,6 +67,13 @@ leave-requires c κs = (
       (c .before .before .before .statement-of .ensures) ∙ c .before .enum-told7 .given .1,
 )
 
+send-tree-requires : tie.Need-send-tree-requires
+send-tree-requires c κs = (
+  c .before .before .before .before .before .before .before .before .pre,
+  sym
+      (c .before .before .before .statement-of .ensures) ∙ c .before .enum-told8 .given .1,
+)
+
 pub carry-out-spec : {M : Type 1} → statement M
 carry-out-spec =
     tie.close
@@ -90,6 +97,10 @@ carry-out-spec =
     transfer-requires
     (λ c. search needs)
     leave-requires
+    (λ c. search needs)
+    send-tree-requires
+    (λ c. search needs)
+    (λ c. search needs)
     (λ c. search needs)
     (λ c. search needs)
     (λ c. search needs)
