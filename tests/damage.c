@@ -20,7 +20,7 @@ void damage(uint8_t *bytes, size_t size)
         *byte ^= (uint8_t)(1u << below(8));
 }
 
-void found_trees(uint8_t *image, uint32_t records)
+void make_tree_sends(uint8_t *image, uint32_t records)
 {
     for (uint8_t *record = image; record < image + PLEX_RECORD_SIZE * records; record += PLEX_RECORD_SIZE)
         if (record[PLEX_RECORD_OPCODE] == PLEX_SEND_BUFFERED && below(2) == 0)

@@ -9,7 +9,7 @@
 uint32_t below(uint32_t limit);
 
 /* Makes half of the buffered SENDs of a checked image SENDs JOBTREE, which have the same fields. */
-void found_trees(uint8_t *image, uint32_t records);
+void make_tree_sends(uint8_t *image, uint32_t records);
 
 /* Sets a byte to a number at or beside a limit, or flips a bit of it. */
 void damage(uint8_t *bytes, size_t size);

@@ -67,7 +67,7 @@ static void try_link(void)
     struct line why = {0};
     bench_guest_image(first, first_records, 0);
     bench_guest_image(second, second_records, GUEST_BLOCKS - (below(4) == 0 ? below(GUEST_BLOCKS + 1) : 0));
-    found_trees(second, second_records);
+    make_tree_sends(second, second_records);
     if (below(4) == 0)
         damage_record(first, first_records);
     if (below(4) == 0)
@@ -203,7 +203,7 @@ static void begin(void)
 {
     static const uint8_t words[PLEX_WORDS_SIZE];
     bench_mixed_image(image, RECORDS);
-    found_trees(image, RECORDS);
+    make_tree_sends(image, RECORDS);
     for (uint32_t block = 0; block < PLEX_BLOCKS; block++) {
         table[PLEX_ROW_SIZE * block + PLEX_ROW_THREAD] = (uint8_t)(block % PLEX_THREADS);
         table[PLEX_ROW_SIZE * block + PLEX_ROW_KIND] = block % 3 == 0 ? PLEX_FD : PLEX_CMX;

@@ -112,7 +112,7 @@ static void run_founder(const uint8_t *founder, size_t size, int count, uint8_t 
 }
 
 /* A signal is held, and becomes a tree at EXIT; a fifth one traps, and all are dropped. */
-static void found_trees(void)
+static void hold_signals(void)
 {
     static uint8_t founder[3 * PLEX_RECORD_SIZE];
     const uint8_t *thread = state + PLEX_STATE_THREADS, *tree = state + PLEX_STATE_TREES;
@@ -184,7 +184,7 @@ int main(void)
     versions();
     fill();
     carry_out();
-    found_trees();
+    hold_signals();
     link_guests();
     refuse();
     return failed;

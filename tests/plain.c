@@ -36,7 +36,7 @@ static void make_guest(struct lent *image, uint32_t first_block)
     uint32_t records = 32 * (1 + below(below(4) == 0 ? 16 : 2));
     bench_guest_image(image->bytes, records, first_block);
     image->size = PLEX_RECORD_SIZE * records;
-    found_trees(image->bytes, records);
+    make_tree_sends(image->bytes, records);
     if (below(3) == 0)
         damage_record(image->bytes, records);
 }

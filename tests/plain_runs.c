@@ -53,7 +53,7 @@ static void make_machine(void)
     uint32_t records = LEAST_RECORDS * (1 + below(PLEX_RECORDS_MAX / LEAST_RECORDS));
     image_len = PLEX_RECORD_SIZE * records;
     bench_mixed_image(image, records);
-    found_trees(image, records);
+    make_tree_sends(image, records);
     if (below(4) != 0)
         fill_registers(records);
     for (uint32_t block = 0; block < PLEX_BLOCKS; block++) {

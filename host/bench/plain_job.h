@@ -25,9 +25,9 @@ static inline void set_registers(const struct job *job, const uint8_t *values, u
     memcpy(job->bytes + PLEX_THREAD_VALUES, values, VALUES_SIZE);
 }
 
-/* Whether there is room for one more tree: then the signal is the only one of a new tree at the list's
- * end, on its block's thread. */
-static inline bool found_tree(const struct program *program, uint8_t *state, const uint8_t *signal)
+/* Makes the signal the only one of a new tree at the list's end, on its block's thread; returns whether
+ * there was room. */
+static inline bool add_tree(const struct program *program, uint8_t *state, const uint8_t *signal)
 {
     uint32_t count = state[PLEX_STATE_TREE_COUNT];
     if (count == PLEX_TREES_MAX)

@@ -26,7 +26,7 @@ static bool event_holds(const struct program *program, const uint8_t *event)
 
 static uint32_t arrive(const struct program *program, uint8_t *state, const uint8_t *event)
 {
-    return answer(found_tree(program, state, event + PLEX_EVENT_SIGNAL) ? PLEX_ARRIVED : PLEX_LIST_FULL, 0);
+    return answer(add_tree(program, state, event + PLEX_EVENT_SIGNAL) ? PLEX_ARRIVED : PLEX_LIST_FULL, 0);
 }
 
 /* An idle thread starts its first tree's oldest signal, or waits for its lock. */

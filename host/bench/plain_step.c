@@ -28,7 +28,7 @@ static void retire_tree(const struct job *job)
     last[PLEX_TREE_THREAD] = (uint8_t)thread_of_oldest(job->program, last);
 }
 
-/* The places past the held count are zero already. */
+/* Where nothing is held, of the held signals the count alone is read; the places past it are zero. */
 static void make_idle(const struct job *job)
 {
     uint32_t held = job->bytes[PLEX_THREAD_HELD_COUNT];
@@ -52,7 +52,7 @@ static uint32_t leave(const struct job *job)
     uint32_t held = job->bytes[PLEX_THREAD_HELD_COUNT], lost = 0;
     retire_tree(job);
     for (uint32_t i = 0; i < held; i++)
-        lost += !found_tree(job->program, job->state, held_at(job->bytes, i));
+        lost += !add_tree(job->program, job->state, held_at(job->bytes, i));
     make_idle(job);
     return answer(PLEX_EXITED, lost);
 }
