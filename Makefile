@@ -27,7 +27,7 @@ SOURCES_bench = $(wildcard host/bench/*.c) host/common/build.c
 SOURCES_words = tests/words.c $(COMMON)
 SOURCES_explanations = tests/explanations.c tests/damage.c $(wildcard host/command/explain*.c) \
     host/bench/bench_image.c $(COMMON)
-SOURCES_plain = tests/plain.c tests/damage.c host/bench/bench_image.c $(wildcard host/bench/plain_*.c)
+SOURCES_plain = $(wildcard tests/plain*.c) tests/damage.c host/bench/bench_image.c host/common/build.c $(wildcard host/bench/plain_*.c)
 SOURCES_lending = tests/lending.c tests/cases.c host/common/build.c
 SOURCES_stack = tests/stack.c tests/cases.c host/common/build.c
 SOURCES_header = tests/header.c

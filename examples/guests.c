@@ -9,7 +9,7 @@
 #include <string.h>
 
 enum { METER = 4, DESK = 6, LEDGER = 7 };
-enum { FIRST_RECORDS = 3, SECOND_RECORDS = 6, LINKED_RECORDS = FIRST_RECORDS + SECOND_RECORDS, EVENTS = 7 };
+enum { FIRST_RECORDS = 3, SECOND_RECORDS = 7, LINKED_RECORDS = FIRST_RECORDS + SECOND_RECORDS, EVENTS = 8 };
 
 /* Block 4, thread 0: adds what it is sent to its word until that is 10 or more. */
 static const struct statement first_program[FIRST_RECORDS] = {
@@ -18,12 +18,14 @@ static const struct statement first_program[FIRST_RECORDS] = {
     {METER, PLEX_NO_ENTRY, PLEX_EXIT, 0, 0, 0, 0, {NUMBER(0)}},
 };
 
-/* Block 6, thread 1: leaves a signal in its tree and calls block 7, thread 2, which adds up. */
+/* Block 6, thread 1: leaves a signal in its tree, holds one for a new tree, and calls block 7, thread
+ * 2, which adds up. */
 static const struct statement second_program[SECOND_RECORDS] = {
-    {DESK, PLEX_EXTERNAL, PLEX_SEND_BUFFERED, 0, 5, 1, 1, {REGISTER(0)}},
-    {DESK, PLEX_NO_ENTRY, PLEX_CALL, 0, 3, 2, 1, {REGISTER(0)}},
+    {DESK, PLEX_EXTERNAL, PLEX_SEND_BUFFERED, 0, 6, 1, 1, {REGISTER(0)}},
+    {DESK, PLEX_NO_ENTRY, PLEX_SEND_TREE, 0, 6, 2, 0, {NUMBER(0)}},
+    {DESK, PLEX_NO_ENTRY, PLEX_CALL, 0, 4, 3, 1, {REGISTER(0)}},
     {DESK, PLEX_NO_ENTRY, PLEX_EXIT, 0, 0, 0, 0, {NUMBER(0)}},
-    {LEDGER, PLEX_DIRECT, PLEX_ASSIGN, PLEX_ADD, 4, 0, 3, {WORD(0), WORD(0), REGISTER(0)}},
+    {LEDGER, PLEX_DIRECT, PLEX_ASSIGN, PLEX_ADD, 5, 0, 3, {WORD(0), WORD(0), REGISTER(0)}},
     {LEDGER, PLEX_NO_ENTRY, PLEX_RETURN, 0, 0, 0, 0, {NUMBER(0)}},
     {LEDGER, PLEX_BUFFERED, PLEX_EXIT, 0, 0, 0, 0, {NUMBER(0)}},
 };
@@ -45,18 +47,18 @@ static void make_first_events(uint8_t *event)
 {
     static const uint16_t four = 4;
     put_arrival(event, 0, &four, 1);
-    for (int i = 0; i < 4; i++)
+    for (int i = 0; i < 5; i++)
         put_step(event += PLEX_EVENT_SIZE, 0);
     put_cut(event += PLEX_EVENT_SIZE, 0);
     put_step(event += PLEX_EVENT_SIZE, 0);
 }
 
-/* They leave a job at work inside its call, and signals pending in two trees. */
+/* They leave a job at work inside its call, with a signal held, and signals pending in two trees. */
 static void make_second_events(uint8_t *event)
 {
     static const uint16_t nine = 9, one = 1;
     put_arrival(event, 0, &nine, 1);
-    for (int i = 0; i < 4; i++)
+    for (int i = 0; i < 5; i++)
         put_step(event += PLEX_EVENT_SIZE, 1);
     put_arrival(event += PLEX_EVENT_SIZE, 0, &one, 1);
     put_step(event += PLEX_EVENT_SIZE, 2);
@@ -74,7 +76,13 @@ static void move_events(uint8_t *events, uint32_t by)
             move_label(event + PLEX_EVENT_SIGNAL + PLEX_SIGNAL_LABEL, by);
 }
 
-/* The labels of running threads, their return labels, and the labels of pending signals. */
+static void move_signals(uint8_t *signal, uint32_t count, uint32_t by)
+{
+    for (uint32_t i = 0; i < count; i++, signal += PLEX_SIGNAL_SIZE)
+        move_label(signal + PLEX_SIGNAL_LABEL, by);
+}
+
+/* The labels of running threads, their return labels, and the labels of held and pending signals. */
 static void move_state(uint8_t *state, uint32_t by)
 {
     for (uint32_t t = 0; t < PLEX_THREADS; t++) {
@@ -83,11 +91,11 @@ static void move_state(uint8_t *state, uint32_t by)
             move_label(thread + PLEX_THREAD_LABEL, by);
         for (uint32_t i = 0; i < thread[PLEX_THREAD_RETURN_COUNT]; i++)
             move_label(thread + PLEX_THREAD_RETURNS + 2 * i, by);
+        move_signals(thread + PLEX_THREAD_HELD, thread[PLEX_THREAD_HELD_COUNT], by);
     }
     for (uint32_t i = 0; i < state[PLEX_STATE_TREE_COUNT]; i++) {
         uint8_t *tree = state + PLEX_STATE_TREES + PLEX_TREE_SIZE * i;
-        for (uint32_t j = 0; j < tree[PLEX_TREE_PENDING]; j++)
-            move_label(tree + PLEX_TREE_SIGNALS + PLEX_SIGNAL_SIZE * j + PLEX_SIGNAL_LABEL, by);
+        move_signals(tree + PLEX_TREE_SIGNALS, tree[PLEX_TREE_PENDING], by);
     }
 }
 

@@ -44,8 +44,8 @@ extern "C" {
 
 /* ---- Versions: of the library and its papers, and of the formats. The latter is raised by each
  * change of a format; no buffer holds it, so a host notes it beside the bytes that it keeps. */
-#define PLEX_VERSION "0.3.0"
-#define PLEX_FORMAT_VERSION 1
+#define PLEX_VERSION "0.4.0"
+#define PLEX_FORMAT_VERSION 2
 
 /* ---- Limits. */
 #define PLEX_THREADS 8       /* threads of a machine */
@@ -55,6 +55,7 @@ extern "C" {
 #define PLEX_RETURNS_MAX 8   /* return labels of a thread */
 #define PLEX_TREES_MAX 16    /* job trees of a machine */
 #define PLEX_PENDING_MAX 8   /* pending signals of a tree */
+#define PLEX_HELD_MAX 4      /* held signals of a thread */
 #define PLEX_RECORDS_MAX 512 /* records of an image; at least 1 */
 #define PLEX_EVENTS_MAX 1024 /* events of one Run; at least 0 */
 #define PLEX_STACK_MAX 65536 /* bytes of stack that a call needs at most */
@@ -65,8 +66,8 @@ extern "C" {
 #define PLEX_ROW_SIZE 2      /* a record of the block table; its index is its block */
 #define PLEX_TABLE_SIZE 32   /* the block table: one record for each block */
 #define PLEX_WORDS_SIZE 512  /* the shared words: word w of block b is number 16 x b + w */
-#define PLEX_STATE_SIZE 7929 /* the state: words, threads, tree count, trees */
-#define PLEX_THREAD_SIZE 75
+#define PLEX_STATE_SIZE 9633 /* the state: words, threads, tree count, trees */
+#define PLEX_THREAD_SIZE 288
 #define PLEX_TREE_SIZE 426
 #define PLEX_SIGNAL_SIZE 53
 #define PLEX_EVENT_SIZE 55
@@ -94,17 +95,20 @@ enum { PLEX_OPERAND_KIND = 0, PLEX_OPERAND_VALUE = 1 };
 enum { PLEX_ROW_THREAD = 0, PLEX_ROW_KIND = 1 };
 
 /* In the state. */
-enum { PLEX_STATE_WORDS = 0, PLEX_STATE_THREADS = 512, PLEX_STATE_TREE_COUNT = 1112, PLEX_STATE_TREES = 1113 };
+enum { PLEX_STATE_WORDS = 0, PLEX_STATE_THREADS = 512, PLEX_STATE_TREE_COUNT = 2816, PLEX_STATE_TREES = 2817 };
 
 /* In a thread record: bit b of the lock set is lock b, bit r of presence is register r, and the
- * oldest return label comes first. */
+ * oldest return label and the oldest held signal come first. A held signal was sent by
+ * PLEX_SEND_TREE, and becomes a tree when its job ends by EXIT. */
 enum {
     PLEX_THREAD_LABEL = 0,
     PLEX_THREAD_LOCKS = 2,
     PLEX_THREAD_RETURN_COUNT = 4,
     PLEX_THREAD_RETURNS = 5,
     PLEX_THREAD_PRESENCE = 21,
-    PLEX_THREAD_VALUES = 25
+    PLEX_THREAD_VALUES = 25,
+    PLEX_THREAD_HELD_COUNT = 75,
+    PLEX_THREAD_HELD = 76 /* 4 signals */
 };
 #define PLEX_IDLE 65535 /* the label of an idle thread */
 
@@ -129,7 +133,8 @@ enum {
     PLEX_CALL = 7,          /* to A, return label B */
     PLEX_RETURN = 8,        /* to the newest return label */
     PLEX_TRANSFER = 9,      /* to A, in its own block */
-    PLEX_EXIT = 10
+    PLEX_EXIT = 10,
+    PLEX_SEND_TREE = 11 /* SEND JOBTREE to A, on to B: the signal is held, and founds a tree at EXIT */
 };
 
 /* Operators of ASSIGN, each modulo 65,536, and of IF. */
@@ -152,7 +157,7 @@ enum {
     PLEX_WAITING = 4,        /* step: another thread holds the lock, no change; detail: the block */
     PLEX_STARTED = 5,        /* step: an idle thread took its first tree's oldest signal */
     PLEX_MOVED_ON = 6,       /* step: the job goes on */
-    PLEX_EXITED = 7,         /* step: the job ended by EXIT */
+    PLEX_EXITED = 7,         /* step: the job ended by EXIT; detail: the number of held signals lost */
     PLEX_TRAPPED = 8,        /* step: the job ended by a trap; detail: the reason */
     PLEX_WAS_CUT = 9,        /* cut: the job ended */
     PLEX_NOTHING_TO_CUT = 10 /* cut: idle thread, no change */
@@ -164,6 +169,7 @@ enum {
     PLEX_NO_RETURN_LABEL = 2, /* RETURN with no return label */
     PLEX_RETURNS_FULL = 3,    /* CALL with 8 return labels */
     PLEX_PENDING_FULL = 4,    /* buffered SEND with 8 pending in the job's own tree */
+    PLEX_HELD_FULL = 6,       /* SEND JOBTREE with 4 signals held */
     PLEX_FOREIGN_FD_BLOCK = 5 /* direct SEND or CALL to an FD block of another thread */
 };
 
@@ -173,7 +179,7 @@ enum {
     PLEX_BAD_TABLE_LENGTH = 2,   /* table is not 32 bytes */
     PLEX_BAD_TABLE_FIELD = 3,    /* table field out of range; place: the first such block */
     PLEX_BAD_RECORD = 4,         /* record breaks a rule; place: the first such label */
-    PLEX_BAD_STATE_LENGTH = 5,   /* state is not 7,929 bytes */
+    PLEX_BAD_STATE_LENGTH = 5,   /* state is not 9,633 bytes */
     PLEX_BAD_STATE = 6,          /* state is not well formed */
     PLEX_BAD_EVENTS_LENGTH = 7,  /* events are not 55 x m bytes, m 0 to 1,024 */
     PLEX_BAD_EVENT = 8,          /* event breaks a rule; place: the first such index */

@@ -38,11 +38,22 @@ void put_caller(uint8_t *image, uint32_t block, uint32_t first_label, uint32_t c
     put_statements(image, caller, CALLER_RECORDS);
 }
 
-void make_guest(uint8_t *image, const struct trial *trial, uint32_t first_label)
+/* The first block that no record is in, or PLEX_BLOCKS. */
+static uint32_t free_block(const struct trial *trial)
 {
     uint32_t named = named_blocks(trial->image, (uint32_t)(trial->image_len / PLEX_RECORD_SIZE));
     uint32_t block = 0;
     while (named >> block & 1)
         block++;
-    put_caller(image, block, first_label, first_label + CALLED);
+    return block;
+}
+
+bool has_guest(const struct trial *trial)
+{
+    return free_block(trial) < PLEX_BLOCKS && trial->image_len + GUEST_SIZE <= sizeof trial->image;
+}
+
+void make_guest(uint8_t *image, const struct trial *trial, uint32_t first_label)
+{
+    put_caller(image, free_block(trial), first_label, first_label + CALLED);
 }

@@ -4,6 +4,8 @@
 
 #include "plex.h"
 
+#include <stdbool.h>
+
 struct trial {
     uint8_t image[PLEX_RECORDS_MAX * PLEX_RECORD_SIZE], table[PLEX_TABLE_SIZE], words[PLEX_WORDS_SIZE];
     uint8_t events[PLEX_EVENTS_MAX * PLEX_EVENT_SIZE];
@@ -20,8 +22,9 @@ enum { CALLED = 2, CALLER_RECORDS = 3 };
 void put_caller(uint8_t *image, uint32_t block, uint32_t first_label, uint32_t called);
 
 /* A guest to be linked with the case, in the first block that the case leaves free: its block calls
- * itself. */
+ * itself. There is none if the case names every block, or has no room for more records. */
 enum { GUEST_SIZE = CALLER_RECORDS * PLEX_RECORD_SIZE };
+bool has_guest(const struct trial *trial);
 void make_guest(uint8_t *image, const struct trial *trial, uint32_t first_label);
 
 #endif

@@ -12,6 +12,7 @@ trap 'rm -rf "$folder"' EXIT
 cd "$folder" || exit 1
 mkdir good && "$demo" good || exit 1
 image=good/case.image table=good/case.table words=good/case.words events=good/case.events
+east=good/east.image
 
 passed=0
 failed=0
@@ -93,16 +94,33 @@ repeated() {
     done
 }
 
+# altered FILE NEW OFFSET:OCTAL..: a copy with these bytes changed
+altered() {
+    cp "$1" "$2"
+    new=$2
+    shift 2
+    for change; do
+        byte "$new" "${change%:*}" "${change#*:}" part
+        mv part "$new"
+    done
+}
+
 # the files that more than one subject uses: 4,500 events; the case after them; the case after its
-# eighth event, where the audit waits for North's job; and files that are to stay as they are
+# eighth event, where the audit waits for North's job; East's guest alone with a value of 25, a step
+# before its job ends, where it holds a signal; and files that are to stay as they are
 : >empty
 repeated "$events" 300 many
 head -c 440 "$events" >eight
+head -c 55 "$events" >arrival
+tail -c +166 "$events" | head -c 55 >step
+byte step 1 2 step-2
+cat arrival step-2 step-2 step-2 >to-holding
 printf 'old' >old
 cp old kept
 "$plex" run "$image" "$table" "$words" many --summary --out left >said || exit 1
 "$plex" run "$image" "$table" "$words" eight --summary --out waiting >said || exit 1
-head -c 7928 left >short-state
+"$plex" run "$east" "$table" "$words" to-holding --summary --out holding >said || exit 1
+head -c 9632 left >short-state
 cat left empty "$table" >long-state
 
 for subject in arguments check show link run refused outputs streams signals state waits terminal; do

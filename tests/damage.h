@@ -1,4 +1,4 @@
-/* Damaged bytes, the same in every run. */
+/* Changed and damaged bytes, the same in every run. */
 #ifndef DAMAGE_H
 #define DAMAGE_H
 
@@ -7,6 +7,9 @@
 
 /* A number below the limit, from a fixed sequence. */
 uint32_t below(uint32_t limit);
+
+/* Makes half of the buffered SENDs of a checked image SENDs JOBTREE, which have the same fields. */
+void make_tree_sends(uint8_t *image, uint32_t records);
 
 /* Sets a byte to a number at or beside a limit, or flips a bit of it. */
 void damage(uint8_t *bytes, size_t size);

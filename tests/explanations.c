@@ -67,6 +67,7 @@ static void try_link(void)
     struct line why = {0};
     bench_guest_image(first, first_records, 0);
     bench_guest_image(second, second_records, GUEST_BLOCKS - (below(4) == 0 ? below(GUEST_BLOCKS + 1) : 0));
+    make_tree_sends(second, second_records);
     if (below(4) == 0)
         damage_record(first, first_records);
     if (below(4) == 0)
@@ -121,11 +122,88 @@ static void try_event(void)
     refusals[number]++;
 }
 
+/* A job that holds two signals, one of them with a value, before it ends. */
+static const struct statement holder[] = {
+    {0, PLEX_EXTERNAL, PLEX_SEND_TREE, 0, 2, 1, 1, {REGISTER(0)}},
+    {0, PLEX_NO_ENTRY, PLEX_SEND_TREE, 0, 2, 3, 0, {NUMBER(0)}},
+    {0, PLEX_BUFFERED, PLEX_EXIT, 0, 0, 0, 0, {NUMBER(0)}},
+    {0, PLEX_NO_ENTRY, PLEX_EXIT, 0, 0, 0, 0, {NUMBER(0)}},
+};
+enum { HOLDER_RECORDS = sizeof holder / sizeof holder[0], HOLDER_EVENTS = 4 };
+
+/* A byte of the state that this job leaves, and what is said of the state if the byte is another: the
+ * job is on thread 0, and the other threads are idle. */
+enum {
+    HOLDING = PLEX_STATE_THREADS,
+    IDLE = HOLDING + PLEX_THREAD_SIZE,
+    FIRST_HELD = HOLDING + PLEX_THREAD_HELD,
+    SECOND_HELD = FIRST_HELD + PLEX_SIGNAL_SIZE
+};
+static const struct {
+    uint32_t place;
+    uint8_t byte;
+    const char *words;
+} held_faults[] = {
+    {HOLDING + PLEX_THREAD_HELD_COUNT, 5, "thread 0 holds 5 signals, and a thread holds at most 4"},
+    {HOLDING + PLEX_THREAD_HELD_COUNT, 1, "a byte after the last held signal of thread 0 is not 0"},
+    {HOLDING + PLEX_THREAD_HELD_COUNT, 3,
+     "held signal 2 of thread 0: its label is 0, whose entry is external, and not buffered"},
+    {HOLDING + PLEX_THREAD_SIZE - 1, 1, "a byte after the last held signal of thread 0 is not 0"},
+    {FIRST_HELD + PLEX_SIGNAL_LABEL, 4,
+     "held signal 0 of thread 0: its label is 4, and the image's labels are below 4"},
+    {SECOND_HELD + PLEX_SIGNAL_LABEL, 1,
+     "held signal 1 of thread 0: its label is 1, whose entry is none, and not buffered"},
+    {FIRST_HELD + PLEX_SIGNAL_COUNT, 26,
+     "held signal 0 of thread 0: its value count is 26, and a signal has 0 to 25 values"},
+    {FIRST_HELD + PLEX_SIGNAL_COUNT, 0, "held signal 0 of thread 0: a byte after its last value is not 0"},
+    {IDLE + PLEX_THREAD_HELD_COUNT, 1, "thread 1 is idle, and its held signals are not all 0"},
+    {IDLE + PLEX_THREAD_SIZE - 1, 1, "thread 1 is idle, and its held signals are not all 0"},
+    {IDLE + PLEX_THREAD_HELD_COUNT - 1, 1, "thread 1 is idle, and its other fields are not all 0"},
+};
+
+/* What the library returns for a state of the holder, and what is said of it. */
+static void expect_held(const uint8_t *holding, const uint8_t *tried, uint32_t number, const char *words)
+{
+    uint8_t met[PLEX_MET_SIZE];
+    struct line why = {0};
+    uint32_t result = plex_walk(holding, HOLDER_RECORDS * PLEX_RECORD_SIZE, table, sizeof table, tried, PLEX_STATE_SIZE,
+                                0, met, sizeof met);
+    explain_state(&why, holding, HOLDER_RECORDS, table, tried);
+    if (PLEX_NUMBER(result) == number && strcmp(why.text, words) == 0)
+        return;
+    failures++;
+    printf("explanations: number %u, '%s', expected %u, '%s'\n", PLEX_NUMBER(result), why.text, number, words);
+}
+
+/* Each rule of held signals by itself. */
+static void try_held(void)
+{
+    static const uint16_t value = 7;
+    static const uint8_t words[PLEX_WORDS_SIZE];
+    uint8_t holding[HOLDER_RECORDS * PLEX_RECORD_SIZE], held[PLEX_STATE_SIZE], tried[PLEX_STATE_SIZE];
+    uint8_t events[HOLDER_EVENTS * PLEX_EVENT_SIZE], answers[HOLDER_EVENTS * PLEX_ANSWER_SIZE];
+    put_statements(holding, holder, HOLDER_RECORDS);
+    put_arrival(events, 0, &value, 1);
+    for (uint32_t i = 1; i < HOLDER_EVENTS; i++)
+        put_step(events + PLEX_EVENT_SIZE * i, 0);
+    if (plex_fresh(holding, sizeof holding, table, sizeof table, words, sizeof words, held, sizeof held) != 0 ||
+        plex_run(holding, sizeof holding, table, sizeof table, held, sizeof held, events, sizeof events, answers,
+                 sizeof answers) != 0)
+        failures++;
+    expect_held(holding, held, 0, "");
+    for (size_t i = 0; i < sizeof held_faults / sizeof held_faults[0]; i++) {
+        memcpy(tried, held, sizeof tried);
+        tried[held_faults[i].place] = held_faults[i].byte;
+        expect_held(holding, tried, PLEX_BAD_STATE, held_faults[i].words);
+    }
+}
+
 /* Each block on a thread of its own as far as they go, every third block FD. */
 static void begin(void)
 {
     static const uint8_t words[PLEX_WORDS_SIZE];
     bench_mixed_image(image, RECORDS);
+    make_tree_sends(image, RECORDS);
     for (uint32_t block = 0; block < PLEX_BLOCKS; block++) {
         table[PLEX_ROW_SIZE * block + PLEX_ROW_THREAD] = (uint8_t)(block % PLEX_THREADS);
         table[PLEX_ROW_SIZE * block + PLEX_ROW_KIND] = block % 3 == 0 ? PLEX_FD : PLEX_CMX;
@@ -137,6 +215,7 @@ static void begin(void)
 int main(void)
 {
     begin();
+    try_held();
     for (uint32_t trial = 0; trial < TRIALS; trial++) {
         try_event();
         if (trial % 16 == 0)

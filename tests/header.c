@@ -1,5 +1,5 @@
 /* The header by itself, in the part of the language that C and C++ share: its numbers fit
- * together, and the five calls carry out the whole-list trial and link two guests. */
+ * together, and the five calls carry out the whole-list trial, found trees and link two guests. */
 #include "plex.h"
 
 #include <stdio.h>
@@ -19,25 +19,29 @@ HOLDS(PLEX_STATE_THREADS + PLEX_THREADS * PLEX_THREAD_SIZE == PLEX_STATE_TREE_CO
 HOLDS(PLEX_STATE_TREE_COUNT + 1 == PLEX_STATE_TREES);
 HOLDS(PLEX_STATE_TREES + PLEX_TREES_MAX * PLEX_TREE_SIZE == PLEX_STATE_SIZE);
 HOLDS(PLEX_THREAD_RETURNS + 2 * PLEX_RETURNS_MAX == PLEX_THREAD_PRESENCE);
-HOLDS(PLEX_THREAD_VALUES + 2 * PLEX_REGISTERS == PLEX_THREAD_SIZE);
+HOLDS(PLEX_THREAD_VALUES + 2 * PLEX_REGISTERS == PLEX_THREAD_HELD_COUNT);
+HOLDS(PLEX_THREAD_HELD_COUNT + 1 == PLEX_THREAD_HELD);
+HOLDS(PLEX_THREAD_HELD + PLEX_HELD_MAX * PLEX_SIGNAL_SIZE == PLEX_THREAD_SIZE);
 HOLDS(PLEX_TREE_SIGNALS + PLEX_PENDING_MAX * PLEX_SIGNAL_SIZE == PLEX_TREE_SIZE);
 HOLDS(PLEX_SIGNAL_VALUES + 2 * PLEX_REGISTERS == PLEX_SIGNAL_SIZE);
 HOLDS(PLEX_EVENT_SIGNAL + PLEX_SIGNAL_SIZE == PLEX_EVENT_SIZE);
 
-/* Version 1 of the formats: whoever changes one of them raises the version. */
-HOLDS(PLEX_FORMAT_VERSION == 1);
+/* Version 2 of the formats: whoever changes one of them raises the version. */
+HOLDS(PLEX_FORMAT_VERSION == 2);
 HOLDS(PLEX_RECORD_SIZE == 84 && PLEX_TABLE_SIZE == 32 && PLEX_WORDS_SIZE == 512);
-HOLDS(PLEX_STATE_SIZE == 7929 && PLEX_EVENT_SIZE == 55 && PLEX_ANSWER_SIZE == 2);
-HOLDS(PLEX_EXIT == 10 && PLEX_CUT == 3 && PLEX_NOTHING_TO_CUT == 10 && PLEX_FOREIGN_FD_BLOCK == 5);
+HOLDS(PLEX_STATE_SIZE == 9633 && PLEX_EVENT_SIZE == 55 && PLEX_ANSWER_SIZE == 2);
+HOLDS(PLEX_THREAD_SIZE == 288 && PLEX_HELD_MAX == 4 && PLEX_STATE_TREE_COUNT == 2816);
+HOLDS(PLEX_EXIT == 10 && PLEX_SEND_TREE == 11 && PLEX_CUT == 3 && PLEX_NOTHING_TO_CUT == 10);
+HOLDS(PLEX_FOREIGN_FD_BLOCK == 5 && PLEX_HELD_FULL == 6);
 
 /* The numbers of refusals: those that there are stay, and a new call may add some. */
 HOLDS(PLEX_BAD_MET_LENGTH == 12 && PLEX_SHARED_BLOCK == 13 && PLEX_BAD_OUTPUT_LENGTH == 15);
 
-enum { RECORDS = 2, EVENTS = 5, MANY = PLEX_RECORDS_MAX - 1 };
+enum { RECORDS = 2, EVENTS = 5, FOUNDER_EVENTS = 7, MANY = PLEX_RECORDS_MAX - 1 };
 
 static uint8_t image[RECORDS * PLEX_RECORD_SIZE], table[PLEX_TABLE_SIZE], words[PLEX_WORDS_SIZE];
-static uint8_t state[PLEX_STATE_SIZE], events[EVENTS * PLEX_EVENT_SIZE];
-static uint8_t answers[EVENTS * PLEX_ANSWER_SIZE], met[PLEX_MET_SIZE];
+static uint8_t state[PLEX_STATE_SIZE], events[FOUNDER_EVENTS * PLEX_EVENT_SIZE];
+static uint8_t answers[FOUNDER_EVENTS * PLEX_ANSWER_SIZE], met[PLEX_MET_SIZE];
 static uint8_t second[sizeof image], linked[2 * sizeof image], exits[MANY * PLEX_RECORD_SIZE];
 static int failed;
 
@@ -50,7 +54,7 @@ static void expect(const char *what, int holds)
 }
 
 /* Label 0: block 0, entry external, ASSIGN copy shared word 0 from 7, on to 1. Label 1: EXIT. One
- * arrival at 0, four steps of thread 0. */
+ * arrival at 0, and steps of thread 0: four, and some for the founder. */
 static void fill(void)
 {
     uint8_t *operand = image + PLEX_RECORD_OPERANDS;
@@ -64,7 +68,7 @@ static void fill(void)
     operand[PLEX_OPERAND_SIZE + PLEX_OPERAND_VALUE] = 7;
     image[PLEX_RECORD_SIZE + PLEX_RECORD_OPCODE] = PLEX_EXIT;
     events[PLEX_EVENT_KIND] = PLEX_ARRIVAL;
-    for (int i = 1; i < EVENTS; i++)
+    for (int i = 1; i < FOUNDER_EVENTS; i++)
         events[i * PLEX_EVENT_SIZE + PLEX_EVENT_KIND] = PLEX_STEP;
     memset(state, 1, sizeof state);
 }
@@ -75,12 +79,55 @@ static void carry_out(void)
     expect("check", plex_check(image, sizeof image, table, sizeof table) == 0);
     expect("fresh",
            plex_fresh(image, sizeof image, table, sizeof table, words, sizeof words, state, sizeof state) == 0);
-    expect("run", plex_run(image, sizeof image, table, sizeof table, state, sizeof state, events, sizeof events,
-                           answers, sizeof answers) == 0);
+    expect("run", plex_run(image, sizeof image, table, sizeof table, state, sizeof state, events,
+                           EVENTS * PLEX_EVENT_SIZE, answers, EVENTS * PLEX_ANSWER_SIZE) == 0);
     expect("answers", memcmp(answers, expected, sizeof expected) == 0);
     expect("word 0", state[PLEX_STATE_WORDS] == 7 && state[PLEX_STATE_WORDS + 1] == 0);
     expect("walk", plex_walk(image, sizeof image, table, sizeof table, state, sizeof state, 3, met, sizeof met) == 1);
     expect("met", met[0] == 3 && met[1] == PLEX_UNMET && met[PLEX_MET_SIZE - 1] == PLEX_UNMET);
+}
+
+/* Label 0: block 0, entry external, SEND JOBTREE to 2, on to 0 again or to 1. Label 1: EXIT. Label 2:
+ * EXIT, entry buffered. */
+static void fill_founder(uint8_t *founder, uint8_t on_to)
+{
+    founder[PLEX_RECORD_OPCODE] = PLEX_SEND_TREE;
+    founder[PLEX_RECORD_ENTRY] = PLEX_EXTERNAL;
+    founder[PLEX_RECORD_A] = 2;
+    founder[PLEX_RECORD_B] = on_to;
+    founder[PLEX_RECORD_SIZE + PLEX_RECORD_OPCODE] = PLEX_EXIT;
+    founder[2 * PLEX_RECORD_SIZE + PLEX_RECORD_OPCODE] = PLEX_EXIT;
+    founder[2 * PLEX_RECORD_SIZE + PLEX_RECORD_ENTRY] = PLEX_BUFFERED;
+}
+
+/* One Run of an image from a fresh machine: what it answers to the last of so many events. */
+static void run_founder(const uint8_t *founder, size_t size, int count, uint8_t code, uint8_t detail)
+{
+    const uint8_t *last = answers + PLEX_ANSWER_SIZE * (count - 1);
+    expect("fresh of a founder",
+           plex_fresh(founder, size, table, sizeof table, words, sizeof words, state, sizeof state) == 0);
+    expect("run of a founder", plex_run(founder, size, table, sizeof table, state, sizeof state, events,
+                                        PLEX_EVENT_SIZE * count, answers, PLEX_ANSWER_SIZE * count) == 0);
+    expect("last answer of a founder", last[PLEX_ANSWER_CODE] == code && last[PLEX_ANSWER_DETAIL] == detail);
+}
+
+/* A signal is held, and becomes a tree at EXIT; a fifth one traps, and all are dropped. */
+static void hold_signals(void)
+{
+    static uint8_t founder[3 * PLEX_RECORD_SIZE];
+    const uint8_t *thread = state + PLEX_STATE_THREADS, *tree = state + PLEX_STATE_TREES;
+    fill_founder(founder, 1);
+    run_founder(founder, sizeof founder, 3, PLEX_MOVED_ON, 0);
+    expect("held", thread[PLEX_THREAD_HELD_COUNT] == 1 && thread[PLEX_THREAD_HELD + PLEX_SIGNAL_LABEL] == 2);
+    run_founder(founder, sizeof founder, 4, PLEX_EXITED, 0);
+    expect("founded", state[PLEX_STATE_TREE_COUNT] == 1 && tree[PLEX_TREE_PENDING] == 1 &&
+                          tree[PLEX_TREE_SIGNALS + PLEX_SIGNAL_LABEL] == 2);
+    expect("held no more", thread[PLEX_THREAD_HELD_COUNT] == 0 && thread[PLEX_THREAD_HELD + PLEX_SIGNAL_LABEL] == 0);
+    fill_founder(founder, 0);
+    run_founder(founder, sizeof founder, FOUNDER_EVENTS - 1, PLEX_MOVED_ON, 0);
+    expect("four held", thread[PLEX_THREAD_HELD_COUNT] == PLEX_HELD_MAX);
+    run_founder(founder, sizeof founder, FOUNDER_EVENTS, PLEX_TRAPPED, PLEX_HELD_FULL);
+    expect("dropped", state[PLEX_STATE_TREE_COUNT] == 0 && thread[PLEX_THREAD_HELD_COUNT] == 0);
 }
 
 static uint32_t link_behind(const uint8_t *behind, size_t size, size_t out_len)
@@ -137,6 +184,7 @@ int main(void)
     versions();
     fill();
     carry_out();
+    hold_signals();
     link_guests();
     refuse();
     return failed;

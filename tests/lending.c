@@ -120,7 +120,8 @@ static void try_places(uint8_t *rooms[PARTS])
     static const size_t places[] = {0, 1, 2, 3, 4, 5, 7, 8, 9, 15, ROOM};
     for (size_t i = 0; i < sizeof places / sizeof places[0]; i++) {
         try_machine(rooms, places[i]);
-        try_link(rooms, places[i]);
+        if (has_guest(&trial))
+            try_link(rooms, places[i]);
     }
 }
 
@@ -251,19 +252,23 @@ static void try_beside(void)
 int main(int count, char **names)
 {
     uint8_t *rooms[PARTS];
+    int linked = 0;
     for (int part = 0; part < PARTS; part++)
         rooms[part] = guarded();
     for (int i = 1; i < count; i++) {
         load_trial(&trial, names[i]);
+        linked += has_guest(&trial);
         try_places(rooms);
-        try_empty(rooms[4], NULL);
-        try_empty(rooms[4], rooms[0] - 1);
-        try_bad_links(rooms[4], NULL);
-        try_bad_links(rooms[4], rooms[0] - 1);
-        try_refused_links(rooms[4], NULL);
-        try_refused_links(rooms[4], rooms[0] - 1);
+        for (int at_edge = 0; at_edge <= 1; at_edge++) {
+            uint8_t *nowhere = at_edge ? rooms[0] - 1 : NULL;
+            try_empty(rooms[4], nowhere);
+            if (!has_guest(&trial))
+                continue;
+            try_bad_links(rooms[4], nowhere);
+            try_refused_links(rooms[4], nowhere);
+        }
     }
     try_beside();
-    printf("lending: %d cases%s\n", count - 1, failed ? ", NOT as the header says" : "");
-    return failed || count < 2;
+    printf("lending: %d cases, %d of them linked%s\n", count - 1, linked, failed ? ", NOT as the header says" : "");
+    return failed || linked == 0;
 }

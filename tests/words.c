@@ -1,4 +1,4 @@
-/* Statements, events, answers and refusals in words, one of each sort. */
+/* Statements, events, answers, threads and names in words, one of each sort. */
 #include "build.h"
 #include "names.h"
 #include "words.h"
@@ -21,6 +21,7 @@ static const struct {
     {{0, 0, PLEX_IF, PLEX_LESS, 3, 4, 2, {REGISTER(0), WORD(1)}}, "IF r0 < w1 THEN 3 ELSE 4"},
     {{0, 0, PLEX_SEND_DIRECT, 0, 9, 0, 2, {NUMBER(1), WORD(2)}}, "SEND direct to 9 WITH 1, w2"},
     {{0, 0, PLEX_SEND_BUFFERED, 0, 9, 2, 0, {NUMBER(0)}}, "SEND buffered to 9, on to 2"},
+    {{0, 0, PLEX_SEND_TREE, 0, 9, 2, 2, {WORD(1), REGISTER(0)}}, "SEND JOBTREE to 9 WITH w1, r0, on to 2"},
     {{0, 0, PLEX_CALL, 0, 9, 2, 1, {REGISTER(0)}}, "CALL to 9 WITH r0, return to 2"},
     {{0, 0, PLEX_RETURN, 0, 0, 0, 1, {REGISTER(0)}}, "RETURN WITH r0"},
     {{0, 0, PLEX_TRANSFER, 0, 9, 0, 1, {REGISTER(0)}}, "TRANSFER to 9 WITH r0"},
@@ -34,11 +35,19 @@ static const struct {
     uint8_t answer[PLEX_ANSWER_SIZE];
     const char *words;
 } answers[] = {
-    {{PLEX_ARRIVED, 0}, "arrived"}, {{PLEX_LIST_FULL, 0}, "turned away, the list is full"},
-    {{PLEX_NO_WORK, 0}, "no work"}, {{PLEX_WAITING, 3}, "waiting for the lock of block 3"},
-    {{PLEX_STARTED, 0}, "started"}, {{PLEX_MOVED_ON, 0}, "moved on"},
-    {{PLEX_EXITED, 0}, "EXIT"},     {{PLEX_TRAPPED, PLEX_RETURNS_FULL}, "trap 3, CALL with 8 return labels"},
-    {{PLEX_WAS_CUT, 0}, "cut"},     {{PLEX_NOTHING_TO_CUT, 0}, "nothing to cut"},
+    {{PLEX_ARRIVED, 0}, "arrived"},
+    {{PLEX_LIST_FULL, 0}, "turned away, the list is full"},
+    {{PLEX_NO_WORK, 0}, "no work"},
+    {{PLEX_WAITING, 3}, "waiting for the lock of block 3"},
+    {{PLEX_STARTED, 0}, "started"},
+    {{PLEX_MOVED_ON, 0}, "moved on"},
+    {{PLEX_EXITED, 0}, "EXIT"},
+    {{PLEX_EXITED, 1}, "EXIT, 1 held signal lost"},
+    {{PLEX_EXITED, 4}, "EXIT, 4 held signals lost"},
+    {{PLEX_TRAPPED, PLEX_HELD_FULL}, "trap 6, SEND JOBTREE with 4 signals held"},
+    {{PLEX_TRAPPED, PLEX_RETURNS_FULL}, "trap 3, CALL with 8 return labels"},
+    {{PLEX_WAS_CUT, 0}, "cut"},
+    {{PLEX_NOTHING_TO_CUT, 0}, "nothing to cut"},
     {{11, 0}, "unknown"},
 };
 
@@ -68,13 +77,30 @@ static void try_events(void)
     expect(&cut, "cut of thread 0");
 }
 
-/* Every number of a refusal has a name, and no other. */
-static void try_refusals(void)
+/* A thread without signals that it holds, with some, and with more than it may hold. */
+static void try_threads(void)
 {
-    for (uint32_t number = 0; number <= PLEX_BAD_OUTPUT_LENGTH + 1; number++) {
-        int is_refusal = number >= PLEX_BAD_IMAGE_LENGTH && number <= PLEX_BAD_OUTPUT_LENGTH;
-        if ((strcmp(refusal_name(number), "unknown") != 0) != is_refusal) {
-            printf("words: refusal %u is '%s'\n", number, refusal_name(number));
+    uint8_t thread[PLEX_THREAD_SIZE] = {[PLEX_THREAD_LABEL] = 3, [PLEX_THREAD_LOCKS] = 5};
+    struct line free_handed = {0}, holding = {0}, too_many = {0};
+    add_thread(&free_handed, thread);
+    expect(&free_handed, "at label 3, locks 0 2, return labels none");
+    thread[PLEX_THREAD_HELD_COUNT] = 2;
+    put16(thread + PLEX_THREAD_HELD + PLEX_SIGNAL_LABEL, 7);
+    put16(thread + PLEX_THREAD_HELD + PLEX_SIGNAL_SIZE + PLEX_SIGNAL_LABEL, 511);
+    add_thread(&holding, thread);
+    expect(&holding, "at label 3, locks 0 2, return labels none, held labels 7 511");
+    thread[PLEX_THREAD_HELD_COUNT] = PLEX_HELD_MAX + 1;
+    add_thread(&too_many, thread);
+    expect(&too_many, "at label 3, locks 0 2, return labels none, held labels 7 511 0 0");
+}
+
+/* The numbers from 1 to the last have a name, and no others. */
+static void try_names(const char *what, const char *(*name_of)(uint32_t), uint32_t last)
+{
+    for (uint32_t number = 0; number <= last + 1; number++) {
+        int has_meaning = number >= 1 && number <= last;
+        if ((strcmp(name_of(number), "unknown") != 0) != has_meaning) {
+            printf("words: %s %u is '%s'\n", what, number, name_of(number));
             failed = 1;
         }
     }
@@ -83,11 +109,11 @@ static void try_refusals(void)
 /* Counts beyond every limit, and more words than a line has room for. */
 static void try_any_bytes(void)
 {
-    uint8_t bytes[PLEX_RECORD_SIZE];
+    uint8_t bytes[PLEX_THREAD_SIZE];
     struct line line = {0};
     memset(bytes, 255, sizeof bytes);
-    for (int i = 0; i < 10; i++) {
-        bytes[PLEX_RECORD_OPCODE] = (uint8_t)(PLEX_SKIP + i);
+    for (uint8_t opcode = PLEX_SKIP; opcode <= PLEX_SEND_TREE; opcode++) {
+        bytes[PLEX_RECORD_OPCODE] = opcode;
         add_statement(&line, bytes);
         add_thread(&line, bytes);
         add_registers(&line, bytes);
@@ -112,7 +138,10 @@ int main(void)
         expect(&line, answers[i].words);
     }
     try_events();
-    try_refusals();
+    try_threads();
+    try_names("opcode", opcode_name, PLEX_SEND_TREE);
+    try_names("trap", trap_name, PLEX_HELD_FULL);
+    try_names("refusal", refusal_name, PLEX_BAD_OUTPUT_LENGTH);
     try_any_bytes();
     return failed;
 }

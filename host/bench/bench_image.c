@@ -100,7 +100,7 @@ static void fill_image(uint8_t *image, size_t records, uint32_t blocks)
         uint8_t *record = image + PLEX_RECORD_SIZE * label;
         record[PLEX_RECORD_BLOCK] = (uint8_t)(label % builder.blocks);
         record[PLEX_RECORD_ENTRY] = (uint8_t)(label / builder.blocks % 4);
-        /* The first ten records have each opcode once, ASSIGN first. */
+        /* The first ten records have each opcode up to EXIT once, ASSIGN first. */
         uint32_t opcode = label < PLEX_EXIT ? (label + 1) % PLEX_EXIT + 1 : 1 + below(&builder, PLEX_EXIT);
         fill_record(&builder, record, opcode);
     }

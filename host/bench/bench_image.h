@@ -7,7 +7,7 @@
 
 /* Each writes a valid image of so many records. */
 
-/* Records 1, or a multiple of 16 up to 512. All ten opcodes (for 1 record,
+/* Records 1, or a multiple of 16 up to 512. The opcodes up to EXIT (for 1 record,
  * ASSIGN), with 0 to 25 data operands where an opcode carries data. */
 void bench_mixed_image(uint8_t *image, size_t records);
 

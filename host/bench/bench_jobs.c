@@ -5,8 +5,8 @@
 
 enum { ROUTINE = 16, ROUND = 16 };
 
-/* One routine; its blocks and labels are counted from its first. */
-static const struct statement routine[ROUTINE] = {
+/* One routine; its blocks and labels are counted from its first. Further records are EXIT. */
+static const struct statement routine[] = {
     {0, PLEX_EXTERNAL, PLEX_ASSIGN, PLEX_MULTIPLY, 1, 0, 3, {WORD(0), REGISTER(0), REGISTER(1)}},
     {0, PLEX_NO_ENTRY, PLEX_IF, PLEX_LESS, 2, 2, 2, {WORD(0), REGISTER(0)}},
     {0, PLEX_NO_ENTRY, PLEX_CALL, 0, 7, 3, 4, {REGISTER(0), REGISTER(1), WORD(0), NUMBER(7)}},
@@ -20,9 +20,19 @@ static const struct statement routine[ROUTINE] = {
     {1, PLEX_DIRECT, PLEX_RETURN, 0, 0, 0, 2, {REGISTER(0), REGISTER(1)}},
     {0, PLEX_BUFFERED, PLEX_ASSIGN, PLEX_COPY, 12, 0, 2, {WORD(2), REGISTER(0)}},
     {0, PLEX_NO_ENTRY, PLEX_EXIT, 0, 0, 0, 0, {NUMBER(0)}},
+};
+
+/* A job that founds two trees, and the job of such a tree; laid out as the routine above. */
+static const struct statement founder[] = {
+    {0, PLEX_EXTERNAL, PLEX_ASSIGN, PLEX_MULTIPLY, 1, 0, 3, {WORD(0), REGISTER(0), REGISTER(1)}},
+    {0, PLEX_NO_ENTRY, PLEX_IF, PLEX_LESS, 2, 2, 2, {WORD(0), REGISTER(0)}},
+    {0, PLEX_NO_ENTRY, PLEX_SEND_TREE, 0, 6, 3, 2, {REGISTER(0), REGISTER(1)}},
+    {0, PLEX_NO_ENTRY, PLEX_SEND_TREE, 0, 6, 4, 2, {REGISTER(2), WORD(0)}},
+    {0, PLEX_NO_ENTRY, PLEX_GOTO, 0, 5, 0, 0, {NUMBER(0)}},
     {0, PLEX_NO_ENTRY, PLEX_EXIT, 0, 0, 0, 0, {NUMBER(0)}},
-    {0, PLEX_NO_ENTRY, PLEX_EXIT, 0, 0, 0, 0, {NUMBER(0)}},
-    {0, PLEX_NO_ENTRY, PLEX_EXIT, 0, 0, 0, 0, {NUMBER(0)}},
+    {1, PLEX_BUFFERED, PLEX_ASSIGN, PLEX_COPY, 7, 0, 2, {WORD(2), REGISTER(0)}},
+    {1, PLEX_NO_ENTRY, PLEX_SKIP, 0, 8, 0, 0, {NUMBER(0)}},
+    {1, PLEX_NO_ENTRY, PLEX_EXIT, 0, 0, 0, 0, {NUMBER(0)}},
 };
 
 static bool uses_a(uint8_t opcode)
@@ -32,13 +42,14 @@ static bool uses_a(uint8_t opcode)
 
 static bool uses_b(uint8_t opcode)
 {
-    return opcode == PLEX_IF || opcode == PLEX_SEND_BUFFERED || opcode == PLEX_CALL;
+    return opcode == PLEX_IF || opcode == PLEX_SEND_BUFFERED || opcode == PLEX_CALL || opcode == PLEX_SEND_TREE;
 }
 
-void bench_job_image(uint8_t *image, size_t records)
+static void put_routines(uint8_t *image, size_t records, const struct statement *statements, size_t length)
 {
+    static const struct statement leave = {0, PLEX_NO_ENTRY, PLEX_EXIT, 0, 0, 0, 0, {NUMBER(0)}};
     for (size_t label = 0; label < records; label++) {
-        struct statement moved = routine[label % ROUTINE];
+        struct statement moved = label % ROUTINE < length ? statements[label % ROUTINE] : leave;
         uint16_t first = (uint16_t)(label - label % ROUTINE);
         moved.block = (uint8_t)((moved.block + first / ROUTINE * 2) % PLEX_BLOCKS);
         if (uses_a(moved.opcode))
@@ -47,6 +58,16 @@ void bench_job_image(uint8_t *image, size_t records)
             moved.b = (uint16_t)(moved.b + first);
         put_statement(image + PLEX_RECORD_SIZE * label, &moved);
     }
+}
+
+void bench_job_image(uint8_t *image, size_t records)
+{
+    put_routines(image, records, routine, sizeof routine / sizeof routine[0]);
+}
+
+void bench_founder_image(uint8_t *image, size_t records)
+{
+    put_routines(image, records, founder, sizeof founder / sizeof founder[0]);
 }
 
 void bench_job_table(uint8_t *table)

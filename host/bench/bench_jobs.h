@@ -8,11 +8,14 @@
 /* A multiple of 16 records, up to 512: routines of 16 records in two blocks each. */
 void bench_job_image(uint8_t *image, size_t records);
 
+/* As many: jobs that hold two signals at their EXIT, and the jobs of the trees that these found. */
+void bench_founder_image(uint8_t *image, size_t records);
+
 /* Two blocks a thread, all CMX. */
 void bench_job_table(uint8_t *table);
 
-/* For an image of bench_job_image. In every 16 events a job arrives, does each opcode and ends, as
- * does the job of the signal that it sends; from a fresh machine they leave no thread running and
+/* For an image of either. In every 16 events a job arrives, does each opcode of its routine and ends,
+ * as do the jobs of the signals that it sends; from a fresh machine they leave no thread running and
  * no tree, and the same words each time. A single event is a step without work. */
 void bench_job_events(uint8_t *events, size_t count, size_t records);
 

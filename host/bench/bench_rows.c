@@ -113,13 +113,25 @@ static void begin_state(void)
     by_plex = by_plain;
 }
 
+static void prepare_events(const struct bench_row *row)
+{
+    bench_job_table(work.table);
+    bench_job_events(work.events, row->events, row->records);
+    begin_state();
+}
+
 static void prepare_jobs(const struct bench_row *row)
 {
     begin(row);
     bench_job_image(work.image, row->records);
-    bench_job_table(work.table);
-    bench_job_events(work.events, row->events, row->records);
-    begin_state();
+    prepare_events(row);
+}
+
+static void prepare_founders(const struct bench_row *row)
+{
+    begin(row);
+    bench_founder_image(work.image, row->records);
+    prepare_events(row);
 }
 
 /* No thread waits. */
@@ -183,6 +195,7 @@ const struct bench_row bench_rows[] = {
     {"run, 512 records", 512, 64, FULL_RUN_PLOT, RUN},
     {"run, 512 records", 512, 256, FULL_RUN_PLOT, RUN},
     {"run, 512 records", 512, 1024, FULL_RUN_PLOT, RUN},
+    {"run, new trees", 16, 1024, NO_PLOT, prepare_founders, plex_run_call, plain_run_call},
 };
 const size_t bench_row_count = sizeof bench_rows / sizeof bench_rows[0];
 

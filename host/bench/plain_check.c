@@ -14,7 +14,7 @@ enum { USED = 0, UNUSED = 0xFF, BELOW_8 = 0xF8, BELOW_16 = 0xF0, BELOW_4 = 0xFC 
     }
 enum { ONLY_ZERO = 1 << 0, ONE_TO_FOUR = 0x1E, ONE_OR_TWO = 0x06 };
 
-const struct opcode_rule plain_opcode_rules[PLEX_EXIT + 1] = {
+const struct opcode_rule plain_opcode_rules[PLEX_SEND_TREE + 1] = {
     [0] = {ZERO_BITS(UNUSED, UNUSED, UNUSED), 0, 0, 0, 0, 0, 0},
     [PLEX_SKIP] = {ZERO_BITS(UNUSED, USED, UNUSED), BLOCK_BOUND, 0, 0, ONLY_ZERO, 0, 0},
     [PLEX_ASSIGN] = {ZERO_BITS(BELOW_8, USED, UNUSED), BLOCK_BOUND, 0, 0, ONE_TO_FOUR, 2, 1},
@@ -28,6 +28,8 @@ const struct opcode_rule plain_opcode_rules[PLEX_EXIT + 1] = {
     [PLEX_TRANSFER] = {ZERO_BITS(UNUSED, USED, UNUSED), BLOCK_BOUND | ENTRY_BOUND, AT_DIRECT, 0, ONLY_ZERO, 0,
                        PLEX_REGISTERS},
     [PLEX_EXIT] = {ZERO_BITS(UNUSED, UNUSED, UNUSED), 0, 0, 0, ONLY_ZERO, 0, 0},
+    [PLEX_SEND_TREE] = {ZERO_BITS(UNUSED, USED, USED), ENTRY_BOUND, AT_BUFFERED, BLOCK_BOUND, ONLY_ZERO, 0,
+                        PLEX_REGISTERS},
 };
 
 const uint8_t plain_zeros[PLEX_TREES_MAX * PLEX_TREE_SIZE];
@@ -105,7 +107,7 @@ static inline bool assign_holds(const uint8_t *record)
 static inline bool record_holds(const uint8_t *image, uint32_t records, const uint8_t *record)
 {
     uint32_t opcode = record[PLEX_RECORD_OPCODE];
-    const struct opcode_rule *rule = &plain_opcode_rules[opcode <= PLEX_EXIT ? opcode : 0];
+    const struct opcode_rule *rule = &plain_opcode_rules[opcode <= PLEX_SEND_TREE ? opcode : 0];
     return header_holds(record, rule) && labels_hold(image, records, record, rule) && operands_hold(record) &&
            (opcode != PLEX_ASSIGN || assign_holds(record));
 }

@@ -25,10 +25,25 @@ static inline void set_registers(const struct job *job, const uint8_t *values, u
     memcpy(job->bytes + PLEX_THREAD_VALUES, values, VALUES_SIZE);
 }
 
+/* Makes the signal the only one of a new tree at the list's end, on its block's thread; returns whether
+ * there was room. */
+static inline bool add_tree(const struct program *program, uint8_t *state, const uint8_t *signal)
+{
+    uint32_t count = state[PLEX_STATE_TREE_COUNT];
+    if (count == PLEX_TREES_MAX)
+        return false;
+    uint8_t *tree = state + PLEX_STATE_TREES + PLEX_TREE_SIZE * count;
+    memcpy(tree + PLEX_TREE_SIGNALS, signal, PLEX_SIGNAL_SIZE);
+    tree[PLEX_TREE_PENDING] = 1;
+    tree[PLEX_TREE_THREAD] = (uint8_t)thread_of_oldest(program, tree);
+    state[PLEX_STATE_TREE_COUNT] = (uint8_t)(count + 1);
+    return true;
+}
+
 /* One step of a running thread. */
 uint32_t plain_step(const struct job *job);
 
-/* Ends the job and hands the answer back. */
+/* Ends the job, drops the signals that it holds, and hands the answer back. */
 uint32_t plain_end_job(const struct job *job, uint32_t result);
 
 #endif

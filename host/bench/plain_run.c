@@ -24,18 +24,9 @@ static bool event_holds(const struct program *program, const uint8_t *event)
            all_zero(signal + PLEX_SIGNAL_VALUES + 2 * count, VALUES_SIZE - 2 * count);
 }
 
-/* An arrival's signal is the only one of a new tree at the list's end. */
 static uint32_t arrive(const struct program *program, uint8_t *state, const uint8_t *event)
 {
-    uint32_t count = state[PLEX_STATE_TREE_COUNT];
-    if (count == PLEX_TREES_MAX)
-        return answer(PLEX_LIST_FULL, 0);
-    uint8_t *tree = state + PLEX_STATE_TREES + PLEX_TREE_SIZE * count;
-    memcpy(tree + PLEX_TREE_SIGNALS, event + PLEX_EVENT_SIGNAL, PLEX_SIGNAL_SIZE);
-    tree[PLEX_TREE_PENDING] = 1;
-    tree[PLEX_TREE_THREAD] = (uint8_t)thread_of_oldest(program, tree);
-    state[PLEX_STATE_TREE_COUNT] = (uint8_t)(count + 1);
-    return answer(PLEX_ARRIVED, 0);
+    return answer(add_tree(program, state, event + PLEX_EVENT_SIGNAL) ? PLEX_ARRIVED : PLEX_LIST_FULL, 0);
 }
 
 /* An idle thread starts its first tree's oldest signal, or waits for its lock. */

@@ -30,6 +30,32 @@ static bool registers_well_formed(const uint8_t *thread_bytes)
     return presence <= first_registers(PLEX_REGISTERS) && (stored & ~presence) == 0;
 }
 
+/* A pending signal may have arrived or been sent; a held one was sent. */
+enum { AT_PENDING = 1 << PLEX_BUFFERED | 1 << PLEX_EXTERNAL, AT_HELD = 1 << PLEX_BUFFERED };
+
+/* Its entry is in the set, bit e for entry e. */
+static bool signal_well_formed(const struct program *program, const uint8_t *signal, uint32_t entries)
+{
+    uint32_t label = get16(signal + PLEX_SIGNAL_LABEL);
+    uint32_t count = signal[PLEX_SIGNAL_COUNT];
+    if (label >= program->records || count > PLEX_REGISTERS)
+        return false;
+    uint32_t entry = record_at(program->image, label)[PLEX_RECORD_ENTRY];
+    return (entries >> entry & 1) && all_zero(signal + PLEX_SIGNAL_VALUES + 2 * count, VALUES_SIZE - 2 * count);
+}
+
+/* So many signals, and zero bytes in the other places. */
+static bool signals_well_formed(const struct program *program, const uint8_t *signal, uint32_t count, uint32_t places,
+                                uint32_t entries)
+{
+    if (count > places)
+        return false;
+    for (uint32_t i = 0; i < count; i++, signal += PLEX_SIGNAL_SIZE)
+        if (!signal_well_formed(program, signal, entries))
+            return false;
+    return all_zero(signal, PLEX_SIGNAL_SIZE * (places - count));
+}
+
 static bool thread_well_formed(const struct program *program, const uint8_t *state, uint32_t thread)
 {
     const uint8_t *bytes = thread_at(state, thread);
@@ -38,7 +64,8 @@ static bool thread_well_formed(const struct program *program, const uint8_t *sta
     uint32_t returns = bytes[PLEX_THREAD_RETURN_COUNT];
     return returns <= PLEX_RETURNS_MAX &&
            all_zero(bytes + PLEX_THREAD_RETURNS + 2 * returns, 2 * (PLEX_RETURNS_MAX - returns)) &&
-           registers_well_formed(bytes) && labels_well_formed(program, bytes, thread);
+           registers_well_formed(bytes) && labels_well_formed(program, bytes, thread) &&
+           signals_well_formed(program, held_at(bytes, 0), bytes[PLEX_THREAD_HELD_COUNT], PLEX_HELD_MAX, AT_HELD);
 }
 
 /* Also that no lock is in two sets; notes in running which threads are not idle. */
@@ -57,28 +84,11 @@ static bool threads_well_formed(const struct program *program, const uint8_t *st
     return true;
 }
 
-static bool signal_well_formed(const struct program *program, const uint8_t *signal)
-{
-    uint32_t label = get16(signal + PLEX_SIGNAL_LABEL);
-    uint32_t count = signal[PLEX_SIGNAL_COUNT];
-    if (label >= program->records || count > PLEX_REGISTERS)
-        return false;
-    uint32_t entry = record_at(program->image, label)[PLEX_RECORD_ENTRY];
-    return (entry == PLEX_BUFFERED || entry == PLEX_EXTERNAL) &&
-           all_zero(signal + PLEX_SIGNAL_VALUES + 2 * count, VALUES_SIZE - 2 * count);
-}
-
 /* A tree by itself: counts, thread number, signals, and zero bytes after them. */
 static bool tree_well_formed(const struct program *program, const uint8_t *tree)
 {
-    uint32_t pending = tree[PLEX_TREE_PENDING];
-    if (tree[PLEX_TREE_THREAD] >= PLEX_THREADS || pending > PLEX_PENDING_MAX)
-        return false;
-    const uint8_t *signal = tree + PLEX_TREE_SIGNALS;
-    for (uint32_t i = 0; i < pending; i++, signal += PLEX_SIGNAL_SIZE)
-        if (!signal_well_formed(program, signal))
-            return false;
-    return all_zero(signal, PLEX_SIGNAL_SIZE * (PLEX_PENDING_MAX - pending));
+    return tree[PLEX_TREE_THREAD] < PLEX_THREADS &&
+           signals_well_formed(program, signal_at(tree, 0), tree[PLEX_TREE_PENDING], PLEX_PENDING_MAX, AT_PENDING);
 }
 
 /* Every running thread has a tree; only its first may be empty or away from the

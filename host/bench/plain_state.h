@@ -4,7 +4,7 @@
 
 #include "plain_program.h"
 
-/* Given 7,929 bytes and a checked program. */
+/* Given 9,633 bytes and a checked program. */
 bool plain_state_well_formed(const struct program *program, const uint8_t *state);
 
 /* Given a tree with a pending signal. */

@@ -28,12 +28,33 @@ static void retire_tree(const struct job *job)
     last[PLEX_TREE_THREAD] = (uint8_t)thread_of_oldest(job->program, last);
 }
 
+/* Where nothing is held, of the held signals the count alone is read; the places past it are zero. */
+static void make_idle(const struct job *job)
+{
+    uint32_t held = job->bytes[PLEX_THREAD_HELD_COUNT];
+    memset(job->bytes, 0, PLEX_THREAD_HELD_COUNT);
+    put16(job->bytes + PLEX_THREAD_LABEL, PLEX_IDLE);
+    if (held != 0)
+        memset(job->bytes + PLEX_THREAD_HELD_COUNT, 0,
+               PLEX_THREAD_HELD - PLEX_THREAD_HELD_COUNT + PLEX_SIGNAL_SIZE * held);
+}
+
 uint32_t plain_end_job(const struct job *job, uint32_t result)
 {
-    memset(job->bytes, 0, PLEX_THREAD_SIZE);
-    put16(job->bytes + PLEX_THREAD_LABEL, PLEX_IDLE);
     retire_tree(job);
+    make_idle(job);
     return result;
+}
+
+/* EXIT: once the job's own tree is settled, each held signal founds a tree, or is lost for want of room. */
+static uint32_t leave(const struct job *job)
+{
+    uint32_t held = job->bytes[PLEX_THREAD_HELD_COUNT], lost = 0;
+    retire_tree(job);
+    for (uint32_t i = 0; i < held; i++)
+        lost += !add_tree(job->program, job->state, held_at(job->bytes, i));
+    make_idle(job);
+    return answer(PLEX_EXITED, lost);
 }
 
 static uint32_t trap(const struct job *job, uint32_t reason)
@@ -102,6 +123,13 @@ static uint32_t send_direct_or_call(const struct job *job, const uint8_t *record
     return move_on(job, label);
 }
 
+static void put_signal(uint8_t *signal, const uint8_t *record, const uint8_t *data)
+{
+    put16(signal + PLEX_SIGNAL_LABEL, get16(record + PLEX_RECORD_A));
+    signal[PLEX_SIGNAL_COUNT] = record[PLEX_RECORD_COUNT];
+    memcpy(signal + PLEX_SIGNAL_VALUES, data, VALUES_SIZE);
+}
+
 static uint32_t send_buffered(const struct job *job, const uint8_t *record)
 {
     uint8_t data[VALUES_SIZE] = {0};
@@ -112,11 +140,22 @@ static uint32_t send_buffered(const struct job *job, const uint8_t *record)
     uint32_t pending = tree[PLEX_TREE_PENDING];
     if (pending == PLEX_PENDING_MAX)
         return trap(job, PLEX_PENDING_FULL);
-    uint8_t *signal = tree + PLEX_TREE_SIGNALS + PLEX_SIGNAL_SIZE * pending;
-    put16(signal + PLEX_SIGNAL_LABEL, get16(record + PLEX_RECORD_A));
-    signal[PLEX_SIGNAL_COUNT] = record[PLEX_RECORD_COUNT];
-    memcpy(signal + PLEX_SIGNAL_VALUES, data, VALUES_SIZE);
+    put_signal(tree + PLEX_TREE_SIGNALS + PLEX_SIGNAL_SIZE * pending, record, data);
     tree[PLEX_TREE_PENDING] = (uint8_t)(pending + 1);
+    return move_on(job, get16(record + PLEX_RECORD_B));
+}
+
+/* SEND JOBTREE: the job holds the signal until it ends. */
+static uint32_t send_tree(const struct job *job, const uint8_t *record)
+{
+    uint8_t data[VALUES_SIZE] = {0};
+    if (!read_data(job->state, job->bytes, record, data))
+        return trap(job, PLEX_ABSENT_REGISTER);
+    uint32_t held = job->bytes[PLEX_THREAD_HELD_COUNT];
+    if (held == PLEX_HELD_MAX)
+        return trap(job, PLEX_HELD_FULL);
+    put_signal(job->bytes + PLEX_THREAD_HELD + PLEX_SIGNAL_SIZE * held, record, data);
+    job->bytes[PLEX_THREAD_HELD_COUNT] = (uint8_t)(held + 1);
     return move_on(job, get16(record + PLEX_RECORD_B));
 }
 
@@ -168,7 +207,9 @@ uint32_t plain_step(const struct job *job)
     case PLEX_TRANSFER:
         return transfer(job, record);
     case PLEX_EXIT:
-        return plain_end_job(job, answer(PLEX_EXITED, 0));
+        return leave(job);
+    case PLEX_SEND_TREE:
+        return send_tree(job, record);
     default:
         return move_on(job, get16(record + PLEX_RECORD_A));
     }

@@ -21,6 +21,7 @@ static const struct opcode_rule {
     [PLEX_RETURN] = {.most = PLEX_REGISTERS},
     [PLEX_TRANSFER] = {.a = INSIDE, .entry_at_a = PLEX_DIRECT, .most = PLEX_REGISTERS},
     [PLEX_EXIT] = {.a = UNUSED},
+    [PLEX_SEND_TREE] = {.a = SIGNAL, .b = INSIDE, .entry_at_a = PLEX_BUFFERED, .most = PLEX_REGISTERS},
 };
 
 bool is_zero(const uint8_t *part, size_t size)
@@ -43,8 +44,8 @@ void explain_row(struct line *why, const uint8_t *table, uint32_t block)
 static void explain_head(struct line *why, const uint8_t *record)
 {
     uint32_t opcode = record[PLEX_RECORD_OPCODE];
-    if (opcode < PLEX_SKIP || opcode > PLEX_EXIT)
-        add(why, "opcode %u is none of %d to %d", opcode, PLEX_SKIP, PLEX_EXIT);
+    if (opcode < PLEX_SKIP || opcode > PLEX_SEND_TREE)
+        add(why, "opcode %u is none of %d to %d", opcode, PLEX_SKIP, PLEX_SEND_TREE);
     else if (record[PLEX_RECORD_BLOCK] >= PLEX_BLOCKS)
         add(why, "its block is %u, and blocks are 0 to %d", record[PLEX_RECORD_BLOCK], PLEX_BLOCKS - 1);
     else if (record[PLEX_RECORD_ENTRY] > PLEX_EXTERNAL)

@@ -38,6 +38,54 @@ static void explain_registers(struct line *why, const uint8_t *bytes, uint32_t t
             add(why, "absent register %u of thread %u is not 0", r, thread);
 }
 
+static void explain_signal(struct line *why, const struct seen *seen, const uint8_t *signal, bool is_held)
+{
+    uint32_t label = get16(signal + PLEX_SIGNAL_LABEL);
+    if (label >= seen->records) {
+        add(why, "its label is %u, and the image's labels are below %u", label, seen->records);
+        return;
+    }
+    uint32_t entry = record_at(seen->image, label)[PLEX_RECORD_ENTRY];
+    if (entry != PLEX_BUFFERED && (is_held || entry != PLEX_EXTERNAL))
+        add(why, "its label is %u, whose entry is %s, and not buffered%s", label, entry_name(entry),
+            is_held ? "" : " or external");
+    else
+        explain_values(why, signal);
+}
+
+/* Signals that a thread holds, or that a tree has pending: so many, of so many places. */
+struct signals {
+    const uint8_t *first;
+    uint32_t count, places;
+    bool are_held;
+    uint32_t owner; /* the number of the thread or the tree */
+};
+
+static void explain_signals(struct line *why, const struct seen *seen, const struct signals *signals)
+{
+    const char *kind = signals->are_held ? "held signal" : "signal", *owners = signals->are_held ? "thread" : "tree";
+    const uint8_t *signal = signals->first;
+    for (uint32_t i = 0; i < signals->count && why->length == 0; i++, signal += PLEX_SIGNAL_SIZE) {
+        struct line fault = {0};
+        explain_signal(&fault, seen, signal, signals->are_held);
+        if (fault.length != 0)
+            add(why, "%s %u of %s %u: %s", kind, i, owners, signals->owner, fault.text);
+    }
+    if (why->length == 0 && !is_zero(signal, PLEX_SIGNAL_SIZE * (signals->places - signals->count)))
+        add(why, "a byte after the last %s of %s %u is not 0", kind, owners, signals->owner);
+}
+
+static void explain_held(struct line *why, const struct seen *seen, uint32_t thread)
+{
+    const uint8_t *bytes = thread_at(seen->state, thread);
+    uint32_t held = bytes[PLEX_THREAD_HELD_COUNT];
+    struct signals signals = {held_at(bytes, 0), held, PLEX_HELD_MAX, true, thread};
+    if (held > PLEX_HELD_MAX)
+        add(why, "thread %u holds %u signals, and a thread holds at most %d", thread, held, PLEX_HELD_MAX);
+    else
+        explain_signals(why, seen, &signals);
+}
+
 static void explain_running(struct line *why, const struct seen *seen, uint32_t thread)
 {
     const uint8_t *bytes = thread_at(seen->state, thread);
@@ -56,6 +104,16 @@ static void explain_running(struct line *why, const struct seen *seen, uint32_t 
     }
     if (why->length == 0)
         explain_registers(why, bytes, thread);
+    if (why->length == 0)
+        explain_held(why, seen, thread);
+}
+
+static void explain_idle(struct line *why, const uint8_t *bytes, uint32_t thread)
+{
+    if (!is_zero(bytes + PLEX_THREAD_LOCKS, PLEX_THREAD_HELD_COUNT - PLEX_THREAD_LOCKS))
+        add(why, "thread %u is idle, and its other fields are not all 0", thread);
+    else if (!is_zero(bytes + PLEX_THREAD_HELD_COUNT, PLEX_THREAD_SIZE - PLEX_THREAD_HELD_COUNT))
+        add(why, "thread %u is idle, and its held signals are not all 0", thread);
 }
 
 static void explain_thread(struct line *why, const struct seen *seen, uint32_t thread)
@@ -64,25 +122,11 @@ static void explain_thread(struct line *why, const struct seen *seen, uint32_t t
     uint32_t locks = get16(bytes + PLEX_THREAD_LOCKS);
     if (is_running(seen, thread))
         explain_running(why, seen, thread);
-    else if (!is_zero(bytes + PLEX_THREAD_LOCKS, PLEX_THREAD_SIZE - PLEX_THREAD_LOCKS))
-        add(why, "thread %u is idle, and its other fields are not all 0", thread);
+    else
+        explain_idle(why, bytes, thread);
     for (uint32_t other = 0; other < thread && why->length == 0; other++)
         if (locks & get16(thread_at(seen->state, other) + PLEX_THREAD_LOCKS))
             add(why, "threads %u and %u hold the same lock", other, thread);
-}
-
-static void explain_signal(struct line *why, const struct seen *seen, const uint8_t *signal)
-{
-    uint32_t label = get16(signal + PLEX_SIGNAL_LABEL);
-    if (label >= seen->records) {
-        add(why, "its label is %u, and the image's labels are below %u", label, seen->records);
-        return;
-    }
-    uint32_t entry = record_at(seen->image, label)[PLEX_RECORD_ENTRY];
-    if (entry != PLEX_BUFFERED && entry != PLEX_EXTERNAL)
-        add(why, "its label is %u, whose entry is %s, and not buffered or external", label, entry_name(entry));
-    else
-        explain_values(why, signal);
 }
 
 /* A tree by itself. */
@@ -90,21 +134,13 @@ static void explain_tree(struct line *why, const struct seen *seen, uint32_t tre
 {
     const uint8_t *bytes = tree_at(seen->state, tree);
     uint32_t pending = bytes[PLEX_TREE_PENDING];
-    if (bytes[PLEX_TREE_THREAD] >= PLEX_THREADS) {
+    struct signals signals = {signal_at(bytes, 0), pending, PLEX_PENDING_MAX, false, tree};
+    if (bytes[PLEX_TREE_THREAD] >= PLEX_THREADS)
         add(why, "tree %u has thread %u, and threads are 0 to %d", tree, bytes[PLEX_TREE_THREAD], PLEX_THREADS - 1);
-    } else if (pending > PLEX_PENDING_MAX) {
+    else if (pending > PLEX_PENDING_MAX)
         add(why, "tree %u has %u pending signals, and a tree has at most %d", tree, pending, PLEX_PENDING_MAX);
-    } else {
-        struct line fault = {0};
-        for (uint32_t i = 0; i < pending && why->length == 0; i++) {
-            explain_signal(&fault, seen, signal_at(bytes, i));
-            if (fault.length != 0)
-                add(why, "signal %u of tree %u: %s", i, tree, fault.text);
-        }
-        size_t unused = PLEX_SIGNAL_SIZE * (PLEX_PENDING_MAX - pending);
-        if (why->length == 0 && !is_zero(signal_at(bytes, pending), unused))
-            add(why, "a byte after the last signal of tree %u is not 0", tree);
-    }
+    else
+        explain_signals(why, seen, &signals);
 }
 
 /* A tree's place in the queue of its thread, given that the tree by itself is well formed. */

@@ -40,8 +40,9 @@ static const struct part {
      "come. The files named by --out and --answers are put in place only after every event was\n"
      "carried out and the summary printed, both or none.\n"},
     {"state", state_command, "[IMAGE TABLE] STATE",
-     "Shows a state: threads, locks held, queues, trees with their pending signals, and the\n"
-     "shared words that are not 0. With its image and table, says whether it is well formed.\n"},
+     "Shows a state: threads with their held signals, locks held, queues, trees with their pending\n"
+     "signals, and the shared words that are not 0. With its image and table, says whether it is\n"
+     "well formed.\n"},
     {"waits", waits_command, "IMAGE TABLE STATE [--dot|--svg FILE]",
      "Says which thread waits for which, and where a ring closes; the status is then 3.\n"
      "\n"
@@ -55,7 +56,7 @@ static const char common[] =
     "files alone. --quiet prints nothing but what goes wrong.\n"
     "\n"
     "An image is 84 bytes a record, 1 to 512 records; a block table 32 bytes; initial words 512\n"
-    "bytes; a state 7,929 bytes; an event 55 bytes; an answer 2 bytes.\n";
+    "bytes; a state 9,633 bytes; an event 55 bytes; an answer 2 bytes.\n";
 
 static void print_help(void)
 {

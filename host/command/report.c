@@ -61,7 +61,7 @@ static void report_length(const struct file *file, size_t limit, const char *exp
 bool is_state_long(const struct file *state)
 {
     if (state->size != PLEX_STATE_SIZE)
-        report_length(state, PLEX_STATE_SIZE, "a state is 7,929 bytes");
+        report_length(state, PLEX_STATE_SIZE, "a state is 9,633 bytes");
     return state->size == PLEX_STATE_SIZE;
 }
 

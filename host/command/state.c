@@ -12,6 +12,15 @@ static bool is_idle(const uint8_t *thread)
     return get16(thread + PLEX_THREAD_LABEL) == PLEX_IDLE;
 }
 
+static void print_signals(const char *before, const uint8_t *signals, uint32_t count)
+{
+    for (uint32_t i = 0; i < count; i++) {
+        struct line line = {0};
+        add_signal(&line, signals + PLEX_SIGNAL_SIZE * i);
+        print("    %s%s\n", before, line.text);
+    }
+}
+
 static void print_threads(const uint8_t *state)
 {
     print_heading("threads");
@@ -22,6 +31,7 @@ static void print_threads(const uint8_t *state)
         add_registers(&registers, bytes);
         print("  %u  %s", thread, where.text);
         print(is_idle(bytes) ? "\n" : ", registers %s\n", registers.text);
+        print_signals("held ", held_at(bytes, 0), at_most(bytes[PLEX_THREAD_HELD_COUNT], PLEX_HELD_MAX));
     }
 }
 
@@ -41,8 +51,7 @@ static void print_locks(const uint8_t *state)
 
 static uint32_t listed_trees(const uint8_t *state)
 {
-    uint32_t count = state[PLEX_STATE_TREE_COUNT];
-    return count < PLEX_TREES_MAX ? count : PLEX_TREES_MAX;
+    return at_most(state[PLEX_STATE_TREE_COUNT], PLEX_TREES_MAX);
 }
 
 static void print_queue(const uint8_t *state, uint32_t thread)
@@ -66,13 +75,8 @@ static void print_trees(const uint8_t *state)
     print("%strees%s: %u\n", colour_on(stdout, BOLD), colour_off(stdout), state[PLEX_STATE_TREE_COUNT]);
     for (uint32_t tree = 0; tree < listed_trees(state); tree++) {
         const uint8_t *bytes = tree_at(state, tree);
-        uint32_t pending = bytes[PLEX_TREE_PENDING];
-        print("  tree %u on thread %u, %u pending\n", tree, bytes[PLEX_TREE_THREAD], pending);
-        for (uint32_t i = 0; i < pending && i < PLEX_PENDING_MAX; i++) {
-            struct line line = {0};
-            add_signal(&line, signal_at(bytes, i));
-            print("    %s\n", line.text);
-        }
+        print("  tree %u on thread %u, %u pending\n", tree, bytes[PLEX_TREE_THREAD], bytes[PLEX_TREE_PENDING]);
+        print_signals("", signal_at(bytes, 0), at_most(bytes[PLEX_TREE_PENDING], PLEX_PENDING_MAX));
     }
 }
 

@@ -10,15 +10,18 @@ void count_answer(struct tally *tally, const uint8_t *answer)
     tally->codes[answer[PLEX_ANSWER_CODE]]++;
     if (answer[PLEX_ANSWER_CODE] == PLEX_TRAPPED)
         tally->traps[answer[PLEX_ANSWER_DETAIL]]++;
+    if (answer[PLEX_ANSWER_CODE] == PLEX_EXITED)
+        tally->lost += answer[PLEX_ANSWER_DETAIL];
 }
 
-static enum colour colour_of(uint32_t code)
+static enum colour colour_of(const uint8_t *answer)
 {
-    switch (code) {
+    switch (answer[PLEX_ANSWER_CODE]) {
     case PLEX_ARRIVED:
     case PLEX_STARTED:
-    case PLEX_EXITED:
         return GREEN;
+    case PLEX_EXITED:
+        return answer[PLEX_ANSWER_DETAIL] == 0 ? GREEN : YELLOW;
     case PLEX_TRAPPED:
     case PLEX_WAS_CUT:
         return RED;
@@ -42,7 +45,7 @@ static void add_carried_out(struct line *line, const uint8_t *image, const uint8
 void print_traced(uint64_t index, const uint8_t *image, const uint8_t *event, const uint8_t *answer,
                   const uint8_t *before, const uint8_t *after)
 {
-    uint32_t code = answer[PLEX_ANSWER_CODE], thread = event[PLEX_EVENT_THREAD];
+    uint32_t thread = event[PLEX_EVENT_THREAD];
     struct line what = {0}, said = {0}, where = {0};
     add_event(&what, event);
     add_answer(&said, answer);
@@ -50,7 +53,7 @@ void print_traced(uint64_t index, const uint8_t *image, const uint8_t *event, co
         add_carried_out(&what, image, thread_at(before, thread));
         add_thread(&where, thread_at(after, thread));
     }
-    print("%8" PRIu64 "  %-64s  %s%s%s", index, what.text, colour_on(stdout, colour_of(code)), said.text,
+    print("%8" PRIu64 "  %-64s  %s%s%s", index, what.text, colour_on(stdout, colour_of(answer)), said.text,
           colour_off(stdout));
     print(where.length == 0 ? "\n" : "; %s\n", where.text);
 }
@@ -76,6 +79,8 @@ void print_summary(const struct tally *tally, const uint8_t *state)
     for (uint32_t reason = 0; reason < 256; reason++)
         if (tally->traps[reason] != 0)
             print("  %10" PRIu64 "  of the traps: %u, %s\n", tally->traps[reason], reason, trap_name(reason));
+    if (tally->lost != 0)
+        print("  %10" PRIu64 "  held %s lost at EXIT\n", tally->lost, tally->lost == 1 ? "signal" : "signals");
     uint32_t trees = state[PLEX_STATE_TREE_COUNT];
     print("%u %s live; ", trees, trees == 1 ? "tree" : "trees");
     print_running(state);

@@ -4,9 +4,9 @@
 
 #include "fields.h"
 
-/* How often each code and each trap was answered. */
+/* How often each code and each trap was answered, and how many held signals EXIT has lost. */
 struct tally {
-    uint64_t events, calls, codes[256], traps[256];
+    uint64_t events, calls, codes[256], traps[256], lost;
 };
 
 void count_answer(struct tally *tally, const uint8_t *answer);

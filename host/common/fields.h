@@ -26,6 +26,12 @@ static inline void put32(uint8_t *at, uint32_t value)
     put16(at + 2, value >> 16);
 }
 
+/* A count byte, but no more than there is room for in the bytes that follow it. */
+static inline uint32_t at_most(uint8_t count, uint32_t limit)
+{
+    return count < limit ? count : limit;
+}
+
 static inline const uint8_t *record_at(const uint8_t *image, uint32_t label)
 {
     return image + PLEX_RECORD_SIZE * label;
@@ -63,6 +69,11 @@ static inline const uint8_t *thread_at(const uint8_t *state, uint32_t thread)
 static inline const uint8_t *tree_at(const uint8_t *state, uint32_t tree)
 {
     return state + PLEX_STATE_TREES + PLEX_TREE_SIZE * tree;
+}
+
+static inline const uint8_t *held_at(const uint8_t *thread, uint32_t index)
+{
+    return thread + PLEX_THREAD_HELD + PLEX_SIGNAL_SIZE * index;
 }
 
 static inline const uint8_t *signal_at(const uint8_t *tree, uint32_t index)

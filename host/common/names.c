@@ -12,7 +12,7 @@ static const char *const opcodes[] = {
     [PLEX_SKIP] = "SKIP", [PLEX_ASSIGN] = "ASSIGN",           [PLEX_GOTO] = "GOTO",
     [PLEX_IF] = "IF",     [PLEX_SEND_DIRECT] = "SEND direct", [PLEX_SEND_BUFFERED] = "SEND buffered",
     [PLEX_CALL] = "CALL", [PLEX_RETURN] = "RETURN",           [PLEX_TRANSFER] = "TRANSFER",
-    [PLEX_EXIT] = "EXIT"};
+    [PLEX_EXIT] = "EXIT", [PLEX_SEND_TREE] = "SEND JOBTREE"};
 
 static const char *const assign_operators[] = {
     [PLEX_COPY] = "copy", [PLEX_ADD] = "+", [PLEX_SUBTRACT] = "-", [PLEX_MULTIPLY] = "*"};
@@ -36,13 +36,14 @@ static const char *const traps[] = {[PLEX_ABSENT_REGISTER] = "an absent register
                                     [PLEX_NO_RETURN_LABEL] = "RETURN with no return label",
                                     [PLEX_RETURNS_FULL] = "CALL with 8 return labels",
                                     [PLEX_PENDING_FULL] = "buffered SEND with 8 signals pending in the job's own tree",
+                                    [PLEX_HELD_FULL] = "SEND JOBTREE with 4 signals held",
                                     [PLEX_FOREIGN_FD_BLOCK] = "direct SEND or CALL to an FD block of another thread"};
 
 static const char *const refusals[] = {[PLEX_BAD_IMAGE_LENGTH] = "the image's length is not 84 x n, n 1 to 512",
                                        [PLEX_BAD_TABLE_LENGTH] = "the table is not 32 bytes",
                                        [PLEX_BAD_TABLE_FIELD] = "a field of the table is out of range",
                                        [PLEX_BAD_RECORD] = "a record breaks a rule",
-                                       [PLEX_BAD_STATE_LENGTH] = "the state is not 7,929 bytes",
+                                       [PLEX_BAD_STATE_LENGTH] = "the state is not 9,633 bytes",
                                        [PLEX_BAD_STATE] = "the state is not well formed",
                                        [PLEX_BAD_EVENTS_LENGTH] = "the events are not 55 x m bytes, m 0 to 1,024",
                                        [PLEX_BAD_EVENT] = "an event breaks a rule",

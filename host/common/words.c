@@ -15,12 +15,6 @@ void add(struct line *line, const char *format, ...)
         line->length += (size_t)wanted < room ? (size_t)wanted : room - 1;
 }
 
-/* A count byte, but no more than there is room for in the bytes that follow it. */
-static uint32_t at_most(uint8_t count, uint32_t limit)
-{
-    return count < limit ? count : limit;
-}
-
 static void add_operand(struct line *line, const uint8_t *operand)
 {
     uint32_t value = get16(operand + PLEX_OPERAND_VALUE);
@@ -39,7 +33,7 @@ static void add_operand(struct line *line, const uint8_t *operand)
     }
 }
 
-/* The data of opcodes 5 to 9. */
+/* The data of a statement that sends or returns. */
 static void add_data(struct line *line, const uint8_t *record)
 {
     uint32_t count = at_most(record[PLEX_RECORD_COUNT], PLEX_REGISTERS);
@@ -84,7 +78,7 @@ static void add_signalling(struct line *line, const uint8_t *record)
     if (opcode != PLEX_RETURN)
         add(line, " to %u", get16(record + PLEX_RECORD_A));
     add_data(line, record);
-    if (opcode == PLEX_SEND_BUFFERED)
+    if (opcode == PLEX_SEND_BUFFERED || opcode == PLEX_SEND_TREE)
         add(line, ", on to %u", get16(record + PLEX_RECORD_B));
     if (opcode == PLEX_CALL)
         add(line, ", return to %u", get16(record + PLEX_RECORD_B));
@@ -111,6 +105,7 @@ void add_statement(struct line *line, const uint8_t *record)
     case PLEX_CALL:
     case PLEX_RETURN:
     case PLEX_TRANSFER:
+    case PLEX_SEND_TREE:
         add_signalling(line, record);
         break;
     case PLEX_EXIT:
@@ -159,6 +154,8 @@ void add_answer(struct line *line, const uint8_t *answer)
         add(line, " for the lock of block %u", detail);
     if (code == PLEX_TRAPPED)
         add(line, " %u, %s", detail, trap_name(detail));
+    if (code == PLEX_EXITED && detail != 0)
+        add(line, ", %u held %s lost", detail, detail == 1 ? "signal" : "signals");
 }
 
 static void add_locks(struct line *line, uint32_t locks)
@@ -173,6 +170,7 @@ void add_thread(struct line *line, const uint8_t *thread)
 {
     uint32_t label = get16(thread + PLEX_THREAD_LABEL);
     uint32_t returns = at_most(thread[PLEX_THREAD_RETURN_COUNT], PLEX_RETURNS_MAX);
+    uint32_t held = at_most(thread[PLEX_THREAD_HELD_COUNT], PLEX_HELD_MAX);
     if (label == PLEX_IDLE)
         add(line, "idle");
     else
@@ -182,6 +180,9 @@ void add_thread(struct line *line, const uint8_t *thread)
     add(line, ", return labels%s", returns == 0 ? " none" : "");
     for (uint32_t i = 0; i < returns; i++)
         add(line, " %u", get16(thread + PLEX_THREAD_RETURNS + 2 * i));
+    add(line, held == 0 ? "" : ", held labels");
+    for (uint32_t i = 0; i < held; i++)
+        add(line, " %u", get16(held_at(thread, i) + PLEX_SIGNAL_LABEL));
 }
 
 void add_registers(struct line *line, const uint8_t *thread)

@@ -22,10 +22,11 @@ void add_record(struct line *line, const uint8_t *image, uint32_t label);
 /* As "arrival at 0 WITH 25" or "step of thread 3". */
 void add_event(struct line *line, const uint8_t *event);
 
-/* As "waiting for the lock of block 3". */
+/* As "waiting for the lock of block 3" or "EXIT, 2 held signals lost". */
 void add_answer(struct line *line, const uint8_t *answer);
 
-/* As "at label 3, locks 0 1, return labels 1"; an idle thread is "idle" in place of "at". */
+/* As "at label 3, locks 0 1, return labels 1"; an idle thread is "idle" in place of "at". If it holds
+ * signals, ", held labels 4 5" follows. */
 void add_thread(struct line *line, const uint8_t *thread);
 
 /* As "r0=25 r2=7", or "none". */

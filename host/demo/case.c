@@ -22,10 +22,13 @@ static const struct statement program[CASE_RECORDS] = {
     {NORTH_CHARGING, PLEX_DIRECT, PLEX_RETURN, 0, 0, 0, 1, {WORD(0)}},
 };
 
-/* East's guest adds up what it is sent. */
+/* East's guest adds up what it is sent. Its ledger keeps the sum, in a job of a tree of its own. */
 static const struct statement east_program[EAST_RECORDS] = {
     {EAST_GUEST, PLEX_EXTERNAL, PLEX_ASSIGN, PLEX_ADD, 1, 0, 3, {WORD(0), WORD(0), REGISTER(0)}},
+    {EAST_GUEST, PLEX_NO_ENTRY, PLEX_SEND_TREE, 0, 3, 2, 1, {WORD(0)}},
     {EAST_GUEST, PLEX_NO_ENTRY, PLEX_EXIT, 0, 0, 0, 0, {NUMBER(0)}},
+    {EAST_LEDGER, PLEX_BUFFERED, PLEX_ASSIGN, PLEX_COPY, 4, 0, 2, {WORD(0), REGISTER(0)}},
+    {EAST_LEDGER, PLEX_NO_ENTRY, PLEX_EXIT, 0, 0, 0, 0, {NUMBER(0)}},
 };
 
 static const struct {
@@ -36,10 +39,14 @@ static const struct {
     [NORTH_GUEST] = {"North's guest", 0, 0}, [NORTH_CHARGING] = {"North's charging", 0, 120},
     [TARIFFS] = {"the tariffs", 0, 0},       [SOUTH_GUEST] = {"South's guest", 0, 75},
     [AUDIT] = {"the audit", 1, 0},           [EAST_GUEST] = {"East's guest", 2, 0},
+    [EAST_LEDGER] = {"East's ledger", 3, 0},
 };
 
 /* The thread of each step after the case's three arrivals. */
 static const uint8_t stepped[] = {0, 0, 1, 1, 0, 0, 1, 0, 0, 1, 1, 1};
+
+/* The same after East's arrival. */
+static const uint8_t stepped_for_east[] = {2, 2, 2, 2, 3, 3, 3};
 
 static const char *const notes[LINKED_EVENTS] = {
     [0] = "North's guest, to be charged for 25 pulses",
@@ -51,6 +58,9 @@ static const char *const notes[LINKED_EVENTS] = {
     [10] = "South's guest on the thread that North's job had",
     [11] = "South's RETURN, which no CALL of South's went before",
     [15] = "East's guest, at label 0 of its own image",
+    [18] = "the signal to East's ledger is held until the job ends",
+    [19] = "the signal becomes a tree of its own, on the ledger's thread",
+    [20] = "East's ledger",
 };
 
 const char *case_event_note(uint32_t index)
@@ -72,8 +82,8 @@ static void make_events(uint8_t *event)
     for (size_t i = 0; i < sizeof stepped; i++)
         put_step(event += PLEX_EVENT_SIZE, stepped[i]);
     put_arrival(event += PLEX_EVENT_SIZE, CASE_RECORDS, east_value, 1);
-    for (uint32_t i = 1; i < EAST_EVENTS; i++)
-        put_step(event += PLEX_EVENT_SIZE, blocks[EAST_GUEST].thread);
+    for (size_t i = 0; i < sizeof stepped_for_east; i++)
+        put_step(event += PLEX_EVENT_SIZE, stepped_for_east[i]);
 }
 
 void make_case(struct field_case *made)

@@ -1,15 +1,15 @@
 /* The case from the field: two customers' guests on one thread, and an audit on another; and a
- * third customer's guest, which comes as an image of its own. */
+ * third customer's guest with its ledger, which come as an image of their own. */
 #ifndef CASE_H
 #define CASE_H
 
 #include "plex.h"
 
 /* The blocks, each with the lock of its number. */
-enum { NORTH_GUEST, NORTH_CHARGING, TARIFFS, SOUTH_GUEST, AUDIT, EAST_GUEST, CASE_BLOCKS };
+enum { NORTH_GUEST, NORTH_CHARGING, TARIFFS, SOUTH_GUEST, AUDIT, EAST_GUEST, EAST_LEDGER, CASE_BLOCKS };
 
-enum { CASE_RECORDS = 13, EAST_RECORDS = 2, LINKED_RECORDS = CASE_RECORDS + EAST_RECORDS };
-enum { CASE_EVENTS = 15, EAST_EVENTS = 4, LINKED_EVENTS = CASE_EVENTS + EAST_EVENTS };
+enum { CASE_RECORDS = 13, EAST_RECORDS = 5, LINKED_RECORDS = CASE_RECORDS + EAST_RECORDS };
+enum { CASE_EVENTS = 15, EAST_EVENTS = 8, LINKED_EVENTS = CASE_EVENTS + EAST_EVENTS };
 
 struct field_case {
     uint8_t image[CASE_RECORDS * PLEX_RECORD_SIZE], east_image[EAST_RECORDS * PLEX_RECORD_SIZE];

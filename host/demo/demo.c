@@ -1,8 +1,9 @@
 /* The case from the field, replayed: a guest's job traps inside its second nested call, and the
  * next guest on the same thread does RETURN. An engine that kept the return labels of the ended
  * job would let South's RETURN go on at label 4 and charge North for it; one that kept its locks
- * would let the audit wait for ever. East's guest, which comes as an image of its own, is linked
- * behind the case first, and runs after it.
+ * would let the audit wait for ever. East's guest and its ledger, which come as an image of their
+ * own, are linked behind the case first, and run after it: the guest's job founds a tree for the
+ * ledger.
  *
  * Use: demo          prints the trace; the status is 1 if a charging word changed
  *      demo FOLDER   writes the case and East's image there, as files of the command plex */
@@ -151,9 +152,9 @@ static int trace(void)
         if (!replay(index))
             return 1;
     int kept = north_charge() == north && south_charge() == south;
-    printf("\nThe charging words %s: North %u, South %u. The audit read %u, East counted %u.\n",
+    printf("\nThe charging words %s: North %u, South %u. The audit read %u, East counted %u, and its ledger has %u.\n",
            kept ? "are as they were" : "CHANGED", north_charge(), south_charge(), get16(word_at(state, AUDIT, 0)),
-           get16(word_at(state, EAST_GUEST, 0)));
+           get16(word_at(state, EAST_GUEST, 0)), get16(word_at(state, EAST_LEDGER, 0)));
     return kept ? 0 : 1;
 }
 

@@ -22,7 +22,8 @@ faulty() {
     byte "$image" "$1" "$2" bad
     tried "image byte $1 set to octal $2" 1 "$3" check bad "$table"
 }
-faulty 0 13 'opcode 11 is none of 1 to 10'
+faulty 0 14 'opcode 12 is none of 1 to 11'
+faulty 0 13 'label A is 3, whose entry is direct, and the signal of SEND JOBTREE has entry buffered'
 faulty 84 0 'opcode 0 is none of'
 faulty 1 20 'its block is 16, and blocks are 0 to 15'
 faulty 2 4 'its entry is 4, and entries are 0 to 3'

@@ -14,9 +14,12 @@ head -c 511 "$words" >short
 refused 'short words' 'short: 511 bytes; initial words are 512' "$image" "$table" short "$events"
 head -c 513 "$image" >long
 refused 'long words' 'long: more than 512 bytes; initial words' "$image" "$table" long "$events"
-refused 'short state' 'short-state: 7928 bytes; a state is 7,929' \
+refused 'short state' 'short-state: 9632 bytes; a state is 9,633' \
     "$image" "$table" "$events" --state short-state
-refused 'long state' 'long-state: more than 7929 bytes' "$image" "$table" "$events" \
+head -c 7929 left >former-state
+refused 'a state of the formats before' 'former-state: 7929 bytes; a state is 9,633' \
+    "$image" "$table" "$events" --state former-state
+refused 'long state' 'long-state: more than 9633 bytes' "$image" "$table" "$events" \
     --state long-state
 byte left 512 0 bad
 refused 'bad state' 'bad: not well formed with good/case.image and' \

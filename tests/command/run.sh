@@ -25,6 +25,26 @@ tried 'a link' 0 'all threads idle' run "$image" "$table" "$words" "$events" --o
 holds 'a link stays one' [ -h link ]
 same 'the file of a link' left left-2
 
+# ---- held signals: in the trace, as new trees, lost at a full list, and one too many
+tried 'a held signal' 0 'SEND JOBTREE to 3 WITH w0, on to 2 *moved on; at label 2, .*, held labels 3$' \
+    run "$east" "$table" "$words" to-holding
+tried 'an EXIT that founds a tree' 0 'label 2: EXIT *EXIT; idle, locks none, return labels none$' \
+    run "$east" "$table" step-2 --state holding --out left-2
+tried 'the tree founded' 0 '^  tree 0 on thread 3, 1 pending$' state "$east" "$table" left-2
+tried 'its signal' 0 '^    label 3 WITH 25$' state left-2
+tried 'and nothing lost' 0 '^           1  EXIT$' run "$east" "$table" step-2 --state holding --summary
+holds 'a word of loss' lacks said 'lost'
+altered holding two-held 1163:2 1217:3
+repeated arrival 15 full
+cat step-2 >>full
+tried 'a lost signal' 0 'label 2: EXIT *EXIT, 1 held signal lost; idle' run "$east" "$table" full --state two-held
+tried 'a lost signal in the summary' 0 '^           1  held signal lost at EXIT$' \
+    run "$east" "$table" full --state two-held --summary
+byte "$east" 90 1 endless
+cat to-holding step-2 step-2 step-2 step-2 >five-sends
+tried 'a fifth SEND JOBTREE' 0 'trap 6, SEND JOBTREE with 4 signals held; idle, locks none, return labels none$' \
+    run endless "$table" "$words" five-sends
+
 tried '4,500 events' 0 '^4500 events in 5 calls$' \
     run "$image" "$table" "$words" many --summary --out left --answers answers
 tried 'the same one by one' 0 '^4500 events in 4500 calls$' \

@@ -1,5 +1,6 @@
 # plex show.
 tried 'a statement' 0 '^    3  direct    CALL to 6 WITH r0, return to 4$' show "$image"
+tried 'a SEND JOBTREE' 0 '^    1            SEND JOBTREE to 3 WITH w0, on to 2$' show "$east"
 tried 'its block' 0 '^block 1$' show "$image"
 byte "$image" 0 143 bad
 tried 'unknown opcode' 1 '^    0  external  unknown opcode 99$' show bad

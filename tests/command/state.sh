@@ -6,8 +6,13 @@ tried 'a lock' 0 '  lock 2 is held by thread 0' state waiting
 tried 'a queue' 0 '  thread 0: tree 0 (its job runs), tree 1' state waiting
 tried 'a signal' 0 '    label 8 WITH 999' state waiting
 tried 'a word' 0 '  block 1: w0=120' state waiting
-tried 'a short state' 1 'short-state: 7928 bytes; a state is 7,929 bytes' state short-state
-tried 'a long state' 1 'long-state: more than 7929 bytes' state long-state
+tried 'a thread that holds a signal' 0 \
+    '^  2  at label 2, locks 5, return labels none, held labels 3, registers r0=25$' state holding
+tried 'a held signal' 0 '^    held label 3 WITH 25$' state holding
+byte holding 1163 377 bad
+tried 'a held count above its limit' 0 ', held labels 3 0 0 0, registers' state bad
+tried 'a short state' 1 'short-state: 9632 bytes; a state is 9,633 bytes' state short-state
+tried 'a long state' 1 'long-state: more than 9633 bytes' state long-state
 
 # ---- with its image and table
 tried 'a well-formed state' 0 '^well formed with good/case.image and good/case.table$' \
@@ -21,8 +26,13 @@ tried 'and refused' 1 'bad: not well formed with good/case.image and good/case.t
     state "$image" "$table" bad
 tried 'for its cause' 1 'thread 0 has label 99, and the image.s labels are below 13' \
     state "$image" "$table" bad
+byte holding 1164 0 bad
+tried 'for a held signal' 1 \
+    'held signal 0 of thread 2: its label is 0, whose entry is external, and not buffered' \
+    state "$east" "$table" bad
+byte waiting 512 143 bad
 tried 'with its number' 1 'refused with number 6, place 0' state "$image" "$table" bad
-tried 'a short state with its image' 1 'short-state: 7928 bytes; a state is 7,929 bytes' \
+tried 'a short state with its image' 1 'short-state: 9632 bytes; a state is 9,633 bytes' \
     state "$image" "$table" short-state
 tried 'a state with a bad image' 1 'case.table: 32 bytes; an image is' state "$table" "$table" waiting
 tried 'a state without its table' 2 'there are 2 files, and 3 are wanted' state "$image" waiting

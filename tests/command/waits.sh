@@ -3,7 +3,7 @@ tried 'a wait' 0 'thread 1 --lock 1--> thread 0, which does not wait' \
     waits "$image" "$table" waiting
 tried 'no wait' 0 'no thread waits' waits "$image" "$table" left
 tried 'a graph' 0 '  t1 -> t0 \[label="lock 1"\];' waits "$image" "$table" waiting --dot
-tried 'waits in a short state' 1 'short-state: 7928 bytes; a state is' \
+tried 'waits in a short state' 1 'short-state: 9632 bytes; a state is' \
     waits "$image" "$table" short-state
 # North's charging calls the audit: label 3 goes to 10, whose entry is direct
 byte "$image" 256 12 ring-1

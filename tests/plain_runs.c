@@ -1,0 +1,164 @@
+#include "plain_runs.h"
+#include "plain.h"
+#include "bench_image.h"
+#include "build.h"
+#include "damage.h"
+
+#include <stdio.h>
+#include <string.h>
+
+enum { MACHINES = 400, RUNS = 30, MOST_EVENTS = 64, LEAST_RECORDS = 16 };
+
+/* What is lent to both engines. */
+static uint8_t image[PLEX_RECORDS_MAX * PLEX_RECORD_SIZE], table[PLEX_TABLE_SIZE], words[PLEX_WORDS_SIZE];
+static uint8_t events[MOST_EVENTS * PLEX_EVENT_SIZE];
+static size_t image_len, events_len, answers_len;
+
+/* What an engine alters. */
+struct altered {
+    uint8_t state[PLEX_STATE_SIZE], answers[MOST_EVENTS * PLEX_ANSWER_SIZE], met[PLEX_MET_SIZE];
+};
+static struct altered by_plex, by_plain;
+
+static uint32_t failures, codes[256], reasons[256], losing_exits;
+static uint32_t refusals[PLEX_BAD_OUTPUT_LENGTH + 1];
+
+static void expect(const char *call, uint32_t of_plex, uint32_t of_plain)
+{
+    refusals[PLEX_NUMBER(of_plex)]++;
+    if (of_plex == of_plain && memcmp(&by_plex, &by_plain, sizeof by_plex) == 0)
+        return;
+    failures++;
+    printf("plain: %s: number %u, expected %u, or other bytes\n", call, PLEX_NUMBER(of_plain), PLEX_NUMBER(of_plex));
+}
+
+/* Of most images, registers are words: their jobs come further than others, which soon read an
+ * absent register. */
+static void fill_registers(uint32_t records)
+{
+    for (uint32_t label = 0; label < records; label++) {
+        uint8_t *record = image + PLEX_RECORD_SIZE * label;
+        for (uint32_t i = 0; i < record[PLEX_RECORD_COUNT]; i++) {
+            uint8_t *operand = record + PLEX_RECORD_OPERANDS + PLEX_OPERAND_SIZE * i;
+            if (operand[PLEX_OPERAND_KIND] == PLEX_REGISTER_OPERAND) {
+                operand[PLEX_OPERAND_KIND] = PLEX_WORD_OPERAND;
+                put16(operand + PLEX_OPERAND_VALUE, get16(operand + PLEX_OPERAND_VALUE) % PLEX_BLOCK_WORDS);
+            }
+        }
+    }
+}
+
+static void make_machine(void)
+{
+    uint32_t records = LEAST_RECORDS * (1 + below(PLEX_RECORDS_MAX / LEAST_RECORDS));
+    image_len = PLEX_RECORD_SIZE * records;
+    bench_mixed_image(image, records);
+    make_tree_sends(image, records);
+    if (below(4) != 0)
+        fill_registers(records);
+    for (uint32_t block = 0; block < PLEX_BLOCKS; block++) {
+        table[PLEX_ROW_SIZE * block + PLEX_ROW_THREAD] = (uint8_t)below(PLEX_THREADS);
+        table[PLEX_ROW_SIZE * block + PLEX_ROW_KIND] = below(4) == 0 ? PLEX_FD : PLEX_CMX;
+    }
+    for (uint32_t i = 0; i < PLEX_WORDS_SIZE; i++)
+        words[i] = (uint8_t)below(256);
+    memset(&by_plex, 7, sizeof by_plex);
+    memset(&by_plain, 7, sizeof by_plain);
+    expect("fresh",
+           plex_fresh(image, image_len, table, sizeof table, words, sizeof words, by_plex.state, PLEX_STATE_SIZE),
+           plain_fresh(image, image_len, table, sizeof table, words, sizeof words, by_plain.state, PLEX_STATE_SIZE));
+}
+
+/* An arrival at a label of entry external, from any label on. */
+static void put_any_arrival(uint8_t *event)
+{
+    static const uint16_t values[PLEX_REGISTERS] = {1, 2, 3, 65535, 5};
+    uint32_t records = (uint32_t)(image_len / PLEX_RECORD_SIZE), label = below(records);
+    while (record_at(image, label)[PLEX_RECORD_ENTRY] != PLEX_EXTERNAL)
+        label = (label + 1) % records;
+    put_arrival(event, label, values, (uint8_t)below(PLEX_REGISTERS + 1));
+}
+
+static void make_events(void)
+{
+    uint32_t count = below(MOST_EVENTS + 1);
+    for (uint32_t i = 0; i < count; i++) {
+        uint8_t *event = events + PLEX_EVENT_SIZE * i;
+        if (below(8) == 0)
+            put_any_arrival(event);
+        else if (below(64) == 0)
+            put_cut(event, below(PLEX_THREADS));
+        else
+            put_step(event, below(PLEX_THREADS));
+    }
+    if (below(16) == 0 && count != 0)
+        damage(events, PLEX_EVENT_SIZE * count);
+    events_len = PLEX_EVENT_SIZE * count;
+    answers_len = PLEX_ANSWER_SIZE * count;
+}
+
+static void count_answers(void)
+{
+    for (size_t i = 0; i < answers_len; i += PLEX_ANSWER_SIZE) {
+        uint32_t code = by_plex.answers[i + PLEX_ANSWER_CODE], detail = by_plex.answers[i + PLEX_ANSWER_DETAIL];
+        codes[code]++;
+        if (code == PLEX_TRAPPED)
+            reasons[detail]++;
+        losing_exits += code == PLEX_EXITED && detail != 0;
+    }
+}
+
+static void try_run(void)
+{
+    make_events();
+    uint32_t result = plex_run(image, image_len, table, sizeof table, by_plex.state, PLEX_STATE_SIZE, events,
+                               events_len, by_plex.answers, answers_len);
+    expect("run", result,
+           plain_run(image, image_len, table, sizeof table, by_plain.state, PLEX_STATE_SIZE, events, events_len,
+                     by_plain.answers, answers_len));
+    if (result == 0)
+        count_answers();
+}
+
+/* The walk over the state that the run left, at times damaged where threads and live trees are. */
+static void try_walk(void)
+{
+    struct altered before = by_plex;
+    size_t end = PLEX_STATE_TREES + PLEX_TREE_SIZE * (size_t)before.state[PLEX_STATE_TREE_COUNT];
+    for (uint32_t edits = below(3); edits > 0; edits--)
+        damage(by_plex.state + PLEX_STATE_THREADS, end - PLEX_STATE_THREADS);
+    memcpy(by_plain.state, by_plex.state, PLEX_STATE_SIZE);
+    uint32_t thread = below(PLEX_THREADS);
+    expect("walk",
+           plex_walk(image, image_len, table, sizeof table, by_plex.state, PLEX_STATE_SIZE, thread, by_plex.met,
+                     PLEX_MET_SIZE),
+           plain_walk(image, image_len, table, sizeof table, by_plain.state, PLEX_STATE_SIZE, thread, by_plain.met,
+                      PLEX_MET_SIZE));
+    memcpy(by_plex.state, before.state, PLEX_STATE_SIZE);
+    memcpy(by_plain.state, before.state, PLEX_STATE_SIZE);
+}
+
+static bool are_all_met(const uint32_t *counts, uint32_t first, uint32_t last)
+{
+    bool all = true;
+    for (uint32_t i = first; i <= last; i++)
+        all = all && counts[i] != 0;
+    return all;
+}
+
+bool do_runs_agree(void)
+{
+    for (uint32_t machine = 0; machine < MACHINES; machine++) {
+        make_machine();
+        for (uint32_t run = 0; run < RUNS; run++) {
+            try_run();
+            try_walk();
+        }
+    }
+    bool all_met = are_all_met(codes, PLEX_ARRIVED, PLEX_NOTHING_TO_CUT) &&
+                   are_all_met(reasons, PLEX_ABSENT_REGISTER, PLEX_HELD_FULL) && losing_exits != 0 &&
+                   refusals[PLEX_BAD_STATE] != 0 && refusals[PLEX_BAD_EVENT] != 0;
+    printf("plain: %d runs and walks%s; %u failures\n", MACHINES * RUNS,
+           all_met ? ", with every answer" : ", NOT with every answer", failures);
+    return failures == 0 && all_met;
+}
