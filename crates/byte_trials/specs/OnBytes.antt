@@ -6,7 +6,7 @@ use mathlib.Core.List.{List, [], _∷_, _++_}
 use Prim.Native.Nat.{ℕ, zero, suc, _+_, _*_}
 use native.Mathlib.Decide.{ℕ-discrete}
 use lib.ListN.{replicate, drop}
-use Rattle.rules.specs.Sizes.{tableSize, wordsSize, stateSize, threadsPlace, presencePlace, treeCountPlace}
+use Rattle.rules.specs.Sizes.{tableSize, wordsSize, stateSize, threadsPlace, presencePlace, heldCountPlace, treeCountPlace}
 use Rattle.rules.specs.Bytes.{num16, num32, part, isZeros, allFrom, firstBad, blocks, pad, chunks, every}
 use Rattle.rules.specs.Image.{labels, recordAt, rowAt}
 use Rattle.rules.specs.Statements.{operandOf, operandAt, operandsFrom, operationAt, optional, assignmentBy}
@@ -20,10 +20,10 @@ use Rattle.rules.specs.Answers.{code, detail, answerBytes}
 use Rattle.rules.specs.Events.{eventFrom, arrivalOk, turnOk, eventOk, eventAtOk, eventsFrom}
 use Rattle.rules.specs.Effects.{readAll, perform, outcome}
 use Rattle.rules.specs.Steps.{alien, actBy, planArrive, planIdle, planRunning, planStep, planCut, plan, held, blocked, attempt}
-use Rattle.rules.specs.Steps.{carry, react, answers, final}
-use Rattle.rules.specs.WellFormed.{absentZero, runningTidy, threadTidy, signalTidy, signalAtTidy, treeTidy, threadAtTidy, treeAtTidy}
-use Rattle.rules.specs.WellFormed.{stateTidy, apart, placeOk, threadOk, threadsOk, pendingOk, treeOk, homed, queuesOk, machineOk}
-use Rattle.rules.specs.WellFormed.{wellFormed}
+use Rattle.rules.specs.Steps.{admitted, lost, carry, react, answers, final}
+use Rattle.rules.specs.WellFormed.{absentZero, runningTidy, threadTidy, signalTidy, signalAtTidy, signalsTidy, treeTidy, threadAtTidy}
+use Rattle.rules.specs.WellFormed.{treeAtTidy, stateTidy, apart, placeOk, heldOk, threadOk, threadsOk, pendingOk, treeOk, homed, queuesOk}
+use Rattle.rules.specs.WellFormed.{machineOk, wellFormed}
 use Rattle.rules.specs.Walk.{mem?, walkOn, walk, holder, awaits, walkFrom, metBytes, metCount}
 use Rattle.rules.specs.Calls.{threadFault, metLengthFault, walkFault, walkReturn, walkMet}
 use Rattle.rules.specs.Calls.{stateLengthFault, stateFault, eventsLengthFault, eventFault, answersLengthFault, wordsLengthFault}
@@ -107,6 +107,20 @@ calling = recordBytes 3 0 3 0 1 0 [] ++ recordBytes 7 0 1 0 1 1 []
 abbrev sending : List ℕ
 sending = recordBytes 6 0 3 0 1 0 [] ++ recordBytes 10 0 2 0 0 0 []
 
+-- label 0: SEND .. JOBTREE to 1, on to 0; label 1: EXIT
+abbrev holding : List ℕ
+holding = recordBytes 11 0 3 0 1 0 [] ++ recordBytes 10 0 2 0 0 0 []
+
+-- label 0: a record that leads to 1; labels 1 to 3: SEND .. JOBTREE to 5; labels 4 and 5: EXIT
+abbrev founding : List ℕ → List ℕ
+founding first =
+    first ++ recordBytes 11 0 0 0 5 2 [] ++ recordBytes 11 0 0 0 5 3 [] ++ recordBytes 11 0 0 0 5 4 [] ++ recordBytes 10 0 0 0 0 0 []
+    ++ recordBytes 10 0 2 0 0 0 []
+
+-- 15 arrivals, and the first one's job: it starts, leads to 1, holds three signals and EXITs
+abbrev threeHeld : List ℕ
+threeHeld = times 15 (arrivalBytes 0 []) ++ times 6 (turnBytes 2 0)
+
 -- label 0 in block 0: CALL 2, return label 1; label 2 in block 1: CALL 4, return label 3; labels 1 and 3: EXIT; label 4 in block 2
 abbrev nested : ℕ → List ℕ
 nested opcode =
@@ -164,6 +178,17 @@ pub record OnBytes : Type 0 where
   pub deep : part (stateAfter (nested 10) 4 (arrivalBytes 0 [] ++ times 3 (turnBytes 2 0))) threadsPlace 5 ≡ 4 ∷ 0 ∷ 7 ∷ 0 ∷ 2 ∷ []
   pub exit : answersTo (nested 10) 5 (arrivalBytes 0 [] ++ times 4 (turnBytes 2 0)) ≡ 1 ∷ 0 ∷ 5 ∷ 0 ∷ 6 ∷ 0 ∷ 6 ∷ 0 ∷ 7 ∷ 0 ∷ []
   pub exited : stateAfter (nested 10) 5 (arrivalBytes 0 [] ++ times 4 (turnBytes 2 0)) ≡ initial (nested 10)
+  -- "The fourth held signal is kept; the fifth: 8, 6"
+  pub held-signals : answersTo holding 7 (arrivalBytes 0 [] ++ times 6 (turnBytes 2 0)) ≡ 1 ∷ 0 ∷ 5 ∷ 0 ∷ times 4 (6 ∷ 0 ∷ []) ++ 8 ∷ 6 ∷ []
+  pub held-kept : part (stateAfter holding 6 (arrivalBytes 0 [] ++ times 5 (turnBytes 2 0))) (threadsPlace + heldCountPlace) 3
+      ≡ 4 ∷ 1 ∷ 0 ∷ []
+  pub held-dropped : stateAfter holding 7 (arrivalBytes 0 [] ++ times 6 (turnBytes 2 0)) ≡ initial holding
+  -- "EXIT with three held signals, its own tree empty and 14 others live: two are appended, one is lost; its own tree not empty: one is
+  -- appended, two are lost": the answers and then the tree count
+  pub empty-exit : drop 30 (answersTo (founding (recordBytes 3 0 3 0 1 0 [])) 21 threeHeld) ≡ 5 ∷ 0 ∷ times 4 (6 ∷ 0 ∷ []) ++ 7 ∷ 1 ∷ []
+  pub pending-exit : drop 30 (answersTo (founding (recordBytes 6 0 3 0 5 1 [])) 21 threeHeld)
+      ≡ 5 ∷ 0 ∷ times 4 (6 ∷ 0 ∷ []) ++ 7 ∷ 2 ∷ []
+  pub full-list : part (stateAfter (founding (recordBytes 3 0 3 0 1 0 [])) 21 threeHeld) treeCountPlace 1 ≡ 16 ∷ []
   -- "TRANSFER with one value keeps register 1; direct SEND with one makes it absent": the presence set and registers 0 and 1
   pub transfer : part (stateAfter (passing 9) 3 (arrivalBytes 0 (2 ∷ 3 ∷ 0 ∷ 4 ∷ 0 ∷ []) ++ times 2 (turnBytes 2 0))) presenceSet 8
       ≡ 3 ∷ 0 ∷ 0 ∷ 0 ∷ 5 ∷ 0 ∷ 4 ∷ 0 ∷ []
@@ -206,8 +231,8 @@ unfolding num16 num32 part isZeros allFrom firstBad blocks pad chunks every labe
     recordOk rowOk imageLengthFault tableLengthFault tableFault recordFault firstOf ℕ-discrete fresh queue first put cells stores
     window keep presence threadRaw threadBytes registersFrom jobFrom threadFrom signalBytes signalFrom treeBytes treeFrom encode
     wordsFrom machineFrom code detail answerBytes eventFrom arrivalOk turnOk eventOk eventAtOk eventsFrom readAll perform outcome
-    alien actBy planArrive planIdle planRunning planStep planCut plan held blocked attempt carry react answers final absentZero
-    runningTidy threadTidy signalTidy signalAtTidy treeTidy threadAtTidy treeAtTidy stateTidy apart placeOk threadOk threadsOk
+    alien actBy planArrive planIdle planRunning planStep planCut plan held blocked attempt admitted lost carry react answers final
+    absentZero runningTidy threadTidy signalTidy signalAtTidy signalsTidy heldOk treeTidy threadAtTidy treeAtTidy stateTidy apart placeOk threadOk threadsOk
     pendingOk treeOk homed queuesOk machineOk wellFormed stateLengthFault stateFault eventsLengthFault eventFault answersLengthFault
     wordsLengthFault checkReturn freshReturn freshState runReturn runState runAnswers Option·elim mem?
     walkOn walk holder awaits walkFrom metBytes metCount threadFault metLengthFault walkFault walkReturn walkMet
@@ -223,6 +248,12 @@ onBytes = record {
   deep = refl;
   exit = refl;
   exited = refl;
+  held-signals = refl;
+  held-kept = refl;
+  held-dropped = refl;
+  empty-exit = refl;
+  pending-exit = refl;
+  full-list = refl;
   transfer = refl;
   direct = refl;
   no-events = refl;
