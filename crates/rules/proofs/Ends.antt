@@ -166,5 +166,9 @@ module _ (R : Rules) where
   unfolding react plan planCut carry
   cut-answer s t locks j h = rw h
 
+  pub cut-state : (s : Machine) (t locks : ℕ) (j : Job) → threadAt s t ≡ running locks j → react R s (cut t) .state ≡ finished R t s
+  unfolding react plan planCut carry
+  cut-state s t locks j h = rw h
+
   pub cut-idle : (s : Machine) (t locks : ℕ) (j : Job) → threadAt s t ≡ running locks j → threadAt (react R s (cut t) .state) t ≡ idle
   cut-idle s t locks j h = ends s (cut t) t refl (rw (cut-answer s t locks j h))

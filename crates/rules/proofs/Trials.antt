@@ -10,7 +10,7 @@ use mathlib.Core.List.{List, [], _∷_, _++_, map}
 use Prim.Native.Nat.{ℕ, _+_, _*_, _-_, _^_, _<_, _≤_}
 use native.Mathlib.Omega.{arith}
 use lib.Bits.{bitOr}
-use lib.ListN.{length, getD, take, drop, length-map}
+use lib.ListN.{length, getD, set, take, drop, length-map}
 use lib.Dec.{eqb}
 use borrow.Author.Tests.{lt-ltb, le-ltb, eq-eqb, ne-eqb}
 use Rattle.rules.specs.Bytes.{num16, num32, firstBad, blocks, pad, chunks, has}
@@ -23,7 +23,7 @@ use Rattle.rules.specs.Encoding.{threadRaw, threadBytes, encode, machine
 use Rattle.rules.specs.Answers.{code, detail, close, sort}
 use Rattle.rules.specs.Events.{Event, arrive, step, cut, threadOf, eventsFrom}
 use Rattle.rules.specs.Steps.{Rules, rulesBy, newest, older, alien, blockAt, held, blocked}
-use Rattle.rules.specs.Steps.{planArrive, plan, leave, carry, react, final, grown, founded, finished, admitted, lost}
+use Rattle.rules.specs.Steps.{planArrive, plan, leave, carry, react, final, grown, founded, requeued, finished, admitted, lost}
 use Rattle.rules.specs.Walk.{walk, metCount}
 use Rattle.rules.specs.Calls.{stateLengthFault, stateFault, eventsLengthFault, eventFault, answersLengthFault, runReturn, runState}
 use Rattle.rules.specs.declared.statement.Relation.the-variants.{Equal, Less}
@@ -34,7 +34,7 @@ use Rattle.rules.specs.declared.answer.Answer.the-variants.{Taken, ListF
 use Rattle.rules.proofs.Running.{Runs, Answered, answered, MovesOn}
 use Rattle.rules.proofs.Opcodes as opcodes
 use Rattle.rules.proofs.Opcodes.{stepOf, Open, A, B, register}
-use Rattle.rules.proofs.Ends.{ends, locks-kept, starts-nothing, cut-answer, cut-idle}
+use Rattle.rules.proofs.Ends.{ends, locks-kept, starts-nothing, cut-answer, cut-state, cut-idle}
 use Rattle.rules.proofs.Assigning.{Stores, sum, difference, product}
 use Rattle.rules.proofs.Waits as waits
 use Rattle.rules.proofs.Founding.{founds, two-appended, one-appended}
@@ -80,6 +80,14 @@ homeBy image table g = rowAt table (blockAt image (g .label)) .thread
 
 abbrev foundedBy : List ℕ → List ℕ → Signal → Tree
 foundedBy image table g = record { thread = homeBy image table g; pending = g ∷ [] }
+
+-- thread t idle, and the tree of its job gone, or at the list's end on the thread of its oldest signal's block
+abbrev settledBy : Rules → Machine → ℕ → Machine
+settledBy R s t = record {
+  words = s .words;
+  threads = set (s .threads) t idle;
+  trees = put t none (s .trees) ++ requeued R (first t (s .trees));
+}
 
 -- EXIT by a job that holds these signals
 left-by : (image table : List ℕ) (s : Machine) (t : ℕ) (gs : List Signal)
@@ -161,6 +169,10 @@ pub record Trials (image table : List ℕ) (s : Machine) (t locks : ℕ) (j : Jo
       → Answered (stepOf image table s t) 7 (length (j .held) - (16 - length (settled .trees)))
       × (stepOf image table s t .state .trees
       ≡ settled .trees ++ map (foundedBy image table) (take (16 - length (settled .trees)) (j .held)))
+  -- also: a trap and a cut drop all of them: the own tree is settled, and nothing else changes but the thread
+  pub trap-drops : Runs image s t locks j SendTree values → 4 ≤ length (j .held)
+      → stepOf image table s t .state ≡ settledBy (rulesBy image table) s t
+  pub cut-drops : (R : Rules) → threadAt s t ≡ running locks j → react R s (cut t) .state ≡ settledBy R s t
   -- "No events: return 0, state unchanged": of a state that passes 1 to 6
   pub no-events : (R : Rules) → final R s [] ≡ s
   pub no-events-return : (state : List ℕ)
@@ -241,6 +253,8 @@ trials image table s t locks j values = record {
       let k = one-appended image table s t a b c f g p h in
       rw (opcodes.exit image table r, e) (answered (carry (rulesBy image table) s (leave t (a ∷ b ∷ c ∷ []))) (Exited 2) (k .0), k .1);
   exit-held = λ r m e. rw (opcodes.exit image table r, e) (left-by image table s t (j .held));
+  trap-drops = opcodes.hold-trap-state image table;
+  cut-drops = λ R. cut-state R s t locks j;
   transfer-keeps = opcodes.transfer-keeps image table;
   direct-clears = opcodes.direct-clears image table;
   no-events = λ R. refl;
