@@ -1,6 +1,6 @@
 -- What holds of every event, by any rules: an end clears its own thread to idle; no other answer releases a lock; and a thread
 -- that runs starts nothing.
-use mathlib.Core.Path.{_≡_, refl, _∙_}
+use mathlib.Core.Path.{_≡_, refl, ap, _∙_}
 use mathlib.Core.Bool.{Bool, true, false, cond, false≢true}
 use mathlib.Core.Option.{Option, none, some}
 use mathlib.Core.List.{List, [], _∷_}
@@ -111,7 +111,8 @@ module _ (R : Rules) where
   carry-ends s e t h (move u m) n c = absurd (waiting-ends s u m (blocked R u (s .threads) (m .want)) n c)
   carry-ends s e t h (finish u a) n c = let same : t ≡ u = cc (h, n .1) in rw same (set-idle (s .threads) u)
   carry-ends s e t h (leave u gs) n c =
-      let same : t ≡ u = cc (h, n) in rw (same, admitted-threads gs (finished R u s)) (set-idle (s .threads) u)
+      let same : t ≡ u = cc (h, n) in
+      rw same (ap (λ ws. getD ws u idle) (admitted-threads gs (finished R u s)) ∙ set-idle (s .threads) u)
 
   -- an end of any of the three sorts clears the thread to idle
   pub ends : (s : Machine) (e : Event) (t : ℕ) → threadOf e ≡ some t → sort (react R s e .answer) ≡ close
