@@ -6,7 +6,7 @@ use Prim.Native.Nat.{ℕ, _+_, _*_}
 use lib.ListN.{length, set, length-set}
 use Rattle.rules.specs.Sizes.{wordCount}
 use Rattle.rules.specs.Image.{blockField, labelA}
-use Rattle.rules.specs.Machine.{Machine, ThreadState, Tree, Job, running, cells, window, keep, withThread, job, withJob, withHeld, heldOf, threadAt}
+use Rattle.rules.specs.Machine.{Machine, ThreadState, Tree, Job, running, cells, window, keep, job, withJob, withHeld, heldOf, threadAt}
 use Rattle.rules.specs.Encoding.{machineFrom}
 use Rattle.rules.specs.Effects.{Cells, store, assigned}
 use Rattle.rules.specs.declared.statement.Assignment.{Assignment}

@@ -55,7 +55,8 @@ fn store_word(state: &mut [u8], block: Block, to: Operand, v: u16)
 // The record of a thread in which one value was stored, to a register or to none: one register is written, or all.
 fn write_one(state: &mut [u8], t: Thread, w: ThreadState, to: Operand, v: u16)
     requires { ⌜ Canonical (now state) × (t .0 < threadCount) × Running w × OneChanged (now state) (t .0) w to v ⌝ }
-    ensures { λ _. ⌜ Encodes (now (state .exit)) (withJob (machineFrom (now (state .entry))) (t .0) (w .locks) (job (w .label .0) (returnsOf w) (registersOf w))) ⌝ }
+    ensures { λ _. ⌜ Encodes (now (state .exit)) (withJob (machineFrom (now (state .entry))) (t .0) (w .locks)
+        (job (w .label .0) (returnsOf w) (registersOf w))) ⌝ }
 {
     match to {
         Operand::Number(_) => write_thread(state, t, w),
@@ -75,7 +76,8 @@ fn write_both(
     v: u16,
 )
     requires { ⌜ Canonical (now state) × (t .0 < threadCount) × Running w × OneChanged (now state) (t .0) w first u × Fits second ⌝ }
-    ensures { λ _. ⌜ Encodes (now (state .exit)) (withJob (machineFrom (now (state .entry))) (t .0) (w .locks) (job (w .label .0) (returnsOf w) (registersAfter second v (registersOf w)))) ⌝ }
+    ensures { λ _. ⌜ Encodes (now (state .exit)) (withJob (machineFrom (now (state .entry))) (t .0) (w .locks)
+        (job (w .label .0) (returnsOf w) (registersAfter second v (registersOf w)))) ⌝ }
 {
     match second {
         Operand::Number(_) => write_one(state, t, w, first, u),

@@ -116,7 +116,34 @@ module _ (r : List ℕ) where
   opcode-other n m = by (operationAt (opcode r) (operator r))
     where
       rows : AllLockless others
-      rows = (λ e. tt, (λ e. tt, (λ e. tt, (λ e. absurd (n e), (λ e. tt, (λ e. absurd (m e), (λ e. tt, (λ e. tt, (λ e. tt, (λ e. tt, tt))))))))))
+      rows = (
+        λ e. tt,
+        (
+          λ e. tt,
+          (
+            λ e. tt,
+            (
+              λ e. absurd (n e),
+              (
+                λ e. tt,
+                (
+                  λ e. absurd (m e),
+                  (
+                    λ e. tt,
+                    (
+                      λ e. tt,
+                      (
+                        λ e. tt,
+                        (λ e. tt, tt),
+                      ),
+                    ),
+                  ),
+                ),
+              ),
+            ),
+          ),
+        ),
+      )
 
       by : (k : Option Operation) → Lockless (roleA (statementBy k r))
       by none = lockless-in others rows
@@ -147,8 +174,8 @@ unfolding actBy
 quiet-act image table t j words pending h =
     let r : List ℕ = recordAt image (j .label) in
     let s : Statement = statementOf r in
-    quiet-resolve (blockAt image) (rowAt table) t (labelA r) (labelB r) (j .held) (roleA s) (roleB s) (outcome (view j words pending) s (dataOf r))
-    (j .returns)
+    quiet-resolve (blockAt image) (rowAt table) t (labelA r) (labelB r) (j .held) (roleA s) (roleB s)
+    (outcome (view j words pending) s (dataOf r)) (j .returns)
     (refers (view j words pending) s (dataOf r)) h
 
 module _ (R : Rules) (s : Machine) (t l : ℕ) (j : Job) (p : List Signal) (runs : threadAt s t ≡ running l j)

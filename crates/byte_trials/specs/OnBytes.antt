@@ -232,9 +232,9 @@ unfolding num16 num32 part isZeros allFrom firstBad blocks pad chunks every labe
     window keep presence threadRaw threadBytes registersFrom jobFrom threadFrom signalBytes signalFrom treeBytes treeFrom encode
     wordsFrom machineFrom code detail answerBytes eventFrom arrivalOk turnOk eventOk eventAtOk eventsFrom readAll perform outcome
     alien actBy planArrive planIdle planRunning planStep planCut plan held blocked attempt admitted lost carry react answers final
-    absentZero runningTidy threadTidy signalTidy signalAtTidy signalsTidy heldOk treeTidy threadAtTidy treeAtTidy stateTidy apart placeOk threadOk threadsOk
-    pendingOk treeOk homed queuesOk machineOk wellFormed stateLengthFault stateFault eventsLengthFault eventFault answersLengthFault
-    wordsLengthFault checkReturn freshReturn freshState runReturn runState runAnswers Option·elim mem?
+    absentZero runningTidy threadTidy signalTidy signalAtTidy signalsTidy heldOk treeTidy threadAtTidy treeAtTidy stateTidy apart
+    placeOk threadOk threadsOk pendingOk treeOk homed queuesOk machineOk wellFormed stateLengthFault stateFault eventsLengthFault
+    eventFault answersLengthFault wordsLengthFault checkReturn freshReturn freshState runReturn runState runAnswers Option·elim mem?
     walkOn walk holder awaits walkFrom metBytes metCount threadFault metLengthFault walkFault walkReturn walkMet
 onBytes = record {
   sum = refl;

@@ -53,7 +53,8 @@ held-sized idle z = record { count = omega arith; each = tt }
 held-sized (running locks j) z = z .held
 
 -- the first part stored: the signals held stay
-pub value-put : (x : ThreadState) (a : List ℕ) → length a ≡ heldCountPlace → put (threadBytes x) 0 a ≡ a ++ signalsBytes heldCount (heldOf x)
+pub value-put : (x : ThreadState) (a : List ℕ) → length a ≡ heldCountPlace
+    → put (threadBytes x) 0 a ≡ a ++ signalsBytes heldCount (heldOf x)
 value-put x a l =
     let p = parts x in
     rw (p .1) (put-at [] (p .0) (signalsBytes heldCount (heldOf x)) a 0 refl (p .2 ∙ sym l))
@@ -81,7 +82,8 @@ module _ (s : Machine) (t : ℕ) (n : length (s .threads) ≡ threadCount) (h : 
   unfolding encode
   thread-close w =
       let l : length (set (s .threads) t w) ≡ threadCount = length-set (s .threads) t w ∙ n in
-      sym (rw (pad-full idle threadCount (set (s .threads) t w) l, blocks-set threadBytes (s .threads) t w (omega arith)) (simp append-assoc))
+      sym (rw (pad-full idle threadCount (set (s .threads) t w) l, blocks-set threadBytes (s .threads) t w (omega arith))
+      (simp append-assoc))
 
   module _ {b : List ℕ} (e : b ≡ encode s) where
     -- one store, and two
@@ -123,8 +125,8 @@ module _ (s : Machine) (t : ℕ) (n : length (s .threads) ≡ threadCount) (h : 
           let S : List ℕ = signalsBytes heldCount (j .held) in
           let r : List ℕ = raw in
           let at : ℕ = heldCountPlace + (1 + signalSize * k) in
-          let f = stored-twice _ _ at heldCountPlace (signalBytes g) ((k + 1) ∷ []) (omega arith) (omega (arith, length-signal g)) (omega arith)
-          (omega arith) e₁ e₂ in
+          let f = stored-twice _ _ at heldCountPlace (signalBytes g) ((k + 1) ∷ []) (omega arith) (omega (arith, length-signal g))
+          (omega arith) (omega arith) e₁ e₂ in
           let u : put (put (r ++ S) at (signalBytes g)) heldCountPlace ((k + 1) ∷ []) ≡ r ++ signalsBytes heldCount (j .held ++ g ∷ []) =
           ap (λ l. put l heldCountPlace ((k + 1) ∷ []))
           (put-after r S at (1 + signalSize * k) (signalBytes g) (omega (arith, long)))
@@ -170,10 +172,11 @@ module _ (s : Machine) (t : ℕ) {b : List ℕ} (e : b ≡ encode s) (z : Sized 
       ≡ signalBytes (getD (heldOf (threadAt s t)) k noSignal) ++ r)
   held-signal-on k l =
       let d = second in
-      let g = signal-at heldCount (heldOf (threadAt s t)) held-all (d .1) (d .0) heldCountPlace (sym (d .3)) (heldPlace + signalSize * k) k l
-      (omega arith) in
-      let a : wordsSize + threadSize * t + heldPlace + signalSize * k ≡ wordsSize + threadSize * t + (heldPlace + signalSize * k) = omega arith in
-      (g .0, rw a (sym (drop-drop (heldPlace + signalSize * k) (wordsSize + threadSize * t) b) ∙ rw (d .2) (g .1)))
+      let at = wordsSize + threadSize * t in
+      let place = heldPlace + signalSize * k in
+      let g = signal-at heldCount (heldOf (threadAt s t)) held-all (d .1) (d .0) heldCountPlace (sym (d .3)) place k l (omega arith) in
+      let a : at + heldPlace + signalSize * k ≡ at + place = omega arith in
+      (g .0, rw a (sym (drop-drop place at b) ∙ rw (d .2) (g .1)))
 
   pub held-signal-sized : (k : ℕ) → k < length (heldOf (threadAt s t)) → SizedSignal (getD (heldOf (threadAt s t)) k noSignal)
   held-signal-sized k l = each-at SizedSignal (heldOf (threadAt s t)) k noSignal (held-all .each) l

@@ -4,7 +4,8 @@ use mathlib.Core.List.{List}
 use Prim.Native.Nat.{ℕ, _+_, _*_}
 use native.Mathlib.Omega.{arith}
 use lib.ListN.{length, length-append}
-use Rattle.rules.specs.Sizes.{threadCount, wordTotal, heldCountPlace, threadSize, signalSize, treeSize, wordsSize, stateSize, eventSize, answerSize}
+use Rattle.rules.specs.Sizes.{threadCount, wordTotal, heldCountPlace, threadSize, signalSize, treeSize, wordsSize, stateSize}
+use Rattle.rules.specs.Sizes.{eventSize, answerSize}
 use Rattle.rules.specs.Bytes.{le16, blocks, pad}
 use Rattle.rules.specs.Machine.{Signal, Tree, ThreadState, idle, running, Machine}
 use Rattle.rules.specs.Encoding.{threadRaw, threadBytes, signalBytes, signalsBytes, treeBytes, encode}

@@ -164,7 +164,9 @@ module _ (n place : ℕ) (b : List ℕ) (long : suc place + signalSize * n ≤ l
 
   -- a place of a signal is in the bytes
   inside : (j : ℕ) → j < getD b place 0 → signalSize ≤ length (drop (signalSize * j) (drop (suc place) b))
-  inside j l = simp length-drop (omega (arith, signals-read .few, places n (suc j) (omega (arith, signals-read .few)), mul-suc signalSize j))
+  inside j l =
+      let few = signals-read .few in
+      simp length-drop (omega (arith, few, places n (suc j) (omega (arith, few)), mul-suc signalSize j))
 
   pub signals-sized : SizedSignals n (signalsFrom place b)
   signals-sized =

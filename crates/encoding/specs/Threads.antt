@@ -193,7 +193,8 @@ module _ (b : List ℕ) (h : AreBytes b) (l : threadSize ≤ length b) (o : Runn
       let v : pad 0 registerCount (map valueOr0 (jobFrom b .registers)) ≡ chunks num16 2 registerCount (drop registerCount b) =
       ap (pad 0 registerCount) (registers-forth b o)
       ∙ pad-full 0 registerCount _ (length-chunks num16 2 registerCount (drop registerCount b)) in
-      glue b 0 heldCountPlace (threadSize - heldCountPlace) _ _ (raw-forth b _ _ _ _ _ _ (label-forth (num-forth b 0 h (omega arith))) (num-forth b 2 h (omega arith))
+      glue b 0 heldCountPlace (threadSize - heldCountPlace) _ _
+      (raw-forth b _ _ _ _ _ _ (label-forth (num-forth b 0 h (omega arith))) (num-forth b 2 h (omega arith))
       (ap (λ n. n ∷ []) length-returns ∙ byte-forth b 4 (omega arith)) returns-forth
       (ap le32 (present-forth b o) ∙ num32-forth b presencePlace h (omega arith)) (ap (blocks le16) v
       ∙ nums-forth b registersPlace registerCount (2 * registerCount) h (omega arith) refl)) held-forth
@@ -214,7 +215,8 @@ pub thread-forth : (b : List ℕ) → AreBytes b → threadSize ≤ length b →
 unfolding threadFrom threadTidy part
 thread-forth b h l e = go (eqb (num16 b) idleLabel) refl e
   where
-    go : (c : Bool) → eqb (num16 b) idleLabel ≡ c → cond c (isZeros (part b locksPlace (threadSize - locksPlace))) (runningTidy b && signalsTidy heldCount heldCountPlace b) ≡ true
+    go : (c : Bool) → eqb (num16 b) idleLabel ≡ c
+        → cond c (isZeros (part b locksPlace (threadSize - locksPlace))) (runningTidy b && signalsTidy heldCount heldCountPlace b) ≡ true
         → threadBytes (cond c idle (running (num16 (drop 2 b)) (jobFrom b))) ≡ part b 0 threadSize
     go true p t = idle-forth b h l (eqb-true (num16 b) idleLabel p) t
     go false p t = let u = and-both (runningTidy b) _ t in running-forth b h l (running-read b l (u .0)) (u .1)
@@ -231,7 +233,8 @@ thread-sized b l e = go (eqb (num16 b) idleLabel) refl e
       held = signals-sized heldCount heldCountPlace b l t;
     }
 
-    go : (c : Bool) → eqb (num16 b) idleLabel ≡ c → cond c (isZeros (part b locksPlace (threadSize - locksPlace))) (runningTidy b && signalsTidy heldCount heldCountPlace b) ≡ true
+    go : (c : Bool) → eqb (num16 b) idleLabel ≡ c
+        → cond c (isZeros (part b locksPlace (threadSize - locksPlace))) (runningTidy b && signalsTidy heldCount heldCountPlace b) ≡ true
         → SizedThread (cond c idle (running (num16 (drop 2 b)) (jobFrom b)))
     go true p t = tt
     go false p t = let u = and-both (runningTidy b) _ t in job p (running-read b l (u .0)) (u .1)

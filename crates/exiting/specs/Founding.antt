@@ -50,7 +50,9 @@ module _ {image table b : List ℕ} {t : ℕ} (h : Held image table b t) (i : �
   parts = passed image table [] (h .checked) .0
 
   pub held-below : g .label < labels image
-  held-below = pending-below image table g (held-pending image table g (each-at (HeldIn image table) (heldAt (machineFrom b) t) i noSignal (h .entries) l))
+  held-below =
+      let e = each-at (HeldIn image table) (heldAt (machineFrom b) t) i noSignal (h .entries) l in
+      pending-below image table g (held-pending image table g e)
 
   pub held-block : blockAt image (g .label) < blockCount
   held-block = block-below image table parts (g .label) held-below

@@ -56,7 +56,8 @@ module _ (R : Rules) where
     pub lost-thread : (gs : List Signal) (s : Machine) → lost R gs (withThread s t w) ≡ lost R gs s
     unfolding lost
     lost-thread [] s = refl
-    lost-thread (g ∷ gs) s = ap (λ n. cond (admits R (s .trees) g) 0 1 + n) (ap (lost R gs) (admit-thread g s) ∙ lost-thread gs (admit R g s))
+    lost-thread (g ∷ gs) s =
+        ap (λ n. cond (admits R (s .trees) g) 0 1 + n) (ap (lost R gs) (admit-thread g s) ∙ lost-thread gs (admit R g s))
 
   -- the trees keep their places, and behind them comes one for each signal that is not lost
   pub record Founded (gs : List Signal) (s : Machine) : Type 0 where

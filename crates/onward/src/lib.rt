@@ -21,7 +21,8 @@ ghost use Rattle.step_ready.specs.At.{At};
 pub fn go_on(state: &mut [u8], t: Thread, w: ThreadState, to: Label) -> Answer
     requires { ⌜ Canonical (now state) × (t .0 < threadCount) × Running w × (to .0 < idleLabel) ⌝ }
     ensures { λ a. ⌜ a ≡ Answer.Moved ⌝ }
-    ensures { λ _. ⌜ Encodes (now (state .exit)) (withJob (machineFrom (now (state .entry))) (t .0) (w .locks) (job (to .0) (returnsOf w) (registersOf w))) ⌝ }
+    ensures { λ _. ⌜ Encodes (now (state .exit)) (withJob (machineFrom (now (state .entry))) (t .0) (w .locks)
+        (job (to .0) (returnsOf w) (registersOf w))) ⌝ }
 {
     write_thread(state, t, w.move_on(to));
     Answer::Moved

@@ -98,7 +98,8 @@ left-by : (image table : List ℕ) (s : Machine) (t : ℕ) (gs : List Signal)
 unfolding carry code detail
 left-by image table s t gs =
     let k = founds image table gs (finished (rulesBy image table) t s) in
-    (answered (carry (rulesBy image table) s (leave t gs)) (Exited (length gs - (16 - length (finished (rulesBy image table) t s .trees)))) (ap Exited (k .count)), k .trees)
+    let n = length gs - (16 - length (finished (rulesBy image table) t s .trees)) in
+    (answered (carry (rulesBy image table) s (leave t gs)) (Exited n) (ap Exited (k .count)), k .trees)
 
 -- refusals that do not apply, after others
 last-none : (faults : List ℕ) → firstOf (faults ++ 0 ∷ 0 ∷ 0 ∷ []) ≡ firstOf faults

@@ -1,5 +1,6 @@
 -- What a statement does, told without image, table, other threads or locks. It sees the registers, the words of its own block, and how
--- many return labels, pending signals and held signals there are; of labels it says only "on to A", "on to B", "into A", "call A" and "return".
+-- many return labels, pending signals and held signals there are; of labels it says only "on to A", "on to B", "into A", "call A" and
+-- "return".
 use mathlib.Core.Bool.{Bool, true, cond}
 use mathlib.Core.Option.{Option, none, some}
 use mathlib.Core.List.{List, [], _∷_, _++_, map}

@@ -62,7 +62,8 @@ alien r t = eqb (r .kind) fdCode && not (eqb (r .thread) t)
 module _ (block : ℕ → ℕ) (row : ℕ → Row) where
   abbrev pub onward : ℕ → List ℕ → List Signal → ℕ → Going → Option ℕ → Effect
   onward l returns gs a g want =
-      moves (withHeld (holdOn gs (signalTo a (g .held))) (job l returns (g .cells .registers))) (g .cells .words) (signalTo a (g .sent)) want
+      moves (withHeld (holdOn gs (signalTo a (g .held))) (job l returns (g .cells .registers))) (g .cells .words)
+      (signalTo a (g .sent)) want
 
   abbrev pub steer : ℕ → ℕ → ℕ → List Signal → Going → Next → List ℕ → Effect
   steer t a b gs g onA rs = onward a rs gs a g none

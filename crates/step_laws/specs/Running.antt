@@ -9,8 +9,8 @@ use lib.ListN.{length, set}
 use Rattle.rules.specs.Sorts
 use Rattle.rules.specs.Machine.{Signal, Job, idle, running, Machine, threadAt, first, put, window, keep, withThread}
 use Rattle.rules.specs.Events.{step}
-use Rattle.rules.specs.Steps.{Rules, Effect, traps, exits, moves, added, planRunning, planStep, plan, held, blocked, finished, admitted, lost}
-use Rattle.rules.specs.Steps.{attempt, carry, react}
+use Rattle.rules.specs.Steps.{Rules, Effect, traps, exits, moves, added, planRunning, planStep, plan, held, blocked, finished}
+use Rattle.rules.specs.Steps.{admitted, lost, attempt, carry, react}
 use Rattle.rules.specs.declared.answer.Answer.the-variants.{Waiting, Moved, Exited, Trapped}
 use Rattle.step_laws.specs.Same.{keep-window, put-same}
 use Rattle.step_laws.specs.Events.{reply}

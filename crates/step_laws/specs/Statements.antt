@@ -95,8 +95,8 @@ module _ (image table : List ℕ) (s : Machine) (t l : ℕ) (j : Job) (p : List 
     branches c e h = case (holds (c .relation) x y) refl
       where
         case : (b : Bool) → holds (c .relation) x y ≡ b
-            → react R s (step t) ≡ reply (withThread s t (running l (kept (job (cond b (labelA r) (labelB r)) (j .returns) (j .registers)))))
-            Moved
+            → react R s (step t) ≡ reply
+            (withThread s t (running l (kept (job (cond b (labelA r) (labelB r)) (j .returns) (j .registers))))) Moved
         case true q = moves-on R s t l j p runs tree _ (unfold actBy outcome perform in rw (e, h, q) refl)
         case false q = moves-on R s t l j p runs tree _ (unfold actBy outcome perform in rw (e, h, q) refl)
 
@@ -120,7 +120,8 @@ module _ (image table : List ℕ) (s : Machine) (t l : ℕ) (j : Job) (p : List 
         send-waits w = waits-for R s t l j p runs tree _ into sends w
 
         pub send-enters : held lock (set (s .threads) t idle) ≡ false
-            → react R s (step t) ≡ reply (withThread s t (running (bitOr l (2 ^ lock)) (kept (job (labelA r) (j .returns) (fill vs))))) Moved
+            → react R s (step t) ≡ reply
+            (withThread s t (running (bitOr l (2 ^ lock)) (kept (job (labelA r) (j .returns) (fill vs))))) Moved
         send-enters w = enters R s t l j p runs tree _ into sends w
 
     -- ---- SEND buffered
@@ -187,5 +188,6 @@ module _ (image table : List ℕ) (s : Machine) (t l : ℕ) (j : Job) (p : List 
     -- ---- TRANSFER
 
     pub transfers : statementOf r ≡ Transfer → readAll cellsOf (dataOf r) ≡ got vs
-        → react R s (step t) ≡ reply (withThread s t (running l (kept (job (labelA r) (j .returns) (overlaid vs cellsOf .registers))))) Moved
+        → react R s (step t) ≡ reply
+        (withThread s t (running l (kept (job (labelA r) (j .returns) (overlaid vs cellsOf .registers))))) Moved
     transfers e h = moves-on R s t l j p runs tree _ (unfold actBy outcome perform in rw (e, h) refl)

@@ -59,7 +59,8 @@ done {r} {b} {a} s x e f h = record {
 -- a thread that runs a job, written
 pub job-written : {b b′ : List ℕ} (t : ℕ) {w : ThreadState} {locks : ℕ} {j : Job} → Canonical b → t < threadCount → Runs w locks j
     → b′ ≡ put b (threadPlace t) (rawBytes w) → Encodes b′ (withJob (machineFrom b) t locks j)
-job-written {b} t {w} h l r e = rw (r .state) at (thread-written b (machineFrom b) h t w l (r .running .tidy) (λ q. never (cc (r .state))) e)
+job-written {b} t {w} h l r e =
+    rw (r .state) at (thread-written b (machineFrom b) h t w l (r .running .tidy) (λ q. never (cc (r .state))) e)
 
 module _ {image table b : List ℕ} (h : Ready image table b) where
   pub ready-again : {b′ : List ℕ} {a : Answer} (e : Event) → Accepted image e → Done (replyTo image table b e) b′ a → Ready image table b′

@@ -11,7 +11,7 @@ use Rattle.encoding.specs.Encoded.{Encodes, encodes}
 use Rattle.encoding.specs.Layout.{thread-on}
 use Rattle.encoding.specs.Lengths.{length-raw}
 use Rattle.encoding.specs.Stores.{sized-thread, thread-at-sized}
-use Rattle.encoding.specs.HeldStores.{held-sized, value-stored}
+use Rattle.encoding.specs.HeldStores.{held-all, value-stored}
 use Rattle.threads.specs.Threads.{stateOf, keepHeld, Tidy, Says}
 use Rattle.threads.specs.Records.{threadPlace, rawThread, rawBytes, bytes-are, bytes-of, tidy-sized}
 use Rattle.threads.specs.declared.thread.ThreadState.{ThreadState}
@@ -35,4 +35,4 @@ module _ (b : List ℕ) (s : Machine) (h : Encodes b s) where
       let gs = heldOf (threadAt s t) in
       encodes _ _ (value-stored s t (h .sized .threads) l (h .same) (rawBytes w) (keepHeld gs (stateOf w)) (length-raw _ _ _ _ _ _)
       (sym (bytes-are w z gs n)) e)
-      (sized-thread s t (keepHeld gs (stateOf w)) (tidy-sized w gs z (held-sized (threadAt s t) (thread-at-sized s t (h .sized) l))) (h .sized))
+      (sized-thread s t (keepHeld gs (stateOf w)) (tidy-sized w gs z (held-all s t (h .same) (h .sized) l)) (h .sized))

@@ -91,7 +91,8 @@ module _ (w : ThreadState) (z : Tidy w) where
       rw (e, n .0, n .1, n .2, r, g)
 
   -- with the signals gs held, of which an idle thread has none
-  pub bytes-are : (gs : List Signal) → (stateOf w ≡ idle → gs ≡ []) → threadBytes (keepHeld gs (stateOf w)) ≡ rawBytes w ++ signalsBytes heldCount gs
+  pub bytes-are : (gs : List Signal) → (stateOf w ≡ idle → gs ≡ [])
+      → threadBytes (keepHeld gs (stateOf w)) ≡ rawBytes w ++ signalsBytes heldCount gs
   unfolding stateOf
   bytes-are gs n = go (eqb (w .label .0) idleLabel) refl n
     where
@@ -214,8 +215,9 @@ bytes-say b l e = go (eqb (num16 b) idleLabel) refl e
     from-is : (c : Bool) → eqb (num16 b) idleLabel ≡ c → threadFrom b ≡ cond c idle (running (num16 (drop locksPlace b)) (jobFrom b))
     from-is c p = unfold threadFrom in rw p
 
-    go : (c : Bool) → eqb (num16 b) idleLabel ≡ c → cond c (isZeros (part b locksPlace (threadSize - locksPlace))) (runningTidy b && signalsTidy heldCount heldCountPlace b)
-        ≡ true → Says (rawThread b) (threadFrom b)
+    go : (c : Bool) → eqb (num16 b) idleLabel ≡ c
+        → cond c (isZeros (part b locksPlace (threadSize - locksPlace))) (runningTidy b && signalsTidy heldCount heldCountPlace b) ≡ true
+        → Says (rawThread b) (threadFrom b)
     go true p t = record {
       state = state-is true p ∙ ap (keepHeld []) (sym (from-is true p));
       tidy = idle-tidy b (zeros-part b locksPlace (threadSize - locksPlace) (omega arith) t);

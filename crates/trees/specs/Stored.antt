@@ -90,5 +90,6 @@ last-moved {b} {b′} k s a x t n m en e =
     let h : n - 1 < length (machineFrom b .trees) = omega arith in
     let y = moved (treeAt (machineFrom b) (n - 1)) t in
     let q = tree-move (machineFrom b) (n - 1) (k .same) (k .sized .trees) h t (treesPlace + treeSize * (n - 1)) refl e in
-    let z = sized-set (machineFrom b) (k .sized) (n - 1) h y (sized-moved (treeAt (machineFrom b) (n - 1)) t (sized-at (machineFrom b) (k .sized) (n - 1) h)) in
+    let moves = sized-moved (treeAt (machineFrom b) (n - 1)) t (sized-at (machineFrom b) (k .sized) (n - 1) h) in
+    let z = sized-set (machineFrom b) (k .sized) (n - 1) h y moves in
     (canon _ z q, says _ z q ∙ rw m (rw (getD-at a x [] noTree (n - 1) (sym p), set-at a x [] (moved x t) (n - 1) (sym p))))

@@ -13,8 +13,11 @@ write-thread-requires c κs =
 
 returns : tie.Need-returns
 returns c =
+    let write-thread = c .before .before .write-thread in
+    let end = c .before .before .before .end in
+    let drop-held = c .before .before .before .before .before .before .before .drop-held in
     let s = c .before .before .before .before .before .before .before .before .before .before in
-    cleared (s .args .t .0) (s .pre .0) (s .pre .1) (c .before .before .before .before .before .before .before .drop-held .ensures) (c .before .before .before .end .ensures) (c .before .before .write-thread .ensures)
+    cleared (s .args .t .0) (s .pre .0) (s .pre .1) (drop-held .ensures) (end .ensures) (write-thread .ensures)
 
 pub clear-thread-spec : {M : Type 1} → statement M
 clear-thread-spec =

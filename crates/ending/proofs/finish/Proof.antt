@@ -13,9 +13,10 @@ clear-thread-requires c κs =
 
 returns : tie.Need-returns
 returns c =
-    let t = c .before .before .before .before .before .before .before .before .before .before .before .args .t .0 in
+    let clear-thread = c .before .before .clear-thread in
     let k = c .before .before .before .before .before .before .settle .ensures in
-    subst (λ (q : Machine). Encodes (c .before .before .clear-thread .last .0) (withThread q t idle)) (encoded-machine _ _ k) (c .before .before .clear-thread .ensures)
+    let t = c .before .before .before .before .before .before .before .before .before .before .before .args .t .0 in
+    subst (λ (q : Machine). Encodes (clear-thread .last .0) (withThread q t idle)) (encoded-machine _ _ k) (clear-thread .ensures)
 
 pub finish-spec : {M : Type 1} → statement M
 finish-spec = tie.close (tie.spec (λ c κs. search needs) clear-thread-requires (λ c. search needs) returns)

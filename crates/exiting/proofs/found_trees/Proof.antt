@@ -27,16 +27,22 @@ found-tree-requires c κs =
 
 add-missed : tie.Need-add-missed Inv-loop μ-loop
 add-missed c =
+    let found-tree = c .before .before .found-tree in
+    let loop-test = c .before .before .before .before .loop-test in
+    let loop = c .before .before .before .before .before .loop in
     let s = c .before .before .before .before .before .before .before .before .before in
-    let a = after-signal (s .pre .0) (c .before .before .before .before .before .loop .inv) (omega (arith, s .pre .1, c .before .before .before .before .loop-test .taken)) (c .before .before .found-tree .result)
-    (c .before .before .found-tree .ensures .0) (c .before .before .found-tree .ensures .1) in
+    let a = after-signal (s .pre .0) (loop .inv) (omega (arith, s .pre .1, loop-test .taken)) (found-tree .result)
+    (found-tree .ensures .0) (found-tree .ensures .1) in
     omega (arith, a .few, a .inside, held-few (s .pre .0 .canonical) (s .args .t .0) (s .pre .0 .inside))
 
 loop-again : tie.Need-loop-again Inv-loop μ-loop
 loop-again c =
+    let found-tree = c .before .before .found-tree in
+    let loop-test = c .before .before .before .before .loop-test in
+    let loop = c .before .before .before .before .before .loop in
     let s = c .before .before .before .before .before .before .before .before .before in
-    after-signal (s .pre .0) (c .before .before .before .before .before .loop .inv) (omega (arith, s .pre .1, c .before .before .before .before .loop-test .taken)) (c .before .before .found-tree .result)
-    (c .before .before .found-tree .ensures .0) (c .before .before .found-tree .ensures .1)
+    after-signal (s .pre .0) (loop .inv) (omega (arith, s .pre .1, loop-test .taken)) (found-tree .result)
+    (found-tree .ensures .0) (found-tree .ensures .1)
 
 returns : tie.Need-returns Inv-loop μ-loop
 returns c =

@@ -18,10 +18,14 @@ use Rattle.exiting.proofs.leave.Statement.{statement}
 use Rattle.exiting.proofs.leave.Tie as tie
 
 held-count-requires : tie.Need-held-count-requires
-held-count-requires c κs = (c .before .before .before .before .before .pre .0 .ready .canonical, c .before .before .before .before .before .pre .0 .inside)
+held-count-requires c κs =
+    let s = c .before .before .before .before .before in
+    (s .pre .0 .ready .canonical, s .pre .0 .inside)
 
 settle-requires : tie.Need-settle-requires
-settle-requires c κs = (c .before .before .before .before .before .before .before .pre .0 .ready, c .before .before .before .before .before .before .before .pre .0 .inside, at-busy (c .before .before .before .before .before .before .before .pre .0))
+settle-requires c κs =
+    let s = c .before .before .before .before .before .before .before in
+    (s .pre .0 .ready, s .pre .0 .inside, at-busy (s .pre .0))
 
 found-trees-requires : tie.Need-found-trees-requires
 found-trees-requires c κs =
@@ -31,23 +35,28 @@ found-trees-requires c κs =
 
 clear-thread-requires : tie.Need-clear-thread-requires
 clear-thread-requires c κs =
-    let h = c .before .before .before .before .before .before .before .before .before .before .before .before .before .before .before .pre .0 in
     let k = c .before .before .before .found-trees .ensures .1 in
-    (encoded-canonical _ _ k, h .inside, still-busy h (c .before .before .before .before .before .before .before .settle .ensures) k)
+    let settle = c .before .before .before .before .before .before .before .settle in
+    let h = c .before .before .before .before .before .before .before .before .before .before .before .before .before .before .before
+    .pre .0 in
+    (encoded-canonical _ _ k, h .inside, still-busy h (settle .ensures) k)
 
 returns : tie.Need-returns
 returns c =
-    let s = c .before .before .before .before .before .before .before .before .before .before .before .before .before .before .before .before .before .before in
+    let clear-thread = c .before .before .clear-thread in
+    let f = c .before .before .before .before .before .before .found-trees .ensures in
+    let k = c .before .before .before .before .before .before .before .before .before .before .settle .ensures in
+    let s = c .before .before .before .before .before .before .before .before .before .before .before .before .before .before .before
+    .before .before .before in
     let a = s .args in
     let h = s .pre .0 in
     let m = machineFrom (a .state .now) in
     let R = rulesBy (a .image .now) (a .table .now) in
-    let k = c .before .before .before .before .before .before .before .before .before .before .settle .ensures in
-    let f = c .before .before .before .before .before .before .found-trees .ensures in
     done (admitted R (heldAt m (a .t .0)) (finished R (a .t .0) m)) (Exited (lost R (heldAt m (a .t .0)) (finished R (a .t .0) m)))
-    (leaves (a .image .now) (a .table .now) m (a .t .0) (a .w .locks) _ (tree h .0) (h .runs) (tree h .1) (statement-here h Exit (s .pre .1)))
+    (leaves (a .image .now) (a .table .now) m (a .t .0) (a .w .locks) _ (tree h .0) (h .runs) (tree h .1) (statement-here h Exit
+    (s .pre .1)))
     (ap Exited (f .0 ∙ lost-there h k))
-    (left h k (f .1) (c .before .before .clear-thread .ensures))
+    (left h k (f .1) (clear-thread .ensures))
 
 pub leave-spec : {M : Type 1} → statement M
 leave-spec =

@@ -23,9 +23,10 @@ hold-requires c κs =
     let h = s .pre .0 in
     let given = s .pre .2 in
     let n = c .operand-count .ensures in
-    let moved = rw (c .before .before .before .before .before .before .label-b .ensures) at (c .before .before .before .before .go-on .ensures .1) in
-    (
-      encoded-canonical _ _ (c .before .before .before .before .go-on .ensures .1),
+    let go-on = c .before .before .before .before .go-on in
+    let label-b = c .before .before .before .before .before .before .label-b in
+    let moved = rw (label-b .ensures) at (go-on .ensures .1) in (
+      encoded-canonical _ _ (go-on .ensures .1),
       h .inside,
       still-busy h (s .pre .1) (s .args .values) given moved,
       few-still h (s .pre .1) (s .args .values) given moved (s .pre .3),
@@ -34,10 +35,15 @@ hold-requires c κs =
 
 returns : tie.Need-returns
 returns c =
+    let hold = c .before .before .hold in
+    let operand-count = c .before .before .before .operand-count in
+    let go-on = c .before .before .before .before .before .before .before .go-on in
+    let label-b = c .before .before .before .before .before .before .before .before .before .label-b in
+    let label-a = c .before .before .before .before .before .before .before .before .before .before .label-a in
     let s = c .before .before .before .before .before .before .before .before .before .before .before .before .before .before .before in
-    let moved = rw (c .before .before .before .before .before .before .before .before .before .label-b .ensures) at (c .before .before .before .before .before .before .before .go-on .ensures .1) in
-    let held = rw (c .before .before .before .before .before .before .before .before .before .before .label-a .ensures, c .before .before .before .operand-count .ensures) at (c .before .before .hold .ensures) in
-    held-stepped (s .pre .0) (s .pre .1) (s .args .values) (s .pre .2) (s .pre .3) moved held (c .before .before .before .before .before .before .before .go-on .ensures .0)
+    let moved = rw (label-b .ensures) at (go-on .ensures .1) in
+    let held = rw (label-a .ensures, operand-count .ensures) at (hold .ensures) in
+    held-stepped (s .pre .0) (s .pre .1) (s .args .values) (s .pre .2) (s .pre .3) moved held (go-on .ensures .0)
 
 pub hold-for-tree-spec : {M : Type 1} → statement M
 hold-for-tree-spec =

@@ -6,12 +6,17 @@ use Rattle.held_signals.proofs.drop_held.Tie as tie
 
 returns : tie.Need-returns
 returns c =
-    held-dropped (c .before .before .before .before .before .before .before .before .pre .0) (c .before .before .before .before .before .before .before .before .args .t .0) (c .before .before .before .before .before .before .before .before .pre .1) (c .before .before .before .before .before .before .before .before .pre .2) (rw (c .before .before .before .before .before .before .count-at .ensures) at (c .before .before .clear .ensures))
+    let clear = c .before .before .clear in
+    let count-at = c .before .before .before .before .before .before .count-at in
+    let s = c .before .before .before .before .before .before .before .before in
+    held-dropped (s .pre .0) (s .args .t .0) (s .pre .1) (s .pre .2) (rw (count-at .ensures) at (clear .ensures))
 
 returns-2 : tie.Need-returns-2
 returns-2 c =
-    let n = count-read (c .before .before .before .before .pre .0) (c .before .before .before .before .args .t .0) (c .before .before .before .before .pre .1) (c .before .before .count-at .ensures) refl in
-    none-held (c .before .before .before .before .pre .0) (c .before .before .before .before .args .t .0) (c .before .before .before .before .pre .1) (sym n ∙ c .if1 .left)
+    let count-at = c .before .before .count-at in
+    let s = c .before .before .before .before in
+    let n = count-read (s .pre .0) (s .args .t .0) (s .pre .1) (count-at .ensures) refl in
+    none-held (s .pre .0) (s .args .t .0) (s .pre .1) (sym n ∙ c .if1 .left)
 
 pub drop-held-spec : {M : Type 1} → statement M
 drop-held-spec =

@@ -13,21 +13,31 @@ long c = search needs
 
 write-signal-requires : tie.Need-write-signal-requires
 write-signal-requires c κs =
-    let n = count-read (c .before .before .before .before .before .pre .0) (c .before .before .before .before .before .args .t .0) (c .before .before .before .before .before .pre .1) (c .before .before .before .count-at .ensures) (c .before .get8 .ensures .0) in
-    (omega (arith, n, c .before .before .before .count-at .ensures, c .before .before .before .before .before .pre .0 .long, c .before .before .before .before .before .pre .1, c .before .before .before .before .before .pre .3), c .before .before .before .before .before .pre .4)
+    let get8 = c .before .get8 in
+    let count-at = c .before .before .before .count-at in
+    let s = c .before .before .before .before .before in
+    let n = count-read (s .pre .0) (s .args .t .0) (s .pre .1) (count-at .ensures) (get8 .ensures .0) in
+    (omega (arith, n, count-at .ensures, s .pre .0 .long, s .pre .1, s .pre .3), s .pre .4)
 
 cast-put8 : tie.Need-cast-put8
 cast-put8 c =
-    let n = count-read (c .before .before .before .before .before .before .before .before .before .pre .0) (c .before .before .before .before .before .before .before .before .before .args .t .0) (c .before .before .before .before .before .before .before .before .before .pre .1) (c .before .before .before .before .before .before .before .count-at .ensures) (c .before .before .before .before .before .get8 .ensures .0) in
-    omega (arith, n, c .before .before .before .before .before .before .before .before .before .pre .3)
+    let get8 = c .before .before .before .before .before .get8 in
+    let count-at = c .before .before .before .before .before .before .before .count-at in
+    let s = c .before .before .before .before .before .before .before .before .before in
+    let n = count-read (s .pre .0) (s .args .t .0) (s .pre .1) (count-at .ensures) (get8 .ensures .0) in
+    omega (arith, n, s .pre .3)
 
 returns : tie.Need-returns
 returns c =
+    let put8 = c .before .before .put8 in
+    let write-signal = c .before .before .before .before .before .before .write-signal in
+    let get8 = c .before .before .before .before .before .before .before .before .get8 in
+    let count-at = c .before .before .before .before .before .before .before .before .before .before .count-at in
     let s = c .before .before .before .before .before .before .before .before .before .before .before .before in
-    let n = count-read (c .before .before .before .before .before .before .before .before .before .before .before .before .pre .0) (c .before .before .before .before .before .before .before .before .before .before .before .before .args .t .0) (c .before .before .before .before .before .before .before .before .before .before .before .before .pre .1) (c .before .before .before .before .before .before .before .before .before .before .count-at .ensures) (c .before .before .before .before .before .before .before .before .get8 .ensures .0) in
-    signal-held (s .pre .0) (s .args .t .0) (s .pre .1) (c .before .before .before .before .before .before .before .before .get8 .result) (signalOf (s .args .g)) (s .pre .2)
+    let n = count-read (s .pre .0) (s .args .t .0) (s .pre .1) (count-at .ensures) (get8 .ensures .0) in
+    signal-held (s .pre .0) (s .args .t .0) (s .pre .1) (get8 .result) (signalOf (s .args .g)) (s .pre .2)
     (value-sized (s .args .g) (long s) (s .pre .4)) n (s .pre .3)
-    (rw (c .before .before .before .before .before .before .before .before .before .before .count-at .ensures) at (c .before .before .before .before .before .before .write-signal .ensures)) (rw (c .before .before .before .before .before .before .before .before .before .before .count-at .ensures) at (c .before .before .put8 .ensures))
+    (rw (count-at .ensures) at (write-signal .ensures)) (rw (count-at .ensures) at (put8 .ensures))
 
 pub hold-spec : {M : Type 1} → statement M
 hold-spec =
