@@ -61,7 +61,7 @@ unfoldable pub slotOk : List ℕ → ℕ → Bool
 slotOk r k = cond (ltb k (operands r)) (operandOk (kind r k) (value r k)) (eqb (kind r k) 0 && eqb (value r k) 0)
 
 -- a label v of this role, in a record of block b: where used it is below n, of the entry that its role asks for, and in the record's
--- block unless it is a signal of 5, 6 or 7; where it is not used it is zero
+-- block unless it is a signal of 5, 6, 7 or 11; where it is not used it is zero
 abbrev pub roleOk : Role → ℕ → Bool → Bool → ℕ → Bool
 roleOk Unused v below same e = eqb v 0
 roleOk Inner v below same e = below && same
