@@ -1,7 +1,7 @@
 //! A call made of the library and of the second implementation, and compared.
 
 use crate::library;
-use crate::sizes::{RECORD, RECORDS};
+use crate::seen::Seen;
 use second::generate::{Lent, Pair};
 
 #[derive(Clone, Copy, Debug)]
@@ -32,84 +32,6 @@ impl Call {
             Call::Run => second::run(image, table, state, events, answers),
             Call::Walk => second::walk(image, table, state, *thread, met),
         }
-    }
-}
-
-/// What the calls of a comparison have shown, to tell an idle one from a good one.
-#[derive(Default)]
-pub struct Seen {
-    pub calls: u64,
-    pub events: u64,
-    pub refusals: [u64; 16],
-    pub codes: [u64; 11],
-    pub traps: [u64; 6],
-    pub rings: u64,
-    /// Threads of the longest walk.
-    pub longest_walk: u32,
-    /// Pairs of images that were linked.
-    pub links: u64,
-    /// Of the refusals those of links.
-    pub link_refusals: [u64; 16],
-    /// Records of the largest linked image.
-    pub largest_link: usize,
-}
-
-impl Seen {
-    fn note_return(&mut self, returned: u32) {
-        self.calls += 1;
-        self.refusals[(returned >> 16) as usize] += 1;
-    }
-
-    fn note(&mut self, call: Call, returned: u32, lent: &Lent) {
-        self.note_return(returned);
-        match call {
-            Call::Run if returned == 0 => lent.answers.chunks(2).for_each(|a| self.note_answer(a)),
-            Call::Walk if returned < 65_536 => {
-                self.rings += u64::from(returned >= 256);
-                self.longest_walk = self.longest_walk.max(returned % 256);
-            }
-            _ => {}
-        }
-    }
-
-    fn note_answer(&mut self, answer: &[u8]) {
-        self.events += 1;
-        self.codes[usize::from(answer[0])] += 1;
-        if answer[0] == 8 {
-            self.traps[usize::from(answer[1])] += 1;
-        }
-    }
-
-    fn note_link(&mut self, returned: u32, pair: &Pair) {
-        self.note_return(returned);
-        self.link_refusals[(returned >> 16) as usize] += 1;
-        if returned == 0 {
-            self.links += 1;
-            self.largest_link = self.largest_link.max(pair.out.len() / RECORD);
-        }
-    }
-
-    /// What should have been seen in a comparison of many cases and was not.
-    pub fn missing(&self) -> Vec<String> {
-        let sorts = [
-            ("refusal", 1, &self.refusals[1..]),
-            ("code", 1, &self.codes[1..]),
-            ("trap", 1, &self.traps[1..]),
-            ("refusal of a link", 1, &self.link_refusals[1..=4]),
-            ("refusal of a link", 13, &self.link_refusals[13..]),
-        ];
-        let mut missing: Vec<String> = Vec::new();
-        for (sort, first, counts) in sorts {
-            let unseen = (first..).zip(counts).filter(|(_, &count)| count == 0);
-            missing.extend(unseen.map(|(number, _)| format!("{sort} {number}")));
-        }
-        if self.rings == 0 || self.longest_walk < 8 {
-            missing.push("a ring and a walk of 8 threads".into());
-        }
-        if self.largest_link < RECORDS {
-            missing.push(format!("a link of {RECORDS} records"));
-        }
-        missing
     }
 }
 

@@ -1,13 +1,14 @@
 //! What is compared for a seed.
 
-use crate::both::{both, Call, Seen};
-use crate::sizes::{ANSWER, EVENT, RECORD};
+use crate::both::{both, Call};
+use crate::held::differ_in_held_alone;
+use crate::seen::Seen;
+use crate::sizes::{ANSWER, EVENT, RECORD, STATE, THREADS};
 use second::generate::{damage, events, lent, Lent, Random};
 use second::second_order;
 
 /// Events of one Run.
 const LIMIT: usize = 1_024;
-const THREADS: u32 = 8;
 /// Damaged copies of what a case lends, each given to every call but the link.
 const DAMAGED: usize = 6;
 /// The fewest events of a long list.
@@ -38,7 +39,7 @@ pub fn hand_over(lent: &mut Lent, events: &[u8]) {
 }
 
 fn walks(seen: &mut Seen, lent: &mut Lent) -> Result<(), String> {
-    for thread in 0..THREADS {
+    for thread in 0..THREADS as u32 {
         lent.thread = thread;
         lent.met.fill(7);
         both(seen, Call::Walk, lent)?;
@@ -53,8 +54,23 @@ fn damaged_calls(seen: &mut Seen, random: &mut Random, good: &Lent) -> Result<()
         for call in Call::ALL {
             both(seen, call, &mut damaged.clone())?;
         }
+        if held_alone(good, &damaged) {
+            let returned = both(seen, Call::Walk, &mut damaged)?;
+            seen.note_damaged_held(returned);
+        }
     }
     Ok(())
+}
+
+/// Whether a walk is lent other held signals than this good one, and nothing
+/// else that is different.
+fn held_alone(good: &Lent, damaged: &Lent) -> bool {
+    good.image == damaged.image
+        && good.table == damaged.table
+        && good.thread == damaged.thread
+        && good.met == damaged.met
+        && damaged.state.len() == STATE
+        && differ_in_held_alone(&good.state, &damaged.state)
 }
 
 /// A long event list in many Runs, refused ones between them, and then its
@@ -82,6 +98,7 @@ pub fn long_case(seen: &mut Seen, seed: u64) -> Result<(), String> {
     if lent.state != left {
         return Err("the jobs one by one leave another state".into());
     }
+    seen.note_one_by_one(&expected);
     Ok(())
 }
 
@@ -113,7 +130,7 @@ pub fn waiting_case(seen: &mut Seen, seed: u64) -> Result<(), String> {
     lent.table = (0..16).flat_map(|block| [block % THREADS as u8, 1]).collect();
     both(seen, Call::Fresh, &mut lent)?;
     for _ in 0..4 * THREADS {
-        let thread = random.below(THREADS as usize) as u8;
+        let thread = random.below(THREADS) as u8;
         hand_over(&mut lent, &[arrival(2 * thread), step(thread)].concat());
         both(seen, Call::Run, &mut lent)?;
         walks(seen, &mut lent)?;

@@ -1,7 +1,8 @@
 //! What is compared of the link for a seed.
 
-use crate::both::{both, both_link, Call, Seen};
+use crate::both::{both, both_link, Call};
 use crate::cases::hand_over;
+use crate::seen::Seen;
 use crate::sizes::{EVENT, RECORD, STATE};
 use second::generate::{damage_pair, pair, Guest, Lent, Pair, Random};
 use second::{relocated_events, relocated_state};
@@ -55,6 +56,9 @@ fn guest_on_link(
     }
     if linked.state != state {
         return Err("a guest leaves another state on the linked image".into());
+    }
+    if by > 0 {
+        seen.note_shifted(&linked.state);
     }
     Ok(())
 }

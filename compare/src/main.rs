@@ -7,11 +7,13 @@
 
 mod both;
 mod cases;
+mod held;
 mod library;
 mod links;
+mod seen;
 mod sizes;
 
-use both::Seen;
+use seen::Seen;
 use std::process::ExitCode;
 use std::time::{Duration, Instant, SystemTime, UNIX_EPOCH};
 
@@ -32,11 +34,13 @@ fn main() -> ExitCode {
         _ => Err("use: compare | compare soak SECONDS | compare replay SEED".into()),
     };
     let Seen { calls, events, rings, longest_walk, links, largest_link, .. } = seen;
+    let lost = seen.lost();
     match compared {
         Ok(what) => {
             println!(
-                "compare: {what}, {calls} calls, {events} events, {rings} rings, walks of up to \
-                 {longest_walk} threads, {links} links of up to {largest_link} records: no difference"
+                "compare: {what}, {calls} calls, {events} events, {lost} held signals lost, {rings} rings, \
+                 walks of up to {longest_walk} threads, {links} links of up to {largest_link} records: \
+                 no difference"
             );
             ExitCode::SUCCESS
         }

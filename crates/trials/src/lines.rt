@@ -6,6 +6,7 @@ use crate::files::load;
 use crate::files::read;
 use crate::memory::Lengths;
 use crate::memory::Memory;
+use crate::memory::PART;
 use crate::tally::Tally;
 use crate::text::after;
 use crate::text::begins;
@@ -60,7 +61,7 @@ fn folder(path: &[u8]) -> &[u8] {
 
 // Tries each line of a file that names `call`, on the cases in the file's folder.
 pub fn try_file(path: &[u8], call: &[u8], memory: &mut Memory, lengths: &mut Lengths) -> Tally {
-    let mut text = [0u8; 65536];
+    let mut text = [0u8; PART];
     let n = read(path, &mut text);
     try_text(folder(path), &text[..n], call, memory, lengths)
 }

@@ -24,13 +24,15 @@ fn try_lines(vectors: &[u8], call: &[u8], memory: &mut Memory, lengths: &mut Len
 }
 
 fn main() {
-    let mut memory = [0u8; 589824];
+    let mut memory = [0u8; 1179648];
     let mut lengths = [0usize; 9];
     image_lengths(&mut memory, &mut lengths).print(b"check", b" image lengths agree\n");
     try_lines(b"damaged.txt", b"check", &mut memory, &mut lengths);
     try_lines(b"damaged.txt", b"fresh", &mut memory, &mut lengths);
     try_lines(b"damaged.txt", b"run", &mut memory, &mut lengths);
     try_lines(b"damaged.txt", b"walk", &mut memory, &mut lengths);
+    let near = try_file(b"near.txt", b"walk", &mut memory, &mut lengths);
+    near.print(b"walk", b" lines near the cases' states agree\n");
     let cases = try_file(b"index.txt", b"run=", &mut memory, &mut lengths);
     cases.print(b"run", b" cases agree, with the walks of eight threads\n");
     link_counts(&mut memory, &mut lengths).print(b"link", b" record counts agree\n");
