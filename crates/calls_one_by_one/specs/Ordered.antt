@@ -17,7 +17,7 @@ use Rattle.calls_one_by_one.specs.CallList.{eventsOf, answersOf}
 -- ---- events, written down and read again
 
 abbrev reread : Entry → Entry
-reread n = record { event = eventFrom (eventBytes (n .event)); answer = n .answer }
+reread n = record { event = eventFrom (eventBytes (n .event)); answer = n .answer; lost = n .lost }
 
 row-reread : (e : Event) → rowOf (eventFrom (eventBytes e)) ≡ rowOf e
 unfolding eventFrom eventBytes

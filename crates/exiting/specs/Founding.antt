@@ -14,7 +14,7 @@ use Rattle.rules.specs.Encoding.{noSignal, machineFrom}
 use Rattle.rules.specs.Steps.{Rules, rulesBy, blockAt, roomFor, home, admits, admit, admitted, lost}
 use Rattle.fields.specs.Each.{Each, each-at}
 use Rattle.laws.specs.Passed.{Passed, passed}
-use Rattle.laws.specs.Admitted.{admit-keeps}
+use Rattle.laws.specs.Admitted.{admit-keeps, lost-one}
 use Rattle.encoding.specs.Encoded.{Canonical, Encodes, encoded-machine, encoded-canonical}
 use Rattle.soundness.specs.Sound.{HeldIn}
 use Rattle.soundness.specs.Destinations.{block-below}
@@ -89,7 +89,7 @@ module _ (image table : List ℕ) where
     pub canonical : Canonical b
     pub threads : machineFrom b .threads ≡ m .threads
     pub state : admitted S gs m ≡ admitted S (drop i gs) (machineFrom b)
-    pub count : lost S gs m ≡ n + lost S (drop i gs) (machineFrom b)
+    pub count : length (lost S gs m) ≡ n + length (lost S (drop i gs) (machineFrom b))
     pub few : n ≤ i
     pub inside : i ≤ length gs
 
@@ -106,29 +106,31 @@ module _ (image table : List ℕ) where
   module _ {m : Machine} {gs : List Signal} {i n : ℕ} {b : List ℕ} (h : After m gs i n b) where
     after-next : {b′ : List ℕ} (k : ℕ) → i < length gs → k ≡ missing image table (machineFrom b) (getD gs i noSignal)
         → Encodes b′ (admit S (getD gs i noSignal) (machineFrom b)) → After m gs (i + 1) (n + k) b′
-    unfolding admitted lost
+    unfolding admitted
     after-next {b′} k l c e =
         let x = getD gs i noSignal in
         let one : suc i ≡ i + 1 = omega arith in
-        let next : drop i gs ≡ x ∷ drop (i + 1) gs = drop-cons gs i noSignal l ∙ ap (λ (q : ℕ). x ∷ drop q gs) one in
+        let rest = drop (i + 1) gs in
+        let next : drop i gs ≡ x ∷ rest = drop-cons gs i noSignal l ∙ ap (λ (q : ℕ). x ∷ drop q gs) one in
         let f = encoded-machine b′ _ e in
         record {
           canonical = encoded-canonical b′ _ e;
           threads = ap (λ (s : Machine). s .threads) f
               ∙ admit-keeps S (λ (s : Machine). s .threads ≡ machineFrom b .threads) x (machineFrom b) (λ q. refl) refl ∙ h .threads;
           state = h .state ∙ ap (λ q. admitted S q (machineFrom b)) next ∙ ap (admitted S (drop (i + 1) gs)) (sym f);
-          count = h .count ∙ ap (λ q. n + lost S q (machineFrom b)) next ∙ rw (← c, ← f) (omega arith);
+          count = h .count ∙ ap (λ q. n + length (lost S q (machineFrom b))) next ∙ ap (λ q. n + q) (lost-one S x rest (machineFrom b))
+              ∙ rw (← c, ← f) (omega arith);
           few = omega (arith, h .few, c, few-missing image table (machineFrom b) x);
           inside = omega arith;
         }
 
     -- after the last of them
-    pub after-all : length gs ≤ i → (n ≡ lost S gs m) × Encodes b (admitted S gs m)
+    pub after-all : length gs ≤ i → (n ≡ length (lost S gs m)) × Encodes b (admitted S gs m)
     unfolding admitted lost
     after-all l =
         let e : drop i gs ≡ [] = drop-of-length-le gs l in
         let s : admitted S gs m ≡ machineFrom b = h .state ∙ ap (λ q. admitted S q (machineFrom b)) e in
-        let c : lost S gs m ≡ n + 0 = h .count ∙ ap (λ q. n + lost S q (machineFrom b)) e in
+        let c : length (lost S gs m) ≡ n + 0 = h .count ∙ ap (λ q. n + length (lost S q (machineFrom b))) e in
         (omega (arith, c), subst (Encodes b) (sym s) (h .canonical))
 
 -- the same of the signals that thread t's job holds: they stand in the record still

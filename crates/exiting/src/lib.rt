@@ -44,8 +44,8 @@ fn found_tree(image: &[u8], table: &[u8], state: &mut [u8], t: Thread, i: usize)
 // The same of all of them, in order.
 fn found_trees(image: &[u8], table: &[u8], state: &mut [u8], t: Thread, count: usize) -> u8
     requires { ⌜ Held (now image) (now table) (now state) (t .0) × (count ≡ length (heldAt (machineFrom (now state)) (t .0))) ⌝ }
-    ensures { λ n. ⌜ n ≡ lost (rulesBy (now (image .entry)) (now (table .entry)))
-        (heldAt (machineFrom (now (state .entry))) (t .0)) (machineFrom (now (state .entry))) ⌝ }
+    ensures { λ n. ⌜ n ≡ length (lost (rulesBy (now (image .entry)) (now (table .entry)))
+        (heldAt (machineFrom (now (state .entry))) (t .0)) (machineFrom (now (state .entry)))) ⌝ }
     ensures { λ _. ⌜ Encodes (now (state .exit)) (admitted (rulesBy (now (image .entry)) (now (table .entry)))
         (heldAt (machineFrom (now (state .entry))) (t .0)) (machineFrom (now (state .entry)))) ⌝ }
 {

@@ -211,10 +211,17 @@ module _ (d n : ℕ) (R : Rules) (block : ℕ → ℕ) (act : ℕ → Job → Li
       ap (admitted R′ (map (shiftSignal d) gs)) (admit-shift g s (h .0)) ∙ admitted-shift gs (admit R g s) (h .1)
 
   lost-shift : (gs : List Signal) (s : Machine) → Each (SignalBelow n) gs
-      → lost R′ (map (shiftSignal d) gs) (shiftMachine d s) ≡ lost R gs s
+      → lost R′ (map (shiftSignal d) gs) (shiftMachine d s) ≡ map (shiftSignal d) (lost R gs s)
   unfolding lost
   lost-shift [] s h = refl
-  lost-shift (g ∷ gs) s h = rw (admit-shift g s (h .0), admits-shift (s .trees) g (h .0), lost-shift gs (admit R g s) (h .1)) refl
+  lost-shift (g ∷ gs) s h =
+      rw (admit-shift g s (h .0), admits-shift (s .trees) g (h .0), lost-shift gs (admit R g s) (h .1))
+      (case (admits R (s .trees) g) (lost R gs (admit R g s)))
+    where
+      case : (b : Bool) (l : List Signal) → cond b (map (shiftSignal d) l) (shiftSignal d g ∷ map (shiftSignal d) l)
+          ≡ map (shiftSignal d) (cond b l (g ∷ l))
+      case true l = refl
+      case false l = refl
 
   -- ---- the whole
 
@@ -228,7 +235,10 @@ module _ (d n : ℕ) (R : Rules) (block : ℕ → ℕ) (act : ℕ → Job → Li
   carry-shift s (finish t a) b h = λ i. record { state = finished-shift t s b i; answer = a }
   carry-shift s (leave t gs) b h =
       rw (finished-shift t s b)
-      (λ i. record { state = admitted-shift gs (finished R t s) h i; answer = Exited (lost-shift gs (finished R t s) h i) })
+      (λ i. record { state = admitted-shift gs (finished R t s) h i; answer = Exited (as-many i) })
+    where
+      as-many : length (lost R′ (map (shiftSignal d) gs) (shiftMachine d (finished R t s))) ≡ length (lost R gs (finished R t s))
+      as-many = ap length (lost-shift gs (finished R t s) h) ∙ length-map (lost R gs (finished R t s)) (shiftSignal d)
 
   -- THE SAME ANSWER, AND THE SAME STATE BUT FOR THE SHIFT
   pub react-shift : Releasing R → (s : Machine) (e : Event) → Below n s → EventBelow n e

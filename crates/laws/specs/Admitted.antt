@@ -57,13 +57,23 @@ module _ (R : Rules) where
     unfolding lost
     lost-thread [] s = refl
     lost-thread (g ∷ gs) s =
-        ap (λ n. cond (admits R (s .trees) g) 0 1 + n) (ap (lost R gs) (admit-thread g s) ∙ lost-thread gs (admit R g s))
+        ap (λ l. cond (admits R (s .trees) g) l (g ∷ l)) (ap (lost R gs) (admit-thread g s) ∙ lost-thread gs (admit R g s))
+
+  -- one more is lost where there is no room for the first
+  pub lost-one : (g : Signal) (gs : List Signal) (s : Machine)
+      → length (lost R (g ∷ gs) s) ≡ cond (admits R (s .trees) g) 0 1 + length (lost R gs (admit R g s))
+  unfolding lost
+  lost-one g gs s = case (admits R (s .trees) g) (lost R gs (admit R g s))
+    where
+      case : (b : Bool) (l : List Signal) → length (cond b l (g ∷ l)) ≡ cond b 0 1 + length l
+      case true l = omega arith
+      case false l = omega arith
 
   -- the trees keep their places, and behind them comes one for each signal that is not lost
   pub record Founded (gs : List Signal) (s : Machine) : Type 0 where
     pub more : List Tree
     pub trees : admitted R gs s .trees ≡ s .trees ++ more
-    pub count : length more + lost R gs s ≡ length gs
+    pub count : length more + length (lost R gs s) ≡ length gs
 
   pub admitted-trees : (gs : List Signal) (s : Machine) → Founded gs s
   unfolding admitted lost
@@ -74,7 +84,7 @@ module _ (R : Rules) where
       record {
         more = a .0 ++ k .more;
         trees = k .trees ∙ ap (λ (l : List Tree). l ++ k .more) (a .1) ∙ append-assoc (s .trees) (a .0) (k .more);
-        count = rw (length-append (a .0) (k .more)) (omega (arith, k .count, a .2));
+        count = rw (length-append (a .0) (k .more)) (omega (arith, k .count, a .2, lost-one g gs s));
       }
     where
       one : (b : Bool) → (l : List Tree) × (cond b (grown (founded R g) s) s .trees ≡ s .trees ++ l) × (length l + cond b 0 1 ≡ 1)

@@ -4,7 +4,7 @@ use mathlib.Core.List.{List, [], _∷_, _++_, map}
 use Rattle.rules.specs.Machine.{Machine}
 use Rattle.rules.specs.Events.{Event}
 use Rattle.rules.specs.Steps.{Rules, react, answers, final}
-use Rattle.rules.specs.Order.{Entry, events, log}
+use Rattle.rules.specs.Order.{Entry, events, log, lostBy}
 use Rattle.rules.specs.declared.answer.Answer.{Answer}
 
 module _ (R : Rules) where
@@ -23,7 +23,8 @@ module _ (R : Rules) where
   unfolding log final
   log-append s [] b = refl
   log-append s (e ∷ a) b =
-      ap (λ (z : List Entry). record { event = e; answer = react R s e .answer } ∷ z) (log-append (react R s e .state) a b)
+      ap (λ (z : List Entry). record { event = e; answer = react R s e .answer; lost = lostBy R s e } ∷ z)
+      (log-append (react R s e .state) a b)
 
   pub final-append : (s : Machine) (a b : List Event) → final R s (a ++ b) ≡ final R (final R s a) b
   unfolding final

@@ -6,7 +6,7 @@ use Rattle.rules.specs.Machine.{Machine}
 use Rattle.rules.specs.Events.{Event, threadOf, Valid}
 use Rattle.rules.specs.Answers.{out, join, sort}
 use Rattle.rules.specs.Steps.{Rules, react, final}
-use Rattle.rules.specs.Order.{Entry, events, log}
+use Rattle.rules.specs.Order.{Entry, events, log, lostBy}
 use Rattle.soundness.specs.Laws.{Laws}
 use Rattle.soundness.specs.Invariant.{Invariant, invariant-react}
 use Rattle.one_by_one.specs.Swap.{Swapped, swap}
@@ -16,6 +16,7 @@ module _ (R : Rules) where
   pub record Answered (s : Machine) (n : Entry) : Type 0 where
     pub valid : Valid (n .event)
     pub same : react R s (n .event) .answer ≡ n .answer
+    pub loses : lostBy R s (n .event) ≡ n .lost
 
   -- carried out from s, the events of the list get the answers of the list, and leave s′
   abbrev pub Carried : Machine → List Entry → Machine → Type 0
@@ -26,7 +27,8 @@ module _ (R : Rules) where
   unfolding log
   carried-log s s′ [] x = refl
   carried-log s s′ (n ∷ l) x =
-      λ i. record { event = n .event; answer = x .0 .same i } ∷ carried-log (react R s (n .event) .state) s′ l (x .1) i
+      λ i. record { event = n .event; answer = x .0 .same i; lost = x .0 .loses i }
+      ∷ carried-log (react R s (n .event) .state) s′ l (x .1) i
 
   pub carried-final : (s s′ : Machine) (l : List Entry) → Carried s l s′ → final R s (events l) ≡ s′
   unfolding final
@@ -35,8 +37,8 @@ module _ (R : Rules) where
 
   -- one more event at the end
   pub carried-snoc : (s s′ : Machine) (l : List Entry) (e : Event) → Valid e → Carried s l s′
-      → Carried s (l ++ record { event = e; answer = react R s′ e .answer } ∷ []) (react R s′ e .state)
-  carried-snoc s s′ [] e v x = (record { valid = v; same = rw x refl }, rw x refl)
+      → Carried s (l ++ record { event = e; answer = react R s′ e .answer; lost = lostBy R s′ e } ∷ []) (react R s′ e .state)
+  carried-snoc s s′ [] e v x = (record { valid = v; same = rw x refl; loses = rw x refl }, rw x refl)
   carried-snoc s s′ (n ∷ l) e v x = (x .0, carried-snoc (react R s (n .event) .state) s′ l e v (x .1))
 
 -- x only moves its job on, and y, which is not left out, is of another thread or an arrival
@@ -63,9 +65,9 @@ module _ (R : Rules) (L : Laws R) where
       let k : Swapped R L s (x .event) (y .event) =
       swap R L s (x .event) (y .event) i (h .0 .valid) (h .1 .0 .valid) (a .other) (rw (h .0 .same) (a .joins)) stays-in
       in (
-        record { valid = h .1 .0 .valid; same = k .fst ∙ h .1 .0 .same },
+        record { valid = h .1 .0 .valid; same = k .fst ∙ h .1 .0 .same; loses = k .fst-lost ∙ h .1 .0 .loses },
         (
-          record { valid = h .0 .valid; same = k .snd ∙ h .0 .same },
+          record { valid = h .0 .valid; same = k .snd ∙ h .0 .same; loses = k .snd-lost ∙ h .0 .loses },
           subst (λ (z : Machine). Carried R z l s′) (sym (k .end)) (h .1 .1),
         ),
       )

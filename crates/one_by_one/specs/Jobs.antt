@@ -15,7 +15,7 @@ use Rattle.rules.specs.Events.{Kind, stepping, cutting, Event, arrive, turn, th
 use Rattle.rules.specs.Answers.{Sort, out, now, join, close, sort}
 use Rattle.rules.specs.Steps.{Rules, Effect, traps, exits, moves, Move, Plan, stay, grow, move, finish, leave, founded, admits, finished}
 use Rattle.rules.specs.Steps.{planArrive, planIdle, planRunning, planStep, planCut, planTurn, plan, attempt, carry, react, final}
-use Rattle.rules.specs.Order.{Sheet, noteAs, notesBy, blank, Entry, rowOf, log}
+use Rattle.rules.specs.Order.{Sheet, noteAs, notesBy, blank, Entry, rowOf, log, lostBy}
 use Rattle.rules.specs.declared.answer.Answer.{Answer}
 use Rattle.rules.specs.declared.answer.Answer.the-variants.{ListFull, Started, Moved}
 use Rattle.laws.specs.Logic.{getD-same}
@@ -173,7 +173,7 @@ module _ (R : Rules) (L : Laws R) where
     s′ = react R s e .state
 
     abbrev n : Entry
-    n = record { event = e; answer = react R s e .answer }
+    n = record { event = e; answer = react R s e .answer; lost = lostBy R s e }
 
     abbrev r : List Entry
     r = getD (h .rows) (rowOf e) []

@@ -13,7 +13,7 @@ use Rattle.rules.specs.Machine.{Machine, fresh}
 use Rattle.rules.specs.Events.{Event, arrive, turn, threadOf, Valid}
 use Rattle.rules.specs.Answers.{Sort, out, now, join, close, sort}
 use Rattle.rules.specs.Steps.{Rules, Plan, stay, grow, move, finish, leave, Move, plan, attempt, carry, react, final}
-use Rattle.rules.specs.Order.{Sheet, noteAs, notesBy, blank, spread, orderBy, Entry, rowOf, order, events, log}
+use Rattle.rules.specs.Order.{Sheet, noteAs, notesBy, blank, spread, orderBy, Entry, rowOf, order, events, log, lostBy}
 use Rattle.laws.specs.Logic.{never, getD-same}
 use Rattle.soundness.specs.Laws.{Laws}
 use Rattle.soundness.specs.Invariant.{Invariant, Good, good, invariant-fresh}
@@ -22,7 +22,7 @@ use Rattle.one_by_one.specs.Rows.{before, behind, flatten-row, flatten-s
 
 module _ (R : Rules) where
   -- the second order of the event list l, carried out by the rules from the same fresh machine: each of its events gets the answer that
-  -- it has in the event list, and it leaves the machine that the event list leaves
+  -- it has in the event list and loses the very signals that it loses there, and it leaves the machine that the event list leaves
   pub record OneByOne (words : List ℕ) (l : List Event) : Type 0 where
     pub answers : log R (fresh words) (events (order (log R (fresh words) l))) ≡ order (log R (fresh words) l)
     pub state : final R (fresh words) (events (order (log R (fresh words) l))) ≡ final R (fresh words) l
@@ -99,7 +99,7 @@ module _ (R : Rules) (L : Laws R) where
       s′ = react R s e .state
 
       abbrev n : Entry
-      n = record { event = e; answer = react R s e .answer }
+      n = record { event = e; answer = react R s e .answer; lost = lostBy R s e }
 
       more : Carried R (fresh words) (spread h ++ n ∷ []) s′
       more = carried-snoc R (fresh words) s (spread h) e v (k .runs)

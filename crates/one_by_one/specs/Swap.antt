@@ -7,12 +7,14 @@ use mathlib.Core.Option.{Option, none, some}
 use mathlib.Core.List.{List, []}
 use Prim.Native.Nat.{ℕ, _<_}
 use native.Mathlib.Decide.{ℕ-discrete}
+use lib.ListN.{length}
 use lib.Seq.{getD-set-other}
 use Rattle.rules.specs.Sizes.{threadCount}
 use Rattle.rules.specs.Bytes.{has}
 use Rattle.rules.specs.Machine.{Signal, idle, Machine, threadAt, locksOf}
 use Rattle.rules.specs.Events.{Event, arrive, turn, threadOf, Valid}
 use Rattle.rules.specs.Answers.{out, join, sort}
+use Rattle.rules.specs.Order.{lostIn, lostBy}
 use Rattle.rules.specs.Steps.{Rules, Move, Plan, stay, grow, move, finish, leave, Reply, plan, blocked, grant, applied, grown, finished}
 use Rattle.rules.specs.Steps.{admitted, lost, attempt, carry, react}
 use Rattle.rules.specs.declared.answer.Answer.the-variants.{Exited}
@@ -31,6 +33,8 @@ module _ (R : Rules) (L : Laws R) where
   pub record Swapped (s : Machine) (x y : Event) : Type 0 where
     pub fst : react R s y .answer ≡ react R (react R s x .state) y .answer
     pub snd : react R (react R s y .state) x .answer ≡ react R s x .answer
+    pub fst-lost : lostBy R s y ≡ lostBy R (react R s x .state) y
+    pub snd-lost : lostBy R (react R s y .state) x ≡ lostBy R s x
     pub end : react R (react R s y .state) x .state ≡ react R (react R s x .state) y .state
 
   pub react-as : (s : Machine) (e : Event) (q : Plan) → plan R s e ≡ q → react R s e ≡ carry R s q
@@ -117,6 +121,8 @@ module _ (R : Rules) (L : Laws R) where
     -- what is left to show, in terms of y's plan
     record Rest (q : Plan) : Type 0 where
       same : carry R s q .answer ≡ carry R after q .answer
+      gone : lostIn R s q ≡ lostIn R after q
+      plans : plan R (carry R s q .state) x ≡ move (j .thread) (j .act)
       then : react R (carry R s q .state) x ≡ record { state = carry R after q .state; answer = j .act .answer }
 
     other : (t : ℕ) → threadOf y ≡ some t → j .thread ≢ t
@@ -127,11 +133,14 @@ module _ (R : Rules) (L : Laws R) where
     plan-other (turn d t) k =
         same-plan R t (turn d t) s after refl (same-applied R s t (j .thread) (j .act) i (j .sound) (λ e. other t (ap threadOf k) (sym e)))
 
-    -- x is done after y, which left the machine s′, as before it
+    -- x is planned and done after y, which left the machine s′, as before it
+    plan-again : (s′ : Machine) → Same R (j .thread) s s′ → plan R s′ x ≡ move (j .thread) (j .act)
+    plan-again s′ h = same-plan R (j .thread) x s s′ (j .names) h ∙ j .plans
+
     again : (s′ : Machine) → Same R (j .thread) s s′ → Clear R (s′ .threads) (j .thread) (j .act .want)
         → react R s′ x ≡ record { state = applied R (j .thread) (j .act) s′; answer = j .act .answer }
     again s′ h c =
-        react-move s′ x (j .thread) (j .act) (same-plan R (j .thread) x s s′ (j .names) h ∙ j .plans)
+        react-move s′ x (j .thread) (j .act) (plan-again s′ h)
         (clear-blocked R (s′ .threads) (j .thread) (j .act .want) c)
 
     leaves : {s′ s″ : Machine} → s′ ≡ s″
@@ -151,11 +160,14 @@ module _ (R : Rules) (L : Laws R) where
         let f : blocked R t (s .threads) (m .want) ≡ none =
         clear-blocked R (s .threads) t (m .want) (clear-before s t (j .thread) (j .act) (m .want) i (vx (j .thread) (j .names)) c)
         in
+        let a : Same R (j .thread) s (applied R t m s) = same-applied R s (j .thread) t m i (g .0) d in
         record {
           same = rw (f, h) refl;
+          gone = refl;
+          plans = rw f (plan-again (applied R t m s) a);
           then =
               rw (f, h)
-              (again (applied R t m s) (same-applied R s (j .thread) t m i (g .0) d)
+              (again (applied R t m s) a
               (clear-after s t (j .thread) (j .act) m i (vx (j .thread) (j .names)) (vy t (g .1)) d free c)
               ∙ leaves
               (comm-applied R s (j .thread) t (j .act) m d
@@ -163,19 +175,24 @@ module _ (R : Rules) (L : Laws R) where
         }
 
     -- an end of another thread's job, with the signals that found trees: none but at an EXIT
+    same-end : (t : ℕ) (gs : List Signal) → threadOf y ≡ some t → Same R (j .thread) s (admitted R gs (finished R t s))
+    same-end t gs g =
+        let r = j .sound .root in
+        same-admitted R s (finished R t s) (j .thread) gs (r .0) (r .1) (same-finished R s (j .thread) t (r .0) (r .1) (other t g))
+
     rest-end : (t : ℕ) (gs : List Signal) → threadOf y ≡ some t
         → react R (admitted R gs (finished R t s)) x ≡ record { state = admitted R gs (finished R t after); answer = j .act .answer }
     rest-end t gs g =
         let r = j .sound .root in
         let d : j .thread ≢ t = other t g in
         let a : Same R (j .thread) s (finished R t s) = same-finished R s (j .thread) t (r .0) (r .1) d in
-        again (admitted R gs (finished R t s)) (same-admitted R s (finished R t s) (j .thread) gs (r .0) (r .1) a)
+        again (admitted R gs (finished R t s)) (same-end t gs g)
         (rw (admitted-threads R gs (finished R t s)) (clear-finished s t (j .thread) (j .act .want) free))
         ∙ leaves
         (comm-admitted R (j .thread) (j .act) (r .0) gs (finished R t s) (a .tree ∙ r .1)
         ∙ ap (admitted R gs) (comm-finished R s (j .thread) t (j .act) (r .0) d (r .1)))
 
-    -- and as many are lost
+    -- and the same are lost
     same-lost : (t : ℕ) (gs : List Signal) → threadOf y ≡ some t → lost R gs (finished R t s) ≡ lost R gs (finished R t after)
     same-lost t gs g =
         let r = j .sound .root in
@@ -186,18 +203,36 @@ module _ (R : Rules) (L : Laws R) where
 
     rest : (q : Plan) → Good R s (threadOf y) q → ¬ (sort (carry R after q .answer) ≡ out) → Rest q
     unfolding carry admitted
-    rest (stay a) g k = record { same = refl; then = react-move s x (j .thread) (j .act) (j .plans) (j .clear) }
+    rest (stay a) g k = record {
+      same = refl;
+      gone = refl;
+      plans = j .plans;
+      then = react-move s x (j .thread) (j .act) (j .plans) (j .clear);
+    }
     rest (grow z) g k =
         let r = j .sound .root in
+        let a : Same R (j .thread) s (grown z s) = same-grown R s (j .thread) z (r .0) (r .1) in
         record {
           same = refl;
+          gone = refl;
+          plans = plan-again (grown z s) a;
           then =
-              again (grown z s) (same-grown R s (j .thread) z (r .0) (r .1)) free
+              again (grown z s) a free
               ∙ leaves (comm-grown R s (j .thread) (j .act) z (r .0) (r .1));
         }
     rest (move t m) g k = rest-move t m _ g refl k
-    rest (finish t a) g k = record { same = refl; then = rest-end t [] (g .0) }
-    rest (leave t gs) g k = record { same = ap Exited (same-lost t gs g); then = rest-end t gs g }
+    rest (finish t a) g k = record {
+      same = refl;
+      gone = refl;
+      plans = plan-again _ (same-end t [] (g .0));
+      then = rest-end t [] (g .0);
+    }
+    rest (leave t gs) g k = record {
+      same = ap (λ l. Exited (length l)) (same-lost t gs g);
+      gone = same-lost t gs g;
+      plans = plan-again _ (same-end t gs g);
+      then = rest-end t gs g;
+    }
 
     swap-joined : ¬ (sort (react R (react R s x .state) y .answer) ≡ out) → Swapped s x y
     swap-joined k =
@@ -211,6 +246,8 @@ module _ (R : Rules) (L : Laws R) where
         record {
           fst = rw (rx, ry, rz) (r .same);
           snd = rw (ry, rx) (ap (λ (z : Reply). z .answer) (r .then));
+          fst-lost = rw rx (r .gone ∙ ap (lostIn R after) (sym (plan-other y refl)));
+          snd-lost = rw ry (ap (lostIn R (carry R s q .state)) (r .plans) ∙ ap (lostIn R s) (sym (j .plans)));
           end = rw (rx, ry, rz) (ap (λ (z : Reply). z .state) (r .then));
         }
 

@@ -8,7 +8,7 @@ use Prim.Native.Nat.{ℕ, zero, suc, _+_, _-_}
 use native.Mathlib.Decide.{ℕ-discrete}
 use native.Mathlib.Omega.{arith}
 use lib.Dec.{ltb}
-use lib.ListN.{length, take, length-map, length-append}
+use lib.ListN.{length, take, drop, length-map, length-append}
 use borrow.Author.Tests.{ltb-true, ltb-false}
 use Rattle.rules.specs.Machine.{Signal, Tree, Machine, first, put}
 use Rattle.rules.specs.Steps.{Rules, Reply, rulesBy, grown, founded, requeued, finished, admits, admitted, lost, leave, carry}
@@ -30,21 +30,28 @@ module _ (image table : List ℕ) where
   abbrev R : Rules
   R = rulesBy image table
 
-  -- what the held signals leave: as many trees as there is room for, in order; the others are lost
+  -- what the held signals leave: as many trees as there is room for, in order; the others, the last, are lost
   pub record Founded (gs : List Signal) (s : Machine) : Type 0 where
     pub trees : admitted R gs s .trees ≡ s .trees ++ map (founded R) (take (16 - length (s .trees)) gs)
-    pub count : lost R gs s ≡ length gs - (16 - length (s .trees))
+    pub lost-ones : lost R gs s ≡ drop (16 - length (s .trees)) gs
 
   pub founds : (gs : List Signal) (s : Machine) → Founded gs s
   unfolding admitted lost
-  founds [] s = record { trees = sym (rw (nothing (16 - length (s .trees))) (append-nil (s .trees))); count = omega arith }
+  founds [] s = record {
+    trees = sym (rw (nothing (16 - length (s .trees))) (append-nil (s .trees)));
+    lost-ones = sym (none (16 - length (s .trees)));
+  }
     where
       nothing : (n : ℕ) → map (founded R) (take n []) ≡ []
       nothing zero = refl
       nothing (suc n) = refl
+
+      none : (n : ℕ) → _≡_ {A = List Signal} (drop n []) []
+      none zero = refl
+      none (suc n) = refl
   founds (g ∷ gs) s =
       let k = case (admits R (s .trees) g) refl (founds gs (grown (founded R g) s)) (founds gs s) in
-      record { trees = k .0; count = k .1 }
+      record { trees = k .0; lost-ones = k .1 }
     where
       beside : (c : Bool) → admits R (s .trees) g ≡ c → ltb (length (s .trees)) 16 ≡ c
       beside c e = rw length-map at e
@@ -52,15 +59,16 @@ module _ (image table : List ℕ) where
       case : (c : Bool) → admits R (s .trees) g ≡ c → Founded gs (grown (founded R g) s) → Founded gs s
           → (admitted R gs (cond c (grown (founded R g) s) s) .trees
           ≡ s .trees ++ map (founded R) (take (16 - length (s .trees)) (g ∷ gs)))
-          × (cond c 0 1 + lost R gs (cond c (grown (founded R g) s) s) ≡ suc (length gs) - (16 - length (s .trees)))
+          × (cond c (lost R gs (cond c (grown (founded R g) s) s)) (g ∷ lost R gs (cond c (grown (founded R g) s) s))
+          ≡ drop (16 - length (s .trees)) (g ∷ gs))
       case true e k l =
           let h = ltb-true (length (s .trees)) 16 (beside true e) in
           let n : 16 - length (s .trees) ≡ suc (16 - length (s .trees ++ founded R g ∷ [])) = simp length-append (omega arith) in
-          (rw n (k .trees ∙ append-assoc (s .trees) (founded R g ∷ []) _), rw n (omega (arith, k .count)))
+          (rw n (k .trees ∙ append-assoc (s .trees) (founded R g ∷ []) _), rw n (k .lost-ones))
       case false e l k =
           let h = ltb-false (length (s .trees)) 16 (beside false e) in
           let n : 16 - length (s .trees) ≡ 0 = omega arith in
-          (rw n (rw n at (k .trees)), rw n (omega (arith, rw n at (k .count))))
+          (rw n (rw n at (k .trees)), rw n (ap (λ l. g ∷ l) (rw n at (k .lost-ones))))
 
   -- EXIT with three held signals beside 14 other trees: the own tree, if empty, leaves room for two, otherwise for one
   module _ (s : Machine) (t : ℕ) (a b c : Signal) (full : length (s .trees) ≡ 15) where
@@ -75,7 +83,8 @@ module _ (image table : List ℕ) where
         let k = founds (a ∷ b ∷ c ∷ []) (finished R t s) in
         let m : finished R t s .trees ≡ put t none (s .trees) = rw e (append-nil (put t none (s .trees))) in
         let q : 16 - length (finished R t s .trees) ≡ 2 = rw (m, n) in
-        (ap Exited (k .count ∙ rw q), k .trees ∙ rw (q, m))
+        let one : lost R (a ∷ b ∷ c ∷ []) (finished R t s) ≡ c ∷ [] = k .lost-ones ∙ rw q in
+        (ap (λ l. Exited (length l)) one, k .trees ∙ rw (q, m))
 
     pub one-appended : (g : Signal) (p : List Signal) → first t (s .trees) ≡ some (g ∷ p)
         → (left .answer ≡ Exited 2)
@@ -86,4 +95,5 @@ module _ (image table : List ℕ) where
         let k = founds (a ∷ b ∷ c ∷ []) (finished R t s) in
         let m : finished R t s .trees ≡ put t none (s .trees) ++ requeued R (some (g ∷ p)) = rw e in
         let q : 16 - length (finished R t s .trees) ≡ 1 = rw (m, length-append (put t none (s .trees)), n) in
-        (ap Exited (k .count ∙ rw q), k .trees ∙ rw (q, m))
+        let two : lost R (a ∷ b ∷ c ∷ []) (finished R t s) ≡ b ∷ c ∷ [] = k .lost-ones ∙ rw q in
+        (ap (λ l. Exited (length l)) two, k .trees ∙ rw (q, m))

@@ -10,7 +10,7 @@ use mathlib.Core.List.{List, [], _∷_, _++_, map}
 use Prim.Native.Nat.{ℕ, _+_, _*_, _-_, _^_, _<_, _≤_}
 use native.Mathlib.Omega.{arith}
 use lib.Bits.{bitOr}
-use lib.ListN.{length, getD, set, take, drop, length-map}
+use lib.ListN.{length, getD, set, take, drop, length-map, length-drop}
 use lib.Dec.{eqb}
 use borrow.Author.Tests.{lt-ltb, le-ltb, eq-eqb, ne-eqb}
 use Rattle.rules.specs.Bytes.{num16, num32, firstBad, blocks, pad, chunks, has}
@@ -98,8 +98,11 @@ left-by : (image table : List ℕ) (s : Machine) (t : ℕ) (gs : List Signal)
 unfolding carry code detail
 left-by image table s t gs =
     let k = founds image table gs (finished (rulesBy image table) t s) in
-    let n = length gs - (16 - length (finished (rulesBy image table) t s .trees)) in
-    (answered (carry (rulesBy image table) s (leave t gs)) (Exited n) (ap Exited (k .count)), k .trees)
+    let room = 16 - length (finished (rulesBy image table) t s .trees) in (
+      answered (carry (rulesBy image table) s (leave t gs)) (Exited (length gs - room))
+          (ap (λ l. Exited (length l)) (k .lost-ones) ∙ ap Exited (length-drop room gs)),
+      k .trees,
+    )
 
 -- refusals that do not apply, after others
 last-none : (faults : List ℕ) → firstOf (faults ++ 0 ∷ 0 ∷ 0 ∷ []) ≡ firstOf faults

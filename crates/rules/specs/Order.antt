@@ -3,10 +3,10 @@ use mathlib.Core.List.{List, [], _∷_, _++_, flatten}
 use Prim.Native.Nat.{ℕ, zero, suc}
 use lib.ListN.{getD, set, replicate, take, drop}
 use Rattle.rules.specs.Sizes.{threadCount, eventThreadPlace, eventSize, answerSize}
-use Rattle.rules.specs.Machine.{Machine}
+use Rattle.rules.specs.Machine.{Signal, Machine}
 use Rattle.rules.specs.Events.{Event, arrive, turn}
 use Rattle.rules.specs.Answers.{Sort, out, now, join, close, sort, sortOfCode}
-use Rattle.rules.specs.Steps.{Rules, react}
+use Rattle.rules.specs.Steps.{Rules, Plan, stay, grow, move, finish, leave, finished, lost, plan, react}
 use Rattle.rules.specs.declared.answer.Answer.{Answer}
 
 -- what is written out, and a row for each thread
@@ -42,10 +42,11 @@ module _ {A : Type 0} where
 
 -- ---- of values
 
--- an event and its answer
+-- an event, its answer, and the signals that it lost: none but at an EXIT
 pub record Entry : Type 0 where
   pub event : Event
   pub answer : Answer
+  pub lost : List Signal
 
 -- the thread whose row an event joins (an arrival joins none)
 abbrev pub rowOf : Event → ℕ
@@ -59,11 +60,21 @@ abbrev pub events : List Entry → List Event
 events [] = []
 events (n ∷ l) = n .event ∷ events l
 
--- events carried out from a machine, each with its answer
+-- events carried out from a machine, each with its answer and what it lost
 module _ (R : Rules) where
+  abbrev pub lostIn : Machine → Plan → List Signal
+  lostIn s (stay a) = []
+  lostIn s (grow x) = []
+  lostIn s (move t m) = []
+  lostIn s (finish t a) = []
+  lostIn s (leave t gs) = lost R gs (finished R t s)
+
+  abbrev pub lostBy : Machine → Event → List Signal
+  lostBy s e = lostIn s (plan R s e)
+
   unfoldable pub log : Machine → List Event → List Entry
   log s [] = []
-  log s (e ∷ l) = record { event = e; answer = react R s e .answer } ∷ log (react R s e .state) l
+  log s (e ∷ l) = record { event = e; answer = react R s e .answer; lost = lostBy s e } ∷ log (react R s e .state) l
 
 -- ---- of bytes
 

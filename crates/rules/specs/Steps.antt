@@ -3,7 +3,7 @@
 use mathlib.Core.Bool.{Bool, true, false, cond, not, _&&_, _||_}
 use mathlib.Core.Option.{Option, none, some}
 use mathlib.Core.List.{List, [], _∷_, _++_}
-use Prim.Native.Nat.{ℕ, _+_, _^_}
+use Prim.Native.Nat.{ℕ, _^_}
 use lib.Bits.{bitOr}
 use lib.ListN.{length, set}
 use lib.Dec.{eqb, ltb}
@@ -261,10 +261,10 @@ module _ (R : Rules) where
   admitted [] s = s
   admitted (g ∷ gs) s = admitted gs (admit g s)
 
-  -- how many of them are lost
-  unfoldable pub lost : List Signal → Machine → ℕ
-  lost [] s = 0
-  lost (g ∷ gs) s = cond (admits (s .trees) g) 0 1 + lost gs (admit g s)
+  -- those of them that are lost
+  unfoldable pub lost : List Signal → Machine → List Signal
+  lost [] s = []
+  lost (g ∷ gs) s = cond (admits (s .trees) g) (lost gs (admit g s)) (g ∷ lost gs (admit g s))
 
   -- waiting changes nothing
   unfoldable pub attempt : ℕ → Move → Machine → Option ℕ → Reply
@@ -276,7 +276,7 @@ module _ (R : Rules) where
   carry s (grow x) = record { state = grown x s; answer = Taken }
   carry s (move t m) = attempt t m s (blocked t (s .threads) (m .want))
   carry s (finish t a) = record { state = finished t s; answer = a }
-  carry s (leave t gs) = record { state = admitted gs (finished t s); answer = Exited (lost gs (finished t s)) }
+  carry s (leave t gs) = record { state = admitted gs (finished t s); answer = Exited (length (lost gs (finished t s))) }
 
   unfoldable pub react : Machine → Event → Reply
   react s e = carry s (plan s e)

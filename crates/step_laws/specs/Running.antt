@@ -32,7 +32,7 @@ module _ (R : Rules) (s : Machine) (t l : ℕ) (j : Job) (p : List Signal) (runs
   traps-by r h = by-effect (traps r) h ∙ unfold carry planRunning in refl
 
   pub exits-by : (gs : List Signal) → effect ≡ exits gs
-      → react R s (step t) ≡ reply (admitted R gs (finished R t s)) (Exited (lost R gs (finished R t s)))
+      → react R s (step t) ≡ reply (admitted R gs (finished R t s)) (Exited (length (lost R gs (finished R t s))))
   exits-by gs h = by-effect (exits gs) h ∙ unfold carry planRunning in refl
 
   -- the machine after a move: the block's words, the thread with these locks, and its tree's signals

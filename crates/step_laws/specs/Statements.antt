@@ -57,7 +57,7 @@ module _ (image table : List ℕ) (s : Machine) (t l : ℕ) (j : Job) (p : List 
   skips e = moves-on R s t l j p runs tree _ (unfold actBy outcome readAll perform in rw e refl)
 
   pub leaves : statementOf r ≡ Exit
-      → react R s (step t) ≡ reply (admitted R (j .held) (finished R t s)) (Exited (lost R (j .held) (finished R t s)))
+      → react R s (step t) ≡ reply (admitted R (j .held) (finished R t s)) (Exited (length (lost R (j .held) (finished R t s))))
   leaves e = exits-by R s t l j p runs tree (j .held) (unfold actBy outcome readAll perform in rw e refl)
 
   -- the values that the statement read

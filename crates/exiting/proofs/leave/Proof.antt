@@ -16,6 +16,7 @@ use Rattle.step_ready.specs.At.{tree, at-busy, statement-here}
 use Rattle.exiting.specs.Leaving.{count-there, still-held, still-busy, left, lost-there}
 use Rattle.exiting.proofs.leave.Statement.{statement}
 use Rattle.exiting.proofs.leave.Tie as tie
+use lib.ListN.{length}
 
 held-count-requires : tie.Need-held-count-requires
 held-count-requires c κs =
@@ -52,10 +53,10 @@ returns c =
     let h = s .pre .0 in
     let m = machineFrom (a .state .now) in
     let R = rulesBy (a .image .now) (a .table .now) in
-    done (admitted R (heldAt m (a .t .0)) (finished R (a .t .0) m)) (Exited (lost R (heldAt m (a .t .0)) (finished R (a .t .0) m)))
+    done (admitted R (heldAt m (a .t .0)) (finished R (a .t .0) m)) (Exited (length (lost R (heldAt m (a .t .0)) (finished R (a .t .0) m))))
     (leaves (a .image .now) (a .table .now) m (a .t .0) (a .w .locks) _ (tree h .0) (h .runs) (tree h .1) (statement-here h Exit
     (s .pre .1)))
-    (ap Exited (f .0 ∙ lost-there h k))
+    (ap Exited (f .0 ∙ ap length (lost-there h k)))
     (left h k (f .1) (clear-thread .ensures))
 
 pub leave-spec : {M : Type 1} → statement M
