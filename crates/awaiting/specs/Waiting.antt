@@ -74,7 +74,7 @@ waits-passage {image} {table} {b} {t} {w} {p = p} e = case _ p (e .passes)
 
 abbrev Quiet : Effect → Type 0
 Quiet (traps r) = Unit {0}
-Quiet (exits gs) = Unit {0}
+Quiet exits = Unit {0}
 Quiet (moves j ws g none) = Unit {0}
 Quiet (moves j ws g (some b)) = ⊥
 
@@ -185,7 +185,7 @@ module _ (R : Rules) (s : Machine) (t l : ℕ) (j : Job) (p : List Signal) (runs
     where
       case : (e : Effect) → effect R s t l j p runs own ≡ e → Quiet e → Nobody ≡ waitsOf (awaits R s t)
       case (traps r) e q = by-answer R s t (traps-by R s t l j p runs own r e)
-      case (exits gs) e q = by-answer R s t (exits-by R s t l j p runs own gs e)
+      case exits e q = by-answer R s t (exits-by R s t l j p runs own e)
       case (moves k ws g none) e q = by-answer R s t (moves-by R s t l j p runs own k ws g e)
       case (moves k ws g (some b)) e q = absurd q
 

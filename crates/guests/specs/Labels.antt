@@ -9,7 +9,7 @@ use native.Mathlib.Decide.{ℕ-discrete}
 use lib.ListN.{getD, set}
 use Rattle.rules.specs.Machine.{Signal, Tree, ThreadState, idle, running, Machine, threadAt, locksOf, first, refit, put, treeThreads}
 use Rattle.rules.specs.Events.{Event, arrive, turn}
-use Rattle.rules.specs.Steps.{Effect, traps, exits, moves, Move, Plan, stay, grow, move, finish, leave, Reply, added, pendingOf, held}
+use Rattle.rules.specs.Steps.{Effect, traps, exits, moves, Move, Plan, stay, grow, move, finish, exiting, Reply, added, pendingOf, held}
 use Rattle.rules.specs.Link.{shiftSignal, shiftJob, shiftThread, shiftTree, shiftMachine}
 use Rattle.fields.specs.Each.{Each}
 use Rattle.soundness.specs.Queues.{FirstHas, first-has}
@@ -22,7 +22,7 @@ shiftSent d (some g) = some (shiftSignal d g)
 
 abbrev pub shiftEffect : ℕ → Effect → Effect
 shiftEffect d (traps r) = traps r
-shiftEffect d (exits gs) = exits (map (shiftSignal d) gs)
+shiftEffect d exits = exits
 shiftEffect d (moves j words g want) = moves (shiftJob d j) words (shiftSent d g) want
 
 abbrev pub shiftPending : ℕ → Option (List Signal) → Option (List Signal)
@@ -43,7 +43,7 @@ shiftPlan d (stay a) = stay a
 shiftPlan d (grow x) = grow (shiftTree d x)
 shiftPlan d (move t m) = move t (shiftMove d m)
 shiftPlan d (finish t a) = finish t a
-shiftPlan d (leave t gs) = leave t (map (shiftSignal d) gs)
+shiftPlan d (exiting t gs) = exiting t (map (shiftSignal d) gs)
 
 abbrev pub shiftReply : ℕ → Reply → Reply
 shiftReply d r = record { state = shiftMachine d (r .state); answer = r .answer }
@@ -73,7 +73,7 @@ module _ (n : ℕ) where
   PlanBelow (grow x) = Unit {0}
   PlanBelow (move t m) = Unit {0}
   PlanBelow (finish t a) = Unit {0}
-  PlanBelow (leave t gs) = Each SignalBelow gs
+  PlanBelow (exiting t gs) = Each SignalBelow gs
 
   pub record Below (s : Machine) : Type 0 where
     pub threads : (t : ℕ) → ThreadBelow (threadAt s t)

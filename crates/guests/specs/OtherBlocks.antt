@@ -26,7 +26,7 @@ use Rattle.laws.specs.Sets.{has-none, has-other}
 use Rattle.laws.specs.Words.{window-keep-other}
 use Rattle.laws.specs.Admitted.{admitted-words, admitted-threads}
 use Rattle.laws.specs.Passed.{Passed, passed}
-use Rattle.soundness.specs.Happens.{Happens, remains, founds, starts, happens}
+use Rattle.soundness.specs.Happens.{Happens, remains, founds, starts, happens, released}
 use Rattle.soundness.specs.Members.{getD-set}
 use Rattle.soundness.specs.Sound.{ThreadIn, Sound}
 use Rattle.soundness.specs.StaysWellFormed.{Accepted, effect-in, start-in, sound-react}
@@ -35,7 +35,7 @@ use Rattle.soundness.specs.StaysWellFormed.{Accepted, effect-in, start-in, soun
 
 abbrev Asks : (ℕ → ℕ) → Effect → Type 0
 Asks block (traps r) = Unit {0}
-Asks block (exits gs) = Unit {0}
+Asks block exits = Unit {0}
 Asks block (moves j words g none) = Unit {0}
 Asks block (moves j words g (some b)) = b ≡ block (j .label)
 
@@ -87,7 +87,7 @@ module _ (image table : List ℕ) (b : ℕ) (unnamed : names image b ≡ false) 
     words-kept e r (Happens.goes t l j j′ words g want w a c) =
         window-keep-other (blockAt image (j .label)) b words (s .words)
         (elsewhere image b (j .label) unnamed (subst (ThreadIn image table t) w (k .threads t) .places .0 .below))
-    words-kept e r (Happens.ends t l j gs a w f c) = ap (window b) (admitted-words (rulesBy image table) gs _)
+    words-kept e r (Happens.ends t l j a w f) = ap (window b) (admitted-words (rulesBy image table) (released j a) _)
 
     -- a set of locks with the lock of a named block more
     not-granted : (l locks : ℕ) → l < labels image → has (rowAt table b .lock) locks ≡ false
@@ -112,8 +112,8 @@ module _ (image table : List ℕ) (b : ℕ) (unnamed : names image b ≡ false) 
           getD-set idle (λ u (z : ThreadState). has (rowAt table b .lock) (locksOf z) ≡ false) (s .threads) t _ free
           (not-asked j′ want _ (subst (Asks (blockAt image)) a (act-asks image table t j _ _))
           (effect-in image table ok s k t l j _ w a .0 .places .0 .below) (free t))
-      lock-free e r (Happens.ends t l j gs a w f c) =
-          rw (admitted-threads (rulesBy image table) gs (finished (rulesBy image table) t s))
+      lock-free e r (Happens.ends t l j a w f) =
+          rw (admitted-threads (rulesBy image table) (released j a) (finished (rulesBy image table) t s))
           (getD-set idle (λ u (z : ThreadState). has (rowAt table b .lock) (locksOf z) ≡ false) (s .threads) t idle free
           (has-none (rowAt table b .lock)))
 

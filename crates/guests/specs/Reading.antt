@@ -14,7 +14,6 @@ use Rattle.rules.specs.declared.answer.Answer.{Answer}
 use Rattle.fields.specs.Each.{Each}
 use Rattle.laws.specs.Passed.{passed}
 use Rattle.soundness.specs.Members.{each-map}
-use Rattle.soundness.specs.CheckedRules.{releasing}
 use Rattle.soundness.specs.Sound.{HeldIn, ThreadIn, PendingIn, TreeIn, Sound}
 use Rattle.soundness.specs.Trees.{pending-below, held-pending}
 use Rattle.soundness.specs.StaysWellFormed.{Accepted, sound-react, sound-fresh}
@@ -61,7 +60,7 @@ module _ (d : ℕ) (G L table : List ℕ) (part : Part d G L) (checked : Checked
       → react (rulesBy L table) (shiftMachine d s) (shiftEvent d e) ≡ shiftReply d (react (rulesBy G table) s e)
   react-guest s e k h =
       react-shift d (labels G) (rulesBy G table) (blockAt L) (actBy L table)
-      (relabels d G L table part (passed G table [] checked .0)) (releasing G table) s e (sound-below G table s k)
+      (relabels d G L table part (passed G table [] checked .0)) s e (sound-below G table s k)
       (accepted-below G table e h)
 
   answers-guest : (s : Machine) (l : List Event) → Sound G table s → Each (Accepted G) l

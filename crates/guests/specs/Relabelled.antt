@@ -8,13 +8,12 @@ use Prim.Native.Nat.{ℕ, _+_, _<_}
 use lib.ListN.{length, set, length-map}
 use Rattle.rules.specs.Machine.{Signal, Tree, Job, ThreadState, idle, running, Machine, threadAt, locksOf, first, put, window}
 use Rattle.rules.specs.Events.{Kind, stepping, cutting, Event, arrive, turn}
-use Rattle.rules.specs.Steps.{Effect, traps, exits, moves, Rules, Move, Plan, stay, grow, move, finish, leave, added, pendingOf, home}
+use Rattle.rules.specs.Steps.{Effect, traps, exits, moves, Rules, Move, Plan, stay, grow, move, finish, exiting, added, pendingOf, home}
 use Rattle.rules.specs.Steps.{founded, admits, planRunning, planCut, planArrive, planIdle, planStep, planTurn, plan, blocked, grant}
 use Rattle.rules.specs.Steps.{applied, requeued, grown, finished, admit, admitted, lost, attempt, carry, react}
 use Rattle.rules.specs.Link.{shiftSignal, shiftJob, shiftThread, shiftTree, shiftMachine, shiftEvent}
 use Rattle.rules.specs.declared.answer.Answer.the-variants.{Taken, ListFull, Exited}
 use Rattle.fields.specs.Each.{Each}
-use Rattle.soundness.specs.Laws.{Releases, Releasing}
 use Rattle.guests.specs.Labels.{shiftEffect, shiftPending, shiftMove, shiftPlan, shiftReply, ThreadBelow, SignalBelow, EventBelow}
 use Rattle.guests.specs.Labels.{Below, PlanBelow, FirstBelow, first-below, map-set, locks-shift, thread-shift, held-shift}
 use Rattle.guests.specs.Labels.{threads-shift, first-shift, put-shift, pending-shift, added-shift}
@@ -35,25 +34,24 @@ module _ (n : ℕ) (R : Rules) where
   below-idle t (some []) = tt
   below-idle t (some (g ∷ p)) = tt
 
-  below-running : (t b : ℕ) (p : List Signal) (j : Job) (e : Effect) → Each (SignalBelow n) (j .held) → Releases j e
-      → PlanBelow n (planRunning t b p e)
+  below-running : (t b : ℕ) (p gs : List Signal) (e : Effect) → Each (SignalBelow n) gs → PlanBelow n (planRunning t b p gs e)
   unfolding planRunning
-  below-running t b p j (traps r) h k = tt
-  below-running t b p j (exits gs) h k = rw k h
-  below-running t b p j (moves j′ words g want) h k = tt
+  below-running t b p gs (traps r) h = tt
+  below-running t b p gs exits h = h
+  below-running t b p gs (moves j′ words g want) h = tt
 
-  below-turn : Releasing R → (k : Kind) (t : ℕ) (w : ThreadState) (o : Option (List Signal)) (words : List ℕ) → ThreadBelow n w
+  below-turn : (k : Kind) (t : ℕ) (w : ThreadState) (o : Option (List Signal)) (words : List ℕ) → ThreadBelow n w
       → PlanBelow n (planTurn R k t w o words)
   unfolding planStep planCut
-  below-turn free stepping t idle o words h = below-idle t o
-  below-turn free stepping t (running locks j) o words h = below-running t _ _ j _ (h .1) (free .releases t j _ _)
-  below-turn free cutting t idle o words h = tt
-  below-turn free cutting t (running locks j) o words h = tt
+  below-turn stepping t idle o words h = below-idle t o
+  below-turn stepping t (running locks j) o words h = below-running t _ _ _ _ (h .1)
+  below-turn cutting t idle o words h = tt
+  below-turn cutting t (running locks j) o words h = tt
 
-  plan-below : Releasing R → (s : Machine) (e : Event) → Below n s → PlanBelow n (plan R s e)
+  plan-below : (s : Machine) (e : Event) → Below n s → PlanBelow n (plan R s e)
   unfolding plan
-  plan-below free s (arrive g) b = below-arrive g (s .trees)
-  plan-below free s (turn k t) b = below-turn free k t (threadAt s t) (first t (s .trees)) (s .words) (b .threads t)
+  plan-below s (arrive g) b = below-arrive g (s .trees)
+  plan-below s (turn k t) b = below-turn k t (threadAt s t) (first t (s .trees)) (s .words) (b .threads t)
 
 -- the rules R, but for the image
 abbrev pub onImage : Rules → (ℕ → ℕ) → (ℕ → Job → List ℕ → ℕ → Effect) → Rules
@@ -93,12 +91,12 @@ module _ (d n : ℕ) (R : Rules) (block : ℕ → ℕ) (act : ℕ → Job → Li
   plan-idle t (some []) h = refl
   plan-idle t (some (g ∷ p)) h = rw (same .blocks (g .label) (h .0)) refl
 
-  plan-running : (t b : ℕ) (p : List Signal) (e : Effect)
-      → planRunning t b (map (shiftSignal d) p) (shiftEffect d e) ≡ shiftPlan d (planRunning t b p e)
+  plan-running : (t b : ℕ) (p gs : List Signal) (e : Effect)
+      → planRunning t b (map (shiftSignal d) p) (map (shiftSignal d) gs) (shiftEffect d e) ≡ shiftPlan d (planRunning t b p gs e)
   unfolding planRunning
-  plan-running t b p (traps r) = refl
-  plan-running t b p (exits gs) = refl
-  plan-running t b p (moves j words g want) = rw (map-append (shiftSignal d) p (added g), added-shift d g) refl
+  plan-running t b p gs (traps r) = refl
+  plan-running t b p gs exits = refl
+  plan-running t b p gs (moves j words g want) = rw (map-append (shiftSignal d) p (added g), added-shift d g) refl
 
   plan-step : (t : ℕ) (w : ThreadState) (o : Option (List Signal)) (words : List ℕ) → ThreadBelow n w → FirstBelow n o
       → planStep R′ t (shiftThread d w) (shiftPending d o) words ≡ shiftPlan d (planStep R t w o words)
@@ -111,7 +109,7 @@ module _ (d n : ℕ) (R : Rules) (block : ℕ → ℕ) (act : ℕ → Job → Li
         length-map (pendingOf o) (shiftSignal d),
         same .acts t j (window (R .block (j .label)) words) (length (pendingOf o)) (h .0),
       )
-      (plan-running t (R .block (j .label)) (pendingOf o) _)
+      (plan-running t (R .block (j .label)) (pendingOf o) (j .held) _)
 
   plan-cut : (t : ℕ) (w : ThreadState) → planCut t (shiftThread d w) ≡ shiftPlan d (planCut t w)
   unfolding planCut
@@ -233,7 +231,7 @@ module _ (d n : ℕ) (R : Rules) (block : ℕ → ℕ) (act : ℕ → Job → Li
   carry-shift s (move t m) b h =
       rw (blocked-shift t (s .threads) (m .want)) (attempt-shift t m s (blocked R t (s .threads) (m .want)))
   carry-shift s (finish t a) b h = λ i. record { state = finished-shift t s b i; answer = a }
-  carry-shift s (leave t gs) b h =
+  carry-shift s (exiting t gs) b h =
       rw (finished-shift t s b)
       (λ i. record { state = admitted-shift gs (finished R t s) h i; answer = Exited (as-many i) })
     where
@@ -241,8 +239,8 @@ module _ (d n : ℕ) (R : Rules) (block : ℕ → ℕ) (act : ℕ → Job → Li
       as-many = ap length (lost-shift gs (finished R t s) h) ∙ length-map (lost R gs (finished R t s)) (shiftSignal d)
 
   -- THE SAME ANSWER, AND THE SAME STATE BUT FOR THE SHIFT
-  pub react-shift : Releasing R → (s : Machine) (e : Event) → Below n s → EventBelow n e
+  pub react-shift : (s : Machine) (e : Event) → Below n s → EventBelow n e
       → react R′ (shiftMachine d s) (shiftEvent d e) ≡ shiftReply d (react R s e)
   unfolding react
-  react-shift free s e b h =
-      ap (carry R′ (shiftMachine d s)) (plan-shift s e b h) ∙ carry-shift s (plan R s e) b (plan-below n R free s e b)
+  react-shift s e b h =
+      ap (carry R′ (shiftMachine d s)) (plan-shift s e b h) ∙ carry-shift s (plan R s e) b (plan-below n R s e b)

@@ -14,7 +14,7 @@ use Rattle.rules.specs.declared.answer.Answer.the-variants.{Exited, Trapped, Wa
 use Rattle.laws.specs.Locks.{getD-set-idle}
 use Rattle.laws.specs.Admitted.{admitted-threads}
 use Rattle.laws.specs.Logic.{never}
-use Rattle.soundness.specs.Happens.{Happens, remains, founds, starts, goes, ends, happens}
+use Rattle.soundness.specs.Happens.{Happens, remains, founds, starts, goes, ends, happens, released}
 
 -- no lock, no return label, no register value, no held signal: the thread has no job, and its bytes are the label 65,535 and zeros
 pub record Cleared (w : ThreadState) : Type 0 where
@@ -35,9 +35,9 @@ module _ (R : Rules) (s : Machine) (t : ℕ) where
   ended e r (founds g room) h k = never (cc)
   ended e r (starts u g p w f b) h k = never (cc)
   ended e r (goes u l j j′ words g want w a b) h k = never (cc)
-  ended e r (ends u l j gs a w f c) h k =
+  ended e r (ends u l j a w f) h k =
       let q : u ≡ t = cc in
-      rw (admitted-threads R gs (finished R u s), q) (cleared (getD-set-idle (s .threads) t))
+      rw (admitted-threads R (released j a) (finished R u s), q) (cleared (getD-set-idle (s .threads) t))
 
   -- an answer that ends a job
   pub every-end-is-clean : (e : Event) → threadOf e ≡ some t → sort (react R s e .answer) ≡ close

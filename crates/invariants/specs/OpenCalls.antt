@@ -20,7 +20,7 @@ use Rattle.rules.specs.declared.answer.Answer.the-variants.{Taken, ListFull, No
 use Rattle.rules.specs.declared.answer.Answer.the-variants.{NothingToCut}
 use Rattle.laws.specs.Logic.{never, getD-same}
 use Rattle.laws.specs.Admitted.{admitted-threads}
-use Rattle.soundness.specs.Happens.{Happens, remains, founds, starts, goes, ends, happens}
+use Rattle.soundness.specs.Happens.{Happens, remains, founds, starts, goes, ends, happens, released}
 use Rattle.invariants.specs.Paths.{opened, wayAt, openAfter, openCalls, labelOf, noted, isOf, pathNext, pathFrom, pathOf}
 use Rattle.invariants.specs.Returns.{Turned, EffectTurned, act-turned}
 
@@ -91,7 +91,7 @@ module _ (image table : List ℕ) (t : ℕ) where
     tracks e r (starts u g p w f b) = turn-on u Started _ (λ z. unfold openAfter in refl)
     tracks e r (goes u l j k words g want w a b) =
         turn-on u Moved _ (λ z. turned-by l j k (rw z at w) (subst (EffectTurned _ _ (j .returns)) a (act-turned image table u j _ _)))
-    tracks e r (ends u l j gs a w f c) = rw (admitted-threads R gs (finished R u s)) (turn-on u a idle (λ z. tt))
+    tracks e r (ends u l j a w f) = rw (admitted-threads R (released j a) (finished R u s)) (turn-on u a idle (λ z. tt))
 
   tracks-all : (path : List ℕ) (s : Machine) (l : List Event) → Tracks path (threadAt s t)
       → Tracks (pathFrom R t path s l) (threadAt (final R s l) t)

@@ -19,7 +19,7 @@ use Rattle.rules.specs.declared.answer.Answer.the-variants.{Moved}
 use Rattle.rules.specs.declared.statement.Statement.the-variants.{Return}
 use Rattle.laws.specs.Logic.{never}
 use Rattle.laws.specs.Passed.{passed, no-record}
-use Rattle.soundness.specs.Happens.{Happens, remains, founds, starts, goes, ends, happens}
+use Rattle.soundness.specs.Happens.{Happens, remains, founds, starts, goes, ends, happens, ends-close}
 use Rattle.soundness.specs.Destinations.{label-in, parts}
 use Rattle.invariants.specs.Paths.{withoutNewest, opened, wayAt, openAfter, openCalls, pathOf}
 use Rattle.invariants.specs.Returns.{EffectTurned, act-turned}
@@ -109,7 +109,7 @@ module _ (image table : List ℕ) (t : ℕ) where
     where
       same : {l : ℕ} {k : Job} → threadAt s t ≡ running l k → k ≡ j
       same v = cc
-  returned s locks j w i e r (ends u l k gs a v f c) n m = never (let z = sym c ∙ ap sort m in cc)
+  returned s locks j w i e r (ends u l k a v f) n m = never (let z = sym (ends-close R s u k a f) ∙ ap sort m in cc)
 
   -- the label that RETURN leads to is label B of a CALL that the same job carried out
   pub return-leads-to-a-call : (words : List ℕ) (l : List Event) (locks locks′ : ℕ) (j j′ : Job)

@@ -63,7 +63,7 @@ pub record Turned (w : Way) (b : ℕ) (rs : List ℕ) (j : Job) : Type 0 where
 
 abbrev pub EffectTurned : Way → ℕ → List ℕ → Effect → Type 0
 EffectTurned s b rs (traps r) = Unit {0}
-EffectTurned s b rs (exits gs) = Unit {0}
+EffectTurned s b rs exits = Unit {0}
 EffectTurned s b rs (moves j words g want) = Turned s b rs j
 
 newest-of : (r : ℕ) (rs : List ℕ) → List·Memᴰ (newest r rs) (r ∷ rs)

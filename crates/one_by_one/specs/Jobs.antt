@@ -13,7 +13,7 @@ use Rattle.rules.specs.Sizes.{threadCount}
 use Rattle.rules.specs.Machine.{Signal, ThreadState, idle, running, Machine, threadAt, fresh, first}
 use Rattle.rules.specs.Events.{Kind, stepping, cutting, Event, arrive, turn, threadOf, Valid}
 use Rattle.rules.specs.Answers.{Sort, out, now, join, close, sort}
-use Rattle.rules.specs.Steps.{Rules, Effect, traps, exits, moves, Move, Plan, stay, grow, move, finish, leave, founded, admits, finished}
+use Rattle.rules.specs.Steps.{Rules, Effect, traps, exits, moves, Move, Plan, stay, grow, move, finish, exiting, founded, admits, finished}
 use Rattle.rules.specs.Steps.{planArrive, planIdle, planRunning, planStep, planCut, planTurn, plan, attempt, carry, react, final}
 use Rattle.rules.specs.Order.{Sheet, noteAs, notesBy, blank, Entry, rowOf, log, lostBy}
 use Rattle.rules.specs.declared.answer.Answer.{Answer}
@@ -87,7 +87,7 @@ module _ (R : Rules) where
   Before s (grow x) = Unit {0}
   Before s (move t m) = Continues (m .answer) (threadAt s t)
   Before s (finish t a) = Running (threadAt s t)
-  Before s (leave t gs) = Running (threadAt s t)
+  Before s (exiting t gs) = Running (threadAt s t)
 
   before-idle : (s : Machine) (t : ℕ) (f : Option (List Signal)) → threadAt s t ≡ idle → Before s (planIdle R t f)
   unfolding planIdle
@@ -95,17 +95,17 @@ module _ (R : Rules) where
   before-idle s t (some []) h = tt
   before-idle s t (some (g ∷ p)) h = inl (refl, h)
 
-  before-running : (s : Machine) (t b : ℕ) (p : List Signal) (e : Effect) → Running (threadAt s t) → Before s (planRunning t b p e)
+  before-running : (s : Machine) (t b : ℕ) (p gs : List Signal) (e : Effect) → Running (threadAt s t) → Before s (planRunning t b p gs e)
   unfolding planRunning
-  before-running s t b p (traps r) h = h
-  before-running s t b p (exits gs) h = h
-  before-running s t b p (moves j words g want) h = inr (refl, h)
+  before-running s t b p gs (traps r) h = h
+  before-running s t b p gs exits h = h
+  before-running s t b p gs (moves j words g want) h = inr (refl, h)
 
   before-turn : (k : Kind) (s : Machine) (t : ℕ) (w : ThreadState) → threadAt s t ≡ w
       → Before s (planTurn R k t w (first t (s .trees)) (s .words))
   unfolding planStep planCut
   before-turn stepping s t idle w = before-idle s t (first t (s .trees)) w
-  before-turn stepping s t (running locks j) w = before-running s t _ _ _ (rw w tt)
+  before-turn stepping s t (running locks j) w = before-running s t _ _ _ _ (rw w tt)
   before-turn cutting s t idle w = tt
   before-turn cutting s t (running locks j) w = rw w tt
 
@@ -148,7 +148,7 @@ module _ (R : Rules) (L : Laws R) where
   turn-carry s e (move t m) i v g h = rw (row-is e t (g .1)) (turn-attempt s e t m _ i v g h)
   turn-carry s e (finish t a) i v g h =
       rw (row-is e t (g .0), g .1) (h, getD-set-idle (s .threads) t, (λ k n. getD-set-other (s .threads) t k idle idle n), g .0)
-  turn-carry s e (leave t gs) i v g h =
+  turn-carry s e (exiting t gs) i v g h =
       rw (row-is e t g, admitted-threads R gs (finished R t s))
       (h, getD-set-idle (s .threads) t, (λ k n. getD-set-other (s .threads) t k idle idle n), g)
 

@@ -12,7 +12,7 @@ use Rattle.rules.specs.Sizes.{threadCount}
 use Rattle.rules.specs.Machine.{Machine, fresh}
 use Rattle.rules.specs.Events.{Event, arrive, turn, threadOf, Valid}
 use Rattle.rules.specs.Answers.{Sort, out, now, join, close, sort}
-use Rattle.rules.specs.Steps.{Rules, Plan, stay, grow, move, finish, leave, Move, plan, attempt, carry, react, final}
+use Rattle.rules.specs.Steps.{Rules, Plan, stay, grow, move, finish, exiting, Move, plan, attempt, carry, react, final}
 use Rattle.rules.specs.Order.{Sheet, noteAs, notesBy, blank, spread, orderBy, Entry, rowOf, order, events, log, lostBy}
 use Rattle.laws.specs.Logic.{never, getD-same}
 use Rattle.soundness.specs.Laws.{Laws}
@@ -70,7 +70,7 @@ module _ (R : Rules) (L : Laws R) where
   about-carry s e (grow x) g = g
   about-carry s e (move t m) g = about-attempt s e t m _ g
   about-carry s e (finish t a) g = rw (g .1) (row-of e t (g .0))
-  about-carry s e (leave t gs) g = row-of e t g
+  about-carry s e (exiting t gs) g = row-of e t g
 
   about : (s : Machine) (e : Event) → Invariant R s → About s e (react R s e .state) (sort (react R s e .answer))
   unfolding react

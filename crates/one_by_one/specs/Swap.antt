@@ -15,7 +15,7 @@ use Rattle.rules.specs.Machine.{Signal, idle, Machine, threadAt, locksOf}
 use Rattle.rules.specs.Events.{Event, arrive, turn, threadOf, Valid}
 use Rattle.rules.specs.Answers.{out, join, sort}
 use Rattle.rules.specs.Order.{lostIn, lostBy}
-use Rattle.rules.specs.Steps.{Rules, Move, Plan, stay, grow, move, finish, leave, Reply, plan, blocked, grant, applied, grown, finished}
+use Rattle.rules.specs.Steps.{Rules, Move, Plan, stay, grow, move, finish, exiting, Reply, plan, blocked, grant, applied, grown, finished}
 use Rattle.rules.specs.Steps.{admitted, lost, attempt, carry, react}
 use Rattle.rules.specs.declared.answer.Answer.the-variants.{Exited}
 use Rattle.laws.specs.Logic.{never, not-true}
@@ -69,7 +69,7 @@ module _ (R : Rules) (L : Laws R) where
   joined-plan s x (grow z) k g e = never (cc)
   joined-plan s x (move t m) k g e = joined-move s x t m _ k g refl e
   joined-plan s x (finish t a) k g e = never (cc (g .1))
-  joined-plan s x (leave t gs) k g e = never (cc)
+  joined-plan s x (exiting t gs) k g e = never (cc)
 
   pub joined : (s : Machine) (x : Event) → Invariant R s → sort (react R s x .answer) ≡ join → Joined s x
   unfolding react
@@ -227,7 +227,7 @@ module _ (R : Rules) (L : Laws R) where
       plans = plan-again _ (same-end t [] (g .0));
       then = rest-end t [] (g .0);
     }
-    rest (leave t gs) g k = record {
+    rest (exiting t gs) g k = record {
       same = ap (λ l. Exited (length l)) (same-lost t gs g);
       gone = same-lost t gs g;
       plans = plan-again _ (same-end t gs g);

@@ -13,10 +13,10 @@ use Rattle.rules.specs.Bytes.{has}
 use Rattle.rules.specs.Machine.{Signal, Job, ThreadState, idle, running, Machine, threadAt, locksOf}
 use Rattle.rules.specs.Answers.{close, sort}
 use Rattle.rules.specs.Events.{Kind, stepping, cutting, Event, arrive, turn, step, cut, threadOf}
-use Rattle.rules.specs.Steps.{Effect, traps, exits, moves, Rules, Move, Plan, stay, grow, move, finish, leave, admits, planArrive}
+use Rattle.rules.specs.Steps.{Effect, traps, exits, moves, Rules, Move, Plan, stay, grow, move, finish, exiting, admits, planArrive}
 use Rattle.rules.specs.Steps.{planIdle, planRunning, planStep, planCut, planTurn, plan, blocked, grant, grown, finished, admit}
 use Rattle.rules.specs.Steps.{admitted, attempt, carry, react, founded}
-use Rattle.rules.specs.declared.answer.Answer.the-variants.{ListFull, Started, WasCut}
+use Rattle.rules.specs.declared.answer.Answer.the-variants.{ListFull, Started, Trapped, WasCut}
 
 -- ---- one thread of the list is set
 
@@ -47,7 +47,7 @@ Ends o (stay a) = sort a ≡ close → ⊥
 Ends o (grow x) = Unit {0}
 Ends o (move t m) = sort (m .answer) ≡ close → ⊥
 Ends o (finish t a) = (sort a ≡ close) × (o ≡ some t)
-Ends o (leave t gs) = o ≡ some t
+Ends o (exiting t gs) = o ≡ some t
 
 module _ (R : Rules) where
   arrive-ends : (g : Signal) (room : Bool) → Ends none (cond room (grow (founded R g)) (stay ListFull))
@@ -60,16 +60,16 @@ module _ (R : Rules) where
   idle-ends t (some []) = λ e. absurd (false≢true (cc))
   idle-ends t (some (g ∷ p)) = λ e. absurd (false≢true (cc))
 
-  running-ends : (t b : ℕ) (p : List Signal) (x : Effect) → Ends (some t) (planRunning t b p x)
+  running-ends : (t b : ℕ) (p gs : List Signal) (x : Effect) → Ends (some t) (planRunning t b p gs x)
   unfolding planRunning
-  running-ends t b p (traps r) = (refl, refl)
-  running-ends t b p (exits gs) = refl
-  running-ends t b p (moves j words g want) = λ e. absurd (false≢true (cc))
+  running-ends t b p gs (traps r) = (refl, refl)
+  running-ends t b p gs exits = refl
+  running-ends t b p gs (moves j words g want) = λ e. absurd (false≢true (cc))
 
   step-ends : (t : ℕ) (w : ThreadState) (f : Option (List Signal)) (words : List ℕ) → Ends (some t) (planStep R t w f words)
   unfolding planStep
   step-ends t idle f words = idle-ends t f
-  step-ends t (running locks j) f words = running-ends t _ _ _
+  step-ends t (running locks j) f words = running-ends t _ _ _ _
 
   cut-ends : (t : ℕ) (w : ThreadState) → Ends (some t) (planCut t w)
   unfolding planCut
@@ -110,7 +110,7 @@ module _ (R : Rules) where
   carry-ends s e t h (grow x) n c = absurd (false≢true (cc))
   carry-ends s e t h (move u m) n c = absurd (waiting-ends s u m (blocked R u (s .threads) (m .want)) n c)
   carry-ends s e t h (finish u a) n c = let same : t ≡ u = cc (h, n .1) in rw same (set-idle (s .threads) u)
-  carry-ends s e t h (leave u gs) n c =
+  carry-ends s e t h (exiting u gs) n c =
       let same : t ≡ u = cc (h, n) in
       rw same (ap (λ ws. getD ws u idle) (admitted-threads gs (finished R u s)) ∙ set-idle (s .threads) u)
 
@@ -137,7 +137,7 @@ module _ (R : Rules) where
   carry-locks s e u l (grow x) n c h = h
   carry-locks s e u l (move t m) n c h = attempt-locks s t u l m (blocked R t (s .threads) (m .want)) h
   carry-locks s e u l (finish t a) n c h = absurd (c (n .0))
-  carry-locks s e u l (leave t gs) n c h = absurd (c refl)
+  carry-locks s e u l (exiting t gs) n c h = absurd (c refl)
 
   -- no lock is released but at an end
   pub locks-kept : (s : Machine) (e : Event) → (sort (react R s e .answer) ≡ close → ⊥)
@@ -151,15 +151,35 @@ module _ (R : Rules) where
   attempt-starts s t m none n e = n e
   attempt-starts s t m (some l) n e = absurd (false≢true (cc))
 
-  running-starts : (s : Machine) (t b : ℕ) (p : List Signal) (x : Effect) → carry R s (planRunning t b p x) .answer ≡ Started → ⊥
+  running-starts : (s : Machine) (t b : ℕ) (p gs : List Signal) (x : Effect) → carry R s (planRunning t b p gs x) .answer ≡ Started → ⊥
   unfolding planRunning carry
-  running-starts s t b p (traps r) e = absurd (false≢true (cc))
-  running-starts s t b p (exits gs) e = absurd (false≢true (cc))
-  running-starts s t b p (moves j words g want) e = attempt-starts s t _ (blocked R t (s .threads) want) (λ q. absurd (false≢true (cc))) e
+  running-starts s t b p gs (traps r) e = absurd (false≢true (cc))
+  running-starts s t b p gs exits e = absurd (false≢true (cc))
+  running-starts s t b p gs (moves j words g want) e = attempt-starts s t _ (blocked R t (s .threads) want) (λ q. absurd (false≢true (cc))) e
 
   pub starts-nothing : (s : Machine) (t locks : ℕ) (j : Job) → threadAt s t ≡ running locks j → react R s (step t) .answer ≡ Started → ⊥
   unfolding react plan planStep
-  starts-nothing s t locks j h e = running-starts s t _ _ _ (rw h at e)
+  starts-nothing s t locks j h e = running-starts s t _ _ _ _ (rw h at e)
+
+  -- ---- a trap: it drops what the job held
+
+  attempt-traps : (s : Machine) (t r : ℕ) (m : Move) (o : Option ℕ) → (m .answer ≡ Trapped r → ⊥) → attempt R t m s o .answer ≡ Trapped r → ⊥
+  unfolding attempt
+  attempt-traps s t r m none n e = n e
+  attempt-traps s t r m (some l) n e = absurd (false≢true (cc))
+
+  running-traps : (s : Machine) (t b r : ℕ) (p gs : List Signal) (x : Effect) → carry R s (planRunning t b p gs x) .answer ≡ Trapped r
+      → carry R s (planRunning t b p gs x) .state ≡ finished R t s
+  unfolding planRunning carry
+  running-traps s t b r p gs (traps k) e = refl
+  running-traps s t b r p gs exits e = absurd (false≢true (cc))
+  running-traps s t b r p gs (moves j words g want) e =
+      absurd (attempt-traps s t r _ (blocked R t (s .threads) want) (λ q. absurd (false≢true (cc))) e)
+
+  pub trap-state : (s : Machine) (t locks r : ℕ) (j : Job) → threadAt s t ≡ running locks j → react R s (step t) .answer ≡ Trapped r
+      → react R s (step t) .state ≡ finished R t s
+  unfolding react plan planStep
+  trap-state s t locks r j h e = rw h (running-traps s t _ r _ _ _ (rw h at e))
 
   -- ---- a cut
 

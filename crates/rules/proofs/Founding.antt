@@ -11,7 +11,7 @@ use lib.Dec.{ltb}
 use lib.ListN.{length, take, drop, length-map, length-append}
 use borrow.Author.Tests.{ltb-true, ltb-false}
 use Rattle.rules.specs.Machine.{Signal, Tree, Machine, first, put}
-use Rattle.rules.specs.Steps.{Rules, Reply, rulesBy, grown, founded, requeued, finished, admits, admitted, lost, leave, carry}
+use Rattle.rules.specs.Steps.{Rules, Reply, rulesBy, grown, founded, requeued, finished, admits, admitted, lost, exiting, carry}
 use Rattle.rules.specs.declared.answer.Answer.the-variants.{Exited}
 
 -- a thread's first tree leaves the list
@@ -31,11 +31,11 @@ module _ (image table : List ℕ) where
   R = rulesBy image table
 
   -- what the held signals leave: as many trees as there is room for, in order; the others, the last, are lost
-  pub record Founded (gs : List Signal) (s : Machine) : Type 0 where
+  pub record Admission (gs : List Signal) (s : Machine) : Type 0 where
     pub trees : admitted R gs s .trees ≡ s .trees ++ map (founded R) (take (16 - length (s .trees)) gs)
     pub lost-ones : lost R gs s ≡ drop (16 - length (s .trees)) gs
 
-  pub founds : (gs : List Signal) (s : Machine) → Founded gs s
+  pub founds : (gs : List Signal) (s : Machine) → Admission gs s
   unfolding admitted lost
   founds [] s = record {
     trees = sym (rw (nothing (16 - length (s .trees))) (append-nil (s .trees)));
@@ -56,7 +56,7 @@ module _ (image table : List ℕ) where
       beside : (c : Bool) → admits R (s .trees) g ≡ c → ltb (length (s .trees)) 16 ≡ c
       beside c e = rw length-map at e
 
-      case : (c : Bool) → admits R (s .trees) g ≡ c → Founded gs (grown (founded R g) s) → Founded gs s
+      case : (c : Bool) → admits R (s .trees) g ≡ c → Admission gs (grown (founded R g) s) → Admission gs s
           → (admitted R gs (cond c (grown (founded R g) s) s) .trees
           ≡ s .trees ++ map (founded R) (take (16 - length (s .trees)) (g ∷ gs)))
           × (cond c (lost R gs (cond c (grown (founded R g) s) s)) (g ∷ lost R gs (cond c (grown (founded R g) s) s))
@@ -73,7 +73,7 @@ module _ (image table : List ℕ) where
   -- EXIT with three held signals beside 14 other trees: the own tree, if empty, leaves room for two, otherwise for one
   module _ (s : Machine) (t : ℕ) (a b c : Signal) (full : length (s .trees) ≡ 15) where
     abbrev left : Reply
-    left = carry R s (leave t (a ∷ b ∷ c ∷ []))
+    left = carry R s (exiting t (a ∷ b ∷ c ∷ []))
 
     pub two-appended : first t (s .trees) ≡ some []
         → (left .answer ≡ Exited 1) × (left .state .trees ≡ put t none (s .trees) ++ founded R a ∷ founded R b ∷ [])

@@ -15,13 +15,13 @@ use Rattle.rules.specs.Image.{recordAt, labelA, labelB, rowAt}
 use Rattle.rules.specs.Machine.{Signal, Job, job, withHeld, ThreadState, idle, running, Machine, threadAt, fill, first, put}
 use Rattle.rules.specs.Events.{step}
 use Rattle.rules.specs.Effects.{holds, perform}
-use Rattle.rules.specs.Steps.{Reply, newest, older, alien, blockAt, rulesBy, leave, blocked, finished, carry}
+use Rattle.rules.specs.Steps.{Reply, newest, older, alien, blockAt, rulesBy, exiting, blocked, carry}
 use Rattle.rules.specs.Steps.{react}
 use Rattle.rules.specs.declared.statement.Condition.{Condition}
 use Rattle.rules.specs.declared.statement.Statement.the-variants.{If, SendDirect, SendBuffered, Call, Return, Transfer, Exit}
 use Rattle.rules.specs.declared.statement.Statement.the-variants.{SendTree}
 use Rattle.rules.specs.declared.answer.Answer.the-variants.{Trapped}
-use Rattle.rules.proofs.Running.{wordsOf, Runs, MovesOn, trapped, trapped-state, exited, moves-on, own-tree}
+use Rattle.rules.proofs.Running.{wordsOf, Runs, MovesOn, trapped, exited, moves-on, own-tree}
 
 -- the answer to a step of thread t, and the machine after it
 abbrev pub stepOf : List ℕ → List ℕ → Machine → ℕ → Reply
@@ -111,7 +111,7 @@ module _ (image table : List ℕ) {s : Machine} {t locks : ℕ} {j : Job} {value
   branch c false r h = moves-on image table r _ (wordsOf image s j) none none (rw h) refl
 
   -- EXIT: the job's own tree is settled, then the signals that it held found trees
-  pub exit : Runs image s t locks j Exit values → stepOf image table s t ≡ carry (rulesBy image table) s (leave t (j .held))
+  pub exit : Runs image s t locks j Exit values → stepOf image table s t ≡ carry (rulesBy image table) s (exiting t (j .held))
   unfolding perform
   exit r = exited image table r refl
 
@@ -119,11 +119,6 @@ module _ (image table : List ℕ) {s : Machine} {t locks : ℕ} {j : Job} {value
   pub hold-trap : Runs image s t locks j SendTree values → heldCount ≤ length (j .held) → stepOf image table s t .answer ≡ Trapped 6
   unfolding perform
   hold-trap r h = trapped image table r 6 (rw (le-leb heldCount (length (j .held)) h))
-
-  pub hold-trap-state : Runs image s t locks j SendTree values → heldCount ≤ length (j .held)
-      → stepOf image table s t .state ≡ finished (rulesBy image table) t s
-  unfolding perform
-  hold-trap-state r h = trapped-state image table r 6 (rw (le-leb heldCount (length (j .held)) h))
 
   pub hold : Runs image s t locks j SendTree values → length (j .held) < heldCount
       → MovesOn (stepOf image table s t) t locks

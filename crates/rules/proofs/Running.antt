@@ -15,7 +15,7 @@ use Rattle.rules.specs.Answers.{code, detail, answerBytes}
 use Rattle.rules.specs.Events.{step}
 use Rattle.rules.specs.Effects.{got, Cells, readAll, perform, outcome}
 use Rattle.rules.specs.Steps.{Effect, traps, exits, moves, resolve, view, blockAt, actBy, rulesBy, Reply, added, pendingOf}
-use Rattle.rules.specs.Steps.{leave, planRunning, planStep, plan, blocked, grant, applied, finished, attempt, carry}
+use Rattle.rules.specs.Steps.{exiting, planRunning, planStep, plan, blocked, grant, applied, finished, attempt, carry}
 use Rattle.rules.specs.Steps.{react}
 use Rattle.rules.specs.declared.statement.Statement.{Statement}
 use Rattle.rules.specs.declared.answer.Answer.{Answer}
@@ -69,7 +69,7 @@ module _ (image table : List ℕ) {s : Machine} {t locks : ℕ} {j : Job} {x : S
 
   stepped : react (rulesBy image table) s (step t)
       ≡ carry (rulesBy image table) s
-      (planRunning t (blockAt image (j .label)) (pendingOf (first t (s .trees))) (effect image table s t j x values))
+      (planRunning t (blockAt image (j .label)) (pendingOf (first t (s .trees))) (j .held) (effect image table s t j x values))
   unfolding react plan planStep
   stepped = rw (r .thread, acts)
 
@@ -79,13 +79,8 @@ module _ (image table : List ℕ) {s : Machine} {t locks : ℕ} {j : Job} {x : S
   unfolding planRunning carry
   trapped reason e = rw (stepped, e)
 
-  pub trapped-state : (reason : ℕ) → effect image table s t j x values ≡ traps reason
-      → react (rulesBy image table) s (step t) .state ≡ finished (rulesBy image table) t s
-  unfolding planRunning carry
-  trapped-state reason e = rw (stepped, e)
-
-  pub exited : effect image table s t j x values ≡ exits (j .held)
-      → react (rulesBy image table) s (step t) ≡ carry (rulesBy image table) s (leave t (j .held))
+  pub exited : effect image table s t j x values ≡ exits
+      → react (rulesBy image table) s (step t) ≡ carry (rulesBy image table) s (exiting t (j .held))
   unfolding planRunning
   exited e = rw (stepped, e)
 

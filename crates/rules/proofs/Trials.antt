@@ -23,7 +23,7 @@ use Rattle.rules.specs.Encoding.{threadRaw, threadBytes, encode, machine
 use Rattle.rules.specs.Answers.{code, detail, close, sort}
 use Rattle.rules.specs.Events.{Event, arrive, step, cut, threadOf, eventsFrom}
 use Rattle.rules.specs.Steps.{Rules, rulesBy, newest, older, alien, blockAt, held, blocked}
-use Rattle.rules.specs.Steps.{planArrive, plan, leave, carry, react, final, grown, founded, requeued, finished, admitted, lost}
+use Rattle.rules.specs.Steps.{planArrive, plan, exiting, carry, react, final, grown, founded, requeued, finished, admitted, lost}
 use Rattle.rules.specs.Walk.{walk, metCount}
 use Rattle.rules.specs.Calls.{stateLengthFault, stateFault, eventsLengthFault, eventFault, answersLengthFault, runReturn, runState}
 use Rattle.rules.specs.declared.statement.Relation.the-variants.{Equal, Less}
@@ -34,7 +34,7 @@ use Rattle.rules.specs.declared.answer.Answer.the-variants.{Taken, ListF
 use Rattle.rules.proofs.Running.{Runs, Answered, answered, MovesOn}
 use Rattle.rules.proofs.Opcodes as opcodes
 use Rattle.rules.proofs.Opcodes.{stepOf, Open, A, B, register}
-use Rattle.rules.proofs.Ends.{ends, locks-kept, starts-nothing, cut-answer, cut-state, cut-idle}
+use Rattle.rules.proofs.Ends.{ends, locks-kept, starts-nothing, trap-state, cut-answer, cut-state, cut-idle}
 use Rattle.rules.proofs.Assigning.{Stores, sum, difference, product}
 use Rattle.rules.proofs.Waits as waits
 use Rattle.rules.proofs.Founding.{founds, two-appended, one-appended}
@@ -91,15 +91,15 @@ settledBy R s t = record {
 
 -- EXIT by a job that holds these signals
 left-by : (image table : List ℕ) (s : Machine) (t : ℕ) (gs : List Signal)
-    → Answered (carry (rulesBy image table) s (leave t gs)) 7 (length gs - (16 - length (finished (rulesBy image table) t s .trees)))
-    × (carry (rulesBy image table) s (leave t gs) .state .trees
+    → Answered (carry (rulesBy image table) s (exiting t gs)) 7 (length gs - (16 - length (finished (rulesBy image table) t s .trees)))
+    × (carry (rulesBy image table) s (exiting t gs) .state .trees
     ≡ finished (rulesBy image table) t s .trees
     ++ map (foundedBy image table) (take (16 - length (finished (rulesBy image table) t s .trees)) gs))
 unfolding carry code detail
 left-by image table s t gs =
     let k = founds image table gs (finished (rulesBy image table) t s) in
     let room = 16 - length (finished (rulesBy image table) t s .trees) in (
-      answered (carry (rulesBy image table) s (leave t gs)) (Exited (length gs - room))
+      answered (carry (rulesBy image table) s (exiting t gs)) (Exited (length gs - room))
           (ap (λ l. Exited (length l)) (k .lost-ones) ∙ ap Exited (length-drop room gs)),
       k .trees,
     )
@@ -169,13 +169,13 @@ pub record Trials (image table : List ℕ) (s : Machine) (t locks : ℕ) (j : Jo
       × (stepOf image table s t .state .trees
       ≡ (put t none (s .trees) ++ record { thread = homeBy image table g; pending = g ∷ p } ∷ []) ++ foundedBy image table a ∷ [])
   -- and of any number of them, after the own tree is settled: as many trees as there is room for beside 16, in order, the others lost
-  pub exit-held : Runs image s t locks j Exit values → (settled : Machine) → settled ≡ finished (rulesBy image table) t s
-      → Answered (stepOf image table s t) 7 (length (j .held) - (16 - length (settled .trees)))
-      × (stepOf image table s t .state .trees
-      ≡ settled .trees ++ map (foundedBy image table) (take (16 - length (settled .trees)) (j .held)))
+  pub exit-held : Runs image s t locks j Exit values
+      → Answered (stepOf image table s t) 7 (length (j .held) - (16 - length (settledBy (rulesBy image table) s t .trees)))
+      × (stepOf image table s t .state .trees ≡ settledBy (rulesBy image table) s t .trees
+      ++ map (foundedBy image table) (take (16 - length (settledBy (rulesBy image table) s t .trees)) (j .held)))
   -- also: a trap and a cut drop all of them: the own tree is settled, and nothing else changes but the thread
-  pub trap-drops : Runs image s t locks j SendTree values → 4 ≤ length (j .held)
-      → stepOf image table s t .state ≡ settledBy (rulesBy image table) s t
+  pub trap-drops : (R : Rules) (r : ℕ) → threadAt s t ≡ running locks j → react R s (step t) .answer ≡ Trapped r
+      → react R s (step t) .state ≡ settledBy R s t
   pub cut-drops : (R : Rules) → threadAt s t ≡ running locks j → react R s (cut t) .state ≡ settledBy R s t
   -- "No events: return 0, state unchanged": of a state that passes 1 to 6
   pub no-events : (R : Rules) → final R s [] ≡ s
@@ -252,12 +252,12 @@ trials image table s t locks j values = record {
   fifth-held = λ r h. answered (stepOf image table s t) (Trapped 6) (opcodes.hold-trap image table r h);
   exit-empty = λ r a b c e f h.
       let k = two-appended image table s t a b c f h in
-      rw (opcodes.exit image table r, e) (answered (carry (rulesBy image table) s (leave t (a ∷ b ∷ c ∷ []))) (Exited 1) (k .0), k .1);
+      rw (opcodes.exit image table r, e) (answered (carry (rulesBy image table) s (exiting t (a ∷ b ∷ c ∷ []))) (Exited 1) (k .0), k .1);
   exit-pending = λ r a b c e f g p h.
       let k = one-appended image table s t a b c f g p h in
-      rw (opcodes.exit image table r, e) (answered (carry (rulesBy image table) s (leave t (a ∷ b ∷ c ∷ []))) (Exited 2) (k .0), k .1);
-  exit-held = λ r m e. rw (opcodes.exit image table r, e) (left-by image table s t (j .held));
-  trap-drops = opcodes.hold-trap-state image table;
+      rw (opcodes.exit image table r, e) (answered (carry (rulesBy image table) s (exiting t (a ∷ b ∷ c ∷ []))) (Exited 2) (k .0), k .1);
+  exit-held = λ r. rw (opcodes.exit image table r) (left-by image table s t (j .held));
+  trap-drops = λ R r. trap-state R s t locks r j;
   cut-drops = λ R. cut-state R s t locks j;
   transfer-keeps = opcodes.transfer-keeps image table;
   direct-clears = opcodes.direct-clears image table;

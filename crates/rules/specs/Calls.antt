@@ -23,7 +23,7 @@ use Rattle.rules.specs.Link.{shareBlock, linked}
 
 -- ---- the causes
 
--- 5: state not 7,929 bytes; 6: state not well formed
+-- 5: state not 9,633 bytes; 6: state not well formed
 unfoldable pub stateLengthFault : List ℕ → ℕ
 stateLengthFault state = refusal (eqb (length state) stateSize) badStateLengthNumber 0
 

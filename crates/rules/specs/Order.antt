@@ -6,7 +6,7 @@ use Rattle.rules.specs.Sizes.{threadCount, eventThreadPlace, eventSize, 
 use Rattle.rules.specs.Machine.{Signal, Machine}
 use Rattle.rules.specs.Events.{Event, arrive, turn}
 use Rattle.rules.specs.Answers.{Sort, out, now, join, close, sort, sortOfCode}
-use Rattle.rules.specs.Steps.{Rules, Plan, stay, grow, move, finish, leave, finished, lost, plan, react}
+use Rattle.rules.specs.Steps.{Rules, Plan, stay, grow, move, finish, exiting, finished, lost, plan, react}
 use Rattle.rules.specs.declared.answer.Answer.{Answer}
 
 -- what is written out, and a row for each thread
@@ -42,7 +42,7 @@ module _ {A : Type 0} where
 
 -- ---- of values
 
--- an event, its answer, and the signals that it lost: none but at an EXIT
+-- an event, its answer, and the signals that it lost: none but at an EXIT. The second order goes by the event and the answer alone
 pub record Entry : Type 0 where
   pub event : Event
   pub answer : Answer
@@ -67,7 +67,7 @@ module _ (R : Rules) where
   lostIn s (grow x) = []
   lostIn s (move t m) = []
   lostIn s (finish t a) = []
-  lostIn s (leave t gs) = lost R gs (finished R t s)
+  lostIn s (exiting t gs) = lost R gs (finished R t s)
 
   abbrev pub lostBy : Machine → Event → List Signal
   lostBy s e = lostIn s (plan R s e)

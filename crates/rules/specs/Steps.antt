@@ -23,11 +23,11 @@ use Rattle.rules.specs.declared.answer.Answer.the-variants.{WasCut, Noth
 
 -- ---- what a statement asks for, once its labels are put in
 
--- a trap and its reason; an end, and the signals that then found trees; or the job as it goes on, the words of the block that it was in,
--- a signal for its own tree, and the block whose lock it must have first
+-- a trap and its reason; an end; or the job as it goes on, the words of the block that it was in, a signal for its own tree, and the
+-- block whose lock it must have first
 pub data Effect : Type 0 where
   traps : ℕ → Effect
-  exits : List Signal → Effect
+  exits : Effect
   moves : Job → List ℕ → Option Signal → Option ℕ → Effect
 
 abbrev pub trapIf : Bool → ℕ → Effect → Effect
@@ -75,7 +75,7 @@ module _ (block : ℕ → ℕ) (row : ℕ → Row) where
 
   abbrev pub resolve : ℕ → List ℕ → List Signal → ℕ → ℕ → Got Outcome → Effect
   resolve t rs gs a b (trap r) = traps r
-  resolve t rs gs a b (got ends) = exits gs
+  resolve t rs gs a b (got ends) = exits
   resolve t rs gs a b (got (goes g)) = steer t a b gs g (g .next) rs
 
 abbrev pub view : Job → List ℕ → ℕ → View
@@ -135,7 +135,7 @@ pub data Plan : Type 0 where
   grow : Tree → Plan
   move : ℕ → Move → Plan
   finish : ℕ → Answer → Plan
-  leave : ℕ → List Signal → Plan
+  exiting : ℕ → List Signal → Plan
 
 pub record Reply : Type 0 where
   pub state : Machine
@@ -153,11 +153,12 @@ abbrev pub pendingOf : Option (List Signal) → List Signal
 pendingOf none = []
 pendingOf (some p) = p
 
--- step, running thread: a buffered signal goes to the end of the job's own tree; a trap drops the signals that the job held
-unfoldable pub planRunning : ℕ → ℕ → List Signal → Effect → Plan
-planRunning t b p (traps r) = finish t (Trapped r)
-planRunning t b p (exits gs) = leave t gs
-planRunning t b p (moves j words g want) =
+-- step, running thread: a buffered signal goes to the end of the job's own tree; EXIT takes along the signals that the job held, and a
+-- trap drops them
+unfoldable pub planRunning : ℕ → ℕ → List Signal → List Signal → Effect → Plan
+planRunning t b p gs (traps r) = finish t (Trapped r)
+planRunning t b p gs exits = exiting t gs
+planRunning t b p gs (moves j words g want) =
     move t (record { job = j; write = some (b, words); pending = p ++ added g; want = want; answer = Moved })
 
 -- cut: code 9, and the signals that the job held are dropped; on an idle thread code 10, no change
@@ -207,7 +208,8 @@ module _ (R : Rules) where
   unfoldable pub planStep : ℕ → ThreadState → Option (List Signal) → List ℕ → Plan
   planStep t idle f words = planIdle t f
   planStep t (running locks j) f words =
-      planRunning t (R .block (j .label)) (pendingOf f) (R .act t j (window (R .block (j .label)) words) (length (pendingOf f)))
+      planRunning t (R .block (j .label)) (pendingOf f) (j .held)
+      (R .act t j (window (R .block (j .label)) words) (length (pendingOf f)))
 
   -- a turn of thread t, from the thread's state, the pending signals of its first tree and the words
   abbrev pub planTurn : Kind → ℕ → ThreadState → Option (List Signal) → List ℕ → Plan
@@ -276,7 +278,7 @@ module _ (R : Rules) where
   carry s (grow x) = record { state = grown x s; answer = Taken }
   carry s (move t m) = attempt t m s (blocked t (s .threads) (m .want))
   carry s (finish t a) = record { state = finished t s; answer = a }
-  carry s (leave t gs) = record { state = admitted gs (finished t s); answer = Exited (length (lost gs (finished t s))) }
+  carry s (exiting t gs) = record { state = admitted gs (finished t s); answer = Exited (length (lost gs (finished t s))) }
 
   unfoldable pub react : Machine → Event → Reply
   react s e = carry s (plan s e)

@@ -16,7 +16,7 @@ use Rattle.rules.specs.Steps.{Effect, trapIf, alien, steer, resolve, blockAt, a
 use Rattle.rules.specs.declared.statement.Role.{Role}
 use Rattle.rules.specs.declared.statement.Role.the-variants.{Unused, Inner, Direct, Local, Buffered}
 use Rattle.laws.specs.Logic.{and-both}
-use Rattle.soundness.specs.Laws.{Laws, Releases, Releasing}
+use Rattle.soundness.specs.Laws.{Laws}
 use Rattle.soundness.specs.Blocks.{Home, statement-stays}
 use Rattle.laws.specs.Passed.{Passed, passed, no-record, rule-parts}
 
@@ -64,31 +64,3 @@ module _ (image table : List ℕ) where
         statement-stays (rulesBy image table) (rowAt table) t j (statementOf r) (labelA r) (labelB r) (h .a) (h .b) (view j words n)
         (dataOf r);
   }
-
--- ---- what an EXIT leaves with
-
-module _ (block : ℕ → ℕ) (row : ℕ → Row) (t a b : ℕ) (j : Job) where
-  trap-releases : (c : Bool) (r : ℕ) (e : Effect) → Releases j e → Releases j (trapIf c r e)
-  trap-releases true r e h = tt
-  trap-releases false r e h = h
-
-  steer-releases : (g : Going) (n : Next) (rs : List ℕ) → Releases j (steer block row t a b (j .held) g n rs)
-  steer-releases g onA rs = tt
-  steer-releases g onB rs = tt
-  steer-releases g intoA rs = trap-releases (alien (row (block a)) t) 5 _ tt
-  steer-releases g callA rs = trap-releases (alien (row (block a)) t) 5 _ tt
-  steer-releases g back [] = tt
-  steer-releases g back (r ∷ rs) = tt
-
-  resolve-releases : (o : Got Outcome) → Releases j (resolve block row t (j .returns) (j .held) a b o)
-  resolve-releases (trap r) = tt
-  resolve-releases (got ends) = refl
-  resolve-releases (got (goes g)) = steer-releases g (g .next) (j .returns)
-
-pub releasing : (image table : List ℕ) → Releasing (rulesBy image table)
-unfolding actBy
-releasing image table = record {
-  releases = λ t j words n.
-      let r = recordAt image (j .label) in
-      resolve-releases (blockAt image) (rowAt table) t (labelA r) (labelB r) j (outcome (view j words n) (statementOf r) (dataOf r));
-}

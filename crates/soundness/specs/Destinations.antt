@@ -94,7 +94,7 @@ module _ (image table : List ℕ) where
 
     abbrev pub EffectIn : ℕ → Effect → Type 0
     EffectIn t (traps r) = Unit {0}
-    EffectIn t (exits gs) = Each (HeldIn image table) gs
+    EffectIn t exits = Unit {0}
     EffectIn t (moves j words g want) = JobIn image table t j × SentIn g
 
     trap-in : (t : ℕ) (c : Bool) (r : ℕ) (e : Effect) → (c ≡ false → EffectIn t e) → EffectIn t (trapIf c r e)
@@ -164,7 +164,7 @@ module _ (image table : List ℕ) where
       resolve-in : (o : Got Outcome) → Refers x y o
           → EffectIn t (resolve (blockAt image) (rowAt table) t (j .returns) (j .held) a b o)
       resolve-in (trap r) k = tt
-      resolve-in (got ends) k = p .held
+      resolve-in (got ends) k = tt
       resolve-in (got (goes g)) k = steer-in g (k .1) (k .2) (g .next) (k .0)
 
     pub act-in : (t : ℕ) (j : Job) (words : List ℕ) (n : ℕ) → JobIn image table t j → EffectIn t (actBy image table t j words n)

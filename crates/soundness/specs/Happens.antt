@@ -12,9 +12,11 @@ use Rattle.rules.specs.Answers.{out, close, sort}
 use Rattle.rules.specs.Events.{Kind, stepping, cutting, Event, arrive, turn, threadOf}
 use Rattle.rules.specs.Steps.{Rules, Effect, traps, exits, moves, Move, stay, grow, Reply, begin, added, pendingOf, founded, admits}
 use Rattle.rules.specs.Steps.{planArrive, planIdle, planRunning, planStep, planCut, plan, blocked, applied, grown, finished, admitted}
-use Rattle.rules.specs.Steps.{attempt, carry, react}
+use Rattle.rules.specs.Steps.{lost, attempt, carry, react}
 use Rattle.rules.specs.declared.answer.Answer.{Answer}
-use Rattle.rules.specs.declared.answer.Answer.the-variants.{Taken, ListFull, Started, Moved}
+use Rattle.rules.specs.declared.answer.Answer.the-variants.{Taken, ListFull, NoWork, Waiting, Started, Moved, Exited, Trapped}
+use Rattle.rules.specs.declared.answer.Answer.the-variants.{WasCut, NothingToCut}
+use Rattle.fields.specs.Each.{Each}
 
 -- a job starts with a signal, and these stay pending in its tree
 abbrev pub startOf : Rules → Signal → List Signal → Move
@@ -32,9 +34,56 @@ Quiet e a = (sort a ≡ out) ⊎ ((threadOf e ≡ none) × (a ≡ ListFull))
 abbrev pub effectOf : Rules → Machine → ℕ → Job → Effect
 effectOf R s t j = R .act t j (window (R .block (j .label)) (s .words)) (length (pendingOf (first t (s .trees))))
 
--- the signals that found trees when a job of thread t ends: those of its EXIT; after a trap or a cut, none
-abbrev pub EndsWith : Rules → Machine → ℕ → Job → List Signal → Type 0
-EndsWith R s t j gs = (gs ≡ []) ⊎ (effectOf R s t j ≡ exits gs)
+-- the signals that found trees when a job ends with an answer: at an EXIT those that it held; after a trap or a cut, none
+abbrev pub released : Job → Answer → List Signal
+released j Taken = []
+released j ListFull = []
+released j NoWork = []
+released j (Waiting l) = []
+released j Started = []
+released j Moved = []
+released j (Exited n) = j .held
+released j (Trapped r) = []
+released j WasCut = []
+released j NothingToCut = []
+
+-- what holds of all that it held holds of them
+pub released-has : (P : Signal → Type 0) (j : Job) (a : Answer) → Each P (j .held) → Each P (released j a)
+released-has P j Taken h = tt
+released-has P j ListFull h = tt
+released-has P j NoWork h = tt
+released-has P j (Waiting l) h = tt
+released-has P j Started h = tt
+released-has P j Moved h = tt
+released-has P j (Exited n) h = h
+released-has P j (Trapped r) h = tt
+released-has P j WasCut h = tt
+released-has P j NothingToCut h = tt
+
+-- which answers end a job of thread t: EXIT's counts the signals lost
+abbrev pub EndsWith : Rules → Machine → ℕ → Job → Answer → Type 0
+EndsWith R s t j Taken = ⊥
+EndsWith R s t j ListFull = ⊥
+EndsWith R s t j NoWork = ⊥
+EndsWith R s t j (Waiting l) = ⊥
+EndsWith R s t j Started = ⊥
+EndsWith R s t j Moved = ⊥
+EndsWith R s t j (Exited n) = n ≡ length (lost R (j .held) (finished R t s))
+EndsWith R s t j (Trapped r) = Unit {0}
+EndsWith R s t j WasCut = Unit {0}
+EndsWith R s t j NothingToCut = ⊥
+
+pub ends-close : (R : Rules) (s : Machine) (t : ℕ) (j : Job) (a : Answer) → EndsWith R s t j a → sort a ≡ close
+ends-close R s t j Taken h = absurd h
+ends-close R s t j ListFull h = absurd h
+ends-close R s t j NoWork h = absurd h
+ends-close R s t j (Waiting l) h = absurd h
+ends-close R s t j Started h = absurd h
+ends-close R s t j Moved h = absurd h
+ends-close R s t j (Exited n) h = refl
+ends-close R s t j (Trapped r) h = refl
+ends-close R s t j WasCut h = refl
+ends-close R s t j NothingToCut h = absurd h
 
 module _ (R : Rules) (s : Machine) where
   pub data Happens : Event → Reply → Type 0 where
@@ -51,9 +100,8 @@ module _ (R : Rules) (s : Machine) where
           state = applied R t (goOf (R .block (j .label)) (pendingOf (first t (s .trees))) j′ words g want) s;
           answer = Moved;
         })
-    ends : {k : Kind} (t locks : ℕ) (j : Job) (gs : List Signal) (a : Answer) → threadAt s t ≡ running locks j → EndsWith R s t j gs
-        → sort a ≡ close
-        → Happens (turn k t) (record { state = admitted R gs (finished R t s); answer = a })
+    ends : {k : Kind} (t locks : ℕ) (j : Job) (a : Answer) → threadAt s t ≡ running locks j → EndsWith R s t j a
+        → Happens (turn k t) (record { state = admitted R (released j a) (finished R t s); answer = a })
 
   on-arrival : (g : Signal) → Happens (arrive g) (carry R s (planArrive R g (s .trees)))
   unfolding carry planArrive
@@ -86,10 +134,10 @@ module _ (R : Rules) (s : Machine) where
     on-move j′ words g want (some l) a b = remains (turn _ t) _ (inl refl)
 
     on-running : {k : Kind} (e : Effect) → effectOf R s t j ≡ e
-        → Happens (turn k t) (carry R s (planRunning t (R .block (j .label)) (pendingOf (first t (s .trees))) e))
+        → Happens (turn k t) (carry R s (planRunning t (R .block (j .label)) (pendingOf (first t (s .trees))) (j .held) e))
     unfolding carry planRunning admitted
-    on-running (traps r) a = ends t locks j [] _ w (inl refl) refl
-    on-running (exits gs) a = ends t locks j gs _ w (inr a) refl
+    on-running (traps r) a = ends t locks j (Trapped r) w tt
+    on-running exits a = ends t locks j (Exited _) w refl
     on-running (moves j′ words g want) a = on-move j′ words g want _ a refl
 
   on-step : {k : Kind} (t : ℕ) (w : ThreadState) → threadAt s t ≡ w
@@ -101,7 +149,7 @@ module _ (R : Rules) (s : Machine) where
   on-cut : {k : Kind} (t : ℕ) (w : ThreadState) → threadAt s t ≡ w → Happens (turn k t) (carry R s (planCut t w))
   unfolding carry planCut admitted
   on-cut t idle w = remains (turn _ t) _ (inl refl)
-  on-cut t (running locks j) w = ends t locks j [] _ w (inl refl) refl
+  on-cut t (running locks j) w = ends t locks j WasCut w tt
 
   pub happens : (e : Event) → Happens e (react R s e)
   unfolding react plan

@@ -13,7 +13,7 @@ use Rattle.rules.specs.Bytes.{has}
 use Rattle.rules.specs.Machine.{Signal, Tree, Job, ThreadState, idle, running, Machine, threadAt, locksOf, jobOf, fresh, first, put}
 use Rattle.rules.specs.Events.{Kind, stepping, cutting, Event, arrive, turn, threadOf, Valid}
 use Rattle.rules.specs.Answers.{out, now, join, close, sort}
-use Rattle.rules.specs.Steps.{Rules, Effect, traps, exits, moves, Move, Plan, stay, grow, move, finish, leave, begin, pendingOf, founded}
+use Rattle.rules.specs.Steps.{Rules, Effect, traps, exits, moves, Move, Plan, stay, grow, move, finish, exiting, begin, pendingOf, founded}
 use Rattle.rules.specs.Steps.{admits, planArrive, planIdle, planRunning, planStep, planCut, planTurn, plan, blocked, grant, applied, grown}
 use Rattle.rules.specs.Steps.{finished, admitted, attempt, carry, react}
 use Rattle.rules.specs.declared.answer.Answer.the-variants.{ListFull}
@@ -46,7 +46,7 @@ module _ (R : Rules) where
   Good s o (grow x) = o ≡ none
   Good s o (move t m) = Sound s t m × (o ≡ some t) × (sort (m .answer) ≡ join)
   Good s o (finish t a) = (o ≡ some t) × (sort a ≡ close)
-  Good s o (leave t gs) = o ≡ some t
+  Good s o (exiting t gs) = o ≡ some t
 
 module _ (R : Rules) (L : Laws R) where
   good-idle : (s : Machine) (t : ℕ) (f : Option (List Signal)) → first t (s .trees) ≡ f → Good R s (some t) (planIdle R t f)
@@ -69,10 +69,10 @@ module _ (R : Rules) (L : Laws R) where
 
   good-running : (s : Machine) (t l : ℕ) (j : Job) (e : Effect) → Invariant R s → threadAt s t ≡ running l j
       → effectOf R s t j ≡ e
-      → Good R s (some t) (planRunning t (R .block (j .label)) (pendingOf (first t (s .trees))) e)
+      → Good R s (some t) (planRunning t (R .block (j .label)) (pendingOf (first t (s .trees))) (j .held) e)
   unfolding planRunning
   good-running s t l j (traps r) i w k = (refl, refl)
-  good-running s t l j (exits gs) i w k = refl
+  good-running s t l j exits i w k = refl
   good-running s t l j (moves j′ vs o b) i w k = (
     record {
       owns = λ c h. from c (subst (Stays R j) k (L .stays t j _ _) c h);
@@ -220,7 +220,7 @@ module _ (R : Rules) (L : Laws R) where
   invariant-carry s e (grow x) i v g = invariant-grown s x i
   invariant-carry s e (move t m) i v g = invariant-attempt s t m _ i (v t (g .1)) (g .0) refl
   invariant-carry s e (finish t a) i v g = invariant-finished s t i
-  invariant-carry s e (leave t gs) i v g = invariant-admitted gs (finished R t s) (invariant-finished s t i)
+  invariant-carry s e (exiting t gs) i v g = invariant-admitted gs (finished R t s) (invariant-finished s t i)
 
   pub invariant-react : (s : Machine) (e : Event) → Invariant R s → Valid e → Invariant R (react R s e .state)
   unfolding react

@@ -1,5 +1,5 @@
 -- The one law that the one-by-one reading asks of the rules: a job that goes on needs no block that it did not need before, but for the
--- one whose lock it asks for. And a second law, asked where trees are counted and where labels are shifted.
+-- one whose lock it asks for.
 use mathlib.Core.Path.{_≡_}
 use mathlib.Core.Logic.{_⊎_}
 use mathlib.Core.Option.{some}
@@ -14,17 +14,8 @@ Needs R j b = List·Memᴰ b (map (R .block) (j .label ∷ j .returns))
 
 abbrev pub Stays : Rules → Job → Effect → Type 0
 Stays R j (traps r) = Unit {0}
-Stays R j (exits gs) = Unit {0}
+Stays R j exits = Unit {0}
 Stays R j (moves k words g want) = (b : ℕ) → Needs R k b → Needs R j b ⊎ (want ≡ some b)
 
 pub record Laws (R : Rules) : Type 0 where
   pub stays : (t : ℕ) (j : Job) (words : List ℕ) (n : ℕ) → Stays R j (R .act t j words n)
-
--- an EXIT leaves with the signals that its job holds
-abbrev pub Releases : Job → Effect → Type 0
-Releases j (traps r) = Unit {0}
-Releases j (exits gs) = gs ≡ j .held
-Releases j (moves k words g want) = Unit {0}
-
-pub record Releasing (R : Rules) : Type 0 where
-  pub releases : (t : ℕ) (j : Job) (words : List ℕ) (n : ℕ) → Releases j (R .act t j words n)

@@ -1,21 +1,23 @@
 -- Trees keep their places: an event of thread t changes or removes t's first tree alone, and adds trees at the list's end alone: at most
--- that first one, and one for each signal that t's job holds.
+-- that first one and, at an EXIT, one for each signal that t's job held and that was not lost.
 use mathlib.Core.Path.{_≡_, refl, sym, ap, _∙_, subst}
 use mathlib.Core.Logic.{_≢_, inl, inr}
 use mathlib.Core.Option.{Option, none, some}
 use mathlib.Core.List.{List, [], _∷_, _++_, append-nil, append-assoc}
-use Prim.Native.Nat.{ℕ, suc, _+_, _≤_}
+use Prim.Native.Nat.{ℕ, suc, _+_, _-_, _≤_}
 use native.Mathlib.Decide.{ℕ-discrete}
 use native.Mathlib.Omega.{arith}
 use lib.ListN.{length, length-append}
-use Rattle.rules.specs.Machine.{Signal, Tree, Job, running, Machine, threadAt, heldOf, queue, first, put}
-use Rattle.rules.specs.Events.{Event, threadOf}
-use Rattle.rules.specs.Steps.{Rules, Reply, founded, requeued, finished, admitted, react}
+use Rattle.rules.specs.Machine.{Signal, Tree, Job, ThreadState, idle, running, Machine, threadAt, heldOf, queue, first, put}
+use Rattle.rules.specs.Events.{Event, arrive, turn, threadOf}
+use Rattle.rules.specs.Steps.{Rules, Reply, founded, requeued, finished, admitted, lost, react}
+use Rattle.rules.specs.declared.answer.Answer.{Answer}
+use Rattle.rules.specs.declared.answer.Answer.the-variants.{Taken, ListFull, NoWork, Waiting, Started, Moved, Exited, Trapped}
+use Rattle.rules.specs.declared.answer.Answer.the-variants.{WasCut, NothingToCut}
 use Rattle.laws.specs.Trees.{first-there, put-there, first-here}
 use Rattle.laws.specs.Logic.{never}
 use Rattle.laws.specs.Admitted.{admitted-trees}
-use Rattle.soundness.specs.Laws.{Releases, Releasing}
-use Rattle.soundness.specs.Happens.{EndsWith, Happens, remains, founds, starts, goes, ends, happens}
+use Rattle.soundness.specs.Happens.{released, EndsWith, Happens, remains, founds, starts, goes, ends, happens}
 use Rattle.soundness.specs.Queues.{queue-here, queue-there, queue-append, queue-put-other, Place, place}
 use Rattle.soundness.specs.Untouched.{Changed, same, given, taken, only-the-first-tree-changes}
 
@@ -74,10 +76,24 @@ queue-short u (x ∷ l) = case (ℕ-discrete (x .thread) u) (queue-short u l)
     case (yes e) ih = rw (queue-here u x l e) (omega arith)
     case (no e) ih = rw (queue-there u x l e) (omega arith)
 
--- how many trees an event may add: an arrival one; an event of thread t its first tree, and one for each signal that its job holds
-abbrev pub newTrees : Machine → Option ℕ → ℕ
-newTrees s none = 1
-newTrees s (some t) = 1 + length (heldOf (threadAt s t))
+-- how many trees an event of a thread in this state may add, by its answer: its first tree, and at an EXIT one for each signal that its
+-- job held and that was not lost
+abbrev pub newTrees : ThreadState → Answer → ℕ
+newTrees w Taken = 1
+newTrees w ListFull = 1
+newTrees w NoWork = 1
+newTrees w (Waiting l) = 1
+newTrees w Started = 1
+newTrees w Moved = 1
+newTrees w (Exited n) = 1 + (length (heldOf w) - n)
+newTrees w (Trapped r) = 1
+newTrees w WasCut = 1
+newTrees w NothingToCut = 1
+
+-- the state of the thread that an event names; an arrival names none
+abbrev pub acting : Machine → Event → ThreadState
+acting s (arrive g) = idle
+acting s (turn k t) = threadAt s t
 
 module _ (R : Rules) where
   pub requeued-one : (o : Option (List Signal)) → length (requeued R o) ≤ 1
@@ -89,7 +105,7 @@ module _ (R : Rules) where
   record Last (s : Machine) (t : ℕ) (gs : List Signal) : Type 0 where
     last : List Tree
     trees : admitted R gs (finished R t s) .trees ≡ put t none (s .trees) ++ last
-    few : length last ≤ 1 + length gs
+    few : length last ≤ 1 + (length gs - length (lost R gs (finished R t s)))
 
   ended : (s : Machine) (t : ℕ) (gs : List Signal) → Last s t gs
   ended s t gs =
@@ -101,21 +117,24 @@ module _ (R : Rules) where
             (omega (arith, requeued-one (first t (s .trees)), k .count));
       }
 
-  module _ (L : Releasing R) (s : Machine) where
-    -- an EXIT leaves with the signals that its job holds
-    few-held : (t locks : ℕ) (j : Job) (gs : List Signal) → threadAt s t ≡ running locks j → EndsWith R s t j gs
-        → length gs ≤ length (heldOf (threadAt s t))
-    few-held t locks j gs w (inl f) = rw f (omega arith)
-    few-held t locks j gs w (inr f) = rw (w, subst (Releases j) f (L .releases t j _ _)) (omega arith)
-
-    few-last : (t locks : ℕ) (j : Job) (gs : List Signal) → threadAt s t ≡ running locks j → EndsWith R s t j gs
-        → length (ended s t gs .last) ≤ newTrees s (some t)
-    few-last t locks j gs w f = omega (arith, ended s t gs .few, few-held t locks j gs w f)
+  module _ (s : Machine) where
+    few-last : (t locks : ℕ) (j : Job) (a : Answer) → threadAt s t ≡ running locks j → EndsWith R s t j a
+        → length (ended s t (released j a) .last) ≤ newTrees (threadAt s t) a
+    few-last t locks j Taken w f = absurd f
+    few-last t locks j ListFull w f = absurd f
+    few-last t locks j NoWork w f = absurd f
+    few-last t locks j (Waiting l) w f = absurd f
+    few-last t locks j Started w f = absurd f
+    few-last t locks j Moved w f = absurd f
+    few-last t locks j (Exited n) w f = rw (w, f) (ended s t (j .held) .few)
+    few-last t locks j (Trapped r) w f = omega (arith, ended s t [] .few)
+    few-last t locks j WasCut w f = omega (arith, ended s t [] .few)
+    few-last t locks j NothingToCut w f = absurd f
 
     -- t has no tree in the list: the others keep their places
-    module _ (t : ℕ) (f : first t (s .trees) ≡ none) where
-      behind : (l′ last : List Tree) → l′ ≡ s .trees ++ last → length last ≤ newTrees s (some t)
-          → InPlace t (newTrees s (some t)) (s .trees) l′
+    module _ (t : ℕ) (a : Answer) (f : first t (s .trees) ≡ none) where
+      behind : (l′ last : List Tree) → l′ ≡ s .trees ++ last → length last ≤ newTrees (threadAt s t) a
+          → InPlace t (newTrees (threadAt s t) a) (s .trees) l′
       behind l′ last e n = record {
         before = s .trees;
         own = [];
@@ -130,18 +149,18 @@ module _ (R : Rules) where
         added = n;
       }
 
-      absent : (l′ : List Tree) → Changed R s t l′ → InPlace t (newTrees s (some t)) (s .trees) l′
+      absent : (l′ : List Tree) → Changed R s t a l′ → InPlace t (newTrees (threadAt s t) a) (s .trees) l′
       absent l′ same = behind _ [] (sym (append-nil (s .trees))) (omega arith)
       absent l′ (given p) = behind _ [] (put-missing t (some p) (s .trees) f .0 ∙ sym (append-nil (s .trees))) (omega arith)
-      absent l′ (taken locks j gs w e) =
-          behind _ (ended s t gs .last)
-          (ended s t gs .trees ∙ ap (λ (z : List Tree). z ++ ended s t gs .last) (put-missing t none (s .trees) f .0))
-          (few-last t locks j gs w e)
+      absent l′ (taken locks j w e) =
+          behind _ (ended s t (released j a) .last)
+          (ended s t (released j a) .trees ∙ ap (λ (z : List Tree). z ++ ended s t (released j a) .last) (put-missing t none (s .trees) f .0))
+          (few-last t locks j a w e)
 
-    module _ (t : ℕ) (p : Place t (s .trees)) where
+    module _ (t : ℕ) (a : Answer) (p : Place t (s .trees)) where
       inside : (l′ own′ last : List Tree) → l′ ≡ p .before ++ (own′ ++ (p .after ++ last)) → OneOf t own′
-          → length last ≤ newTrees s (some t)
-          → InPlace t (newTrees s (some t)) (s .trees) l′
+          → length last ≤ newTrees (threadAt s t) a
+          → InPlace t (newTrees (threadAt s t) a) (s .trees) l′
       inside l′ own′ last e o n = record {
         before = p .before;
         own = p .own ∷ [];
@@ -156,30 +175,30 @@ module _ (R : Rules) where
         added = n;
       }
 
-      present : (l′ : List Tree) → Changed R s t l′ → InPlace t (newTrees s (some t)) (s .trees) l′
+      present : (l′ : List Tree) → Changed R s t a l′ → InPlace t (newTrees (threadAt s t) a) (s .trees) l′
       present l′ same = inside _ (p .own ∷ []) [] (rw (append-nil (p .after)) (p .whole)) (one-of t (p .own) (p .mine)) (omega arith)
       present l′ (given q) =
           inside _ (record { thread = t; pending = q } ∷ []) [] (rw (append-nil (p .after)) (p .changed (some q))) (one-of t _ refl)
           (omega arith)
-      present l′ (taken locks j gs w e) =
-          inside _ [] (ended s t gs .last)
-          (ended s t gs .trees ∙ ap (λ (z : List Tree). z ++ ended s t gs .last) (p .changed none)
-          ∙ append-assoc (p .before) (p .after) (ended s t gs .last))
-          (none-of t) (few-last t locks j gs w e)
+      present l′ (taken locks j w e) =
+          inside _ [] (ended s t (released j a) .last)
+          (ended s t (released j a) .trees ∙ ap (λ (z : List Tree). z ++ ended s t (released j a) .last) (p .changed none)
+          ∙ append-assoc (p .before) (p .after) (ended s t (released j a) .last))
+          (none-of t) (few-last t locks j a w e)
 
     pub trees-keep-their-places : (e : Event) (t : ℕ) → threadOf e ≡ some t
-        → InPlace t (newTrees s (some t)) (s .trees) (react R s e .state .trees)
+        → InPlace t (newTrees (threadAt s t) (react R s e .answer)) (s .trees) (react R s e .state .trees)
     trees-keep-their-places e t h = case (first t (s .trees)) refl
       where
         case : (o : Option (List Signal)) → first t (s .trees) ≡ o
-            → InPlace t (newTrees s (some t)) (s .trees) (react R s e .state .trees)
-        case none f = absent t f _ (only-the-first-tree-changes R s e t h)
-        case (some q) f = present t (place t (s .trees) q f) _ (only-the-first-tree-changes R s e t h)
+            → InPlace t (newTrees (threadAt s t) (react R s e .answer)) (s .trees) (react R s e .state .trees)
+        case none f = absent t _ f _ (only-the-first-tree-changes R s e t h)
+        case (some q) f = present t _ (place t (s .trees) q f) _ (only-the-first-tree-changes R s e t h)
 
     -- ---- as each thread sees its queue
 
     longer : (u : ℕ) (e : Event) (r : Reply) → Happens R s e r → threadOf e ≢ some u
-        → Longer (newTrees s (threadOf e)) (queue u (s .trees)) (queue u (r .state .trees))
+        → Longer (newTrees (acting s e) (r .answer)) (queue u (s .trees)) (queue u (r .state .trees))
     longer u e r (remains f a q) n = unchanged _ _
     longer u e r (founds g room) n = record {
       more = queue u (founded R g ∷ []);
@@ -189,16 +208,16 @@ module _ (R : Rules) where
     longer u e r (starts t g p w f b) n = rw (queue-put-other u t (some p) (s .trees) (λ k. n (ap some (sym k)))) (unchanged _ _)
     longer u e r (goes t l j j′ words g want w a b) n =
         rw (queue-put-other u t (some _) (s .trees) (λ k. n (ap some (sym k)))) (unchanged _ _)
-    longer u e r (ends t l j gs a w f c) n =
-        let k = ended s t gs in
+    longer u e r (ends t l j a w f) n =
+        let k = ended s t (released j a) in
         record {
           more = queue u (k .last);
           whole =
               ap (queue u) (k .trees) ∙ queue-append u (put t none (s .trees)) (k .last)
               ∙ ap (λ (z : List Tree). z ++ queue u (k .last)) (queue-put-other u t none (s .trees) (λ q. n (ap some (sym q))));
-          few = omega (arith, queue-short u (k .last), few-last t l j gs w f);
+          few = omega (arith, queue-short u (k .last), few-last t l j a w f);
         }
 
     pub queues-of-others-stay : (e : Event) (u : ℕ) → threadOf e ≢ some u
-        → Longer (newTrees s (threadOf e)) (queue u (s .trees)) (queue u (react R s e .state .trees))
+        → Longer (newTrees (acting s e) (react R s e .answer)) (queue u (s .trees)) (queue u (react R s e .state .trees))
     queues-of-others-stay e u n = longer u e (react R s e) (happens R s e) n

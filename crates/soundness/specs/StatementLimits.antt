@@ -199,7 +199,7 @@ SignalSized most n (some g) = SizedSignal g × (n < most)
 
 abbrev pub EffectSized : ℕ → Effect → Type 0
 EffectSized pending (traps r) = Unit {0}
-EffectSized pending (exits gs) = SizedSignals heldCount gs
+EffectSized pending exits = Unit {0}
 EffectSized pending (moves j words g want) =
     (length (j .registers) ≡ registerCount) × (length (j .returns) ≤ returnCount) × SizedSignals heldCount (j .held)
     × SignalSized pendingCount pending g
@@ -249,7 +249,7 @@ module _ (pending : ℕ) where
       → OutcomeSized (view j words pending) o
       → EffectSized pending (resolve block row t (j .returns) (j .held) a b o)
   resolve-sized block row t a b j words (trap r) z h = tt
-  resolve-sized block row t a b j words (got ends) z h = z .held
+  resolve-sized block row t a b j words (got ends) z h = tt
   resolve-sized block row t a b j words (got (goes g)) z h =
       steer-sized block row t a b (j .held) g (h .0)
       (hold-sized (j .held) (signalTo a (g .held)) (z .held) (sent-sized heldCount (length (j .held)) a (g .held) (h .3)))

@@ -21,7 +21,8 @@ use Rattle.laws.specs.Passed.{Passed, passed}
 use Rattle.laws.specs.Trees.{threads-put}
 use Rattle.laws.specs.Admitted.{admitted-keeps, admitted-words, admitted-threads}
 use Rattle.encoding.specs.Sized.{SizedJob, SizedThread, SizedSignal, SizedSignals, SizedTree, Sized}
-use Rattle.soundness.specs.Happens.{effectOf, EndsWith, Happens, remains, founds, starts, goes, ends, happens}
+use Rattle.rules.specs.declared.answer.Answer.{Answer}
+use Rattle.soundness.specs.Happens.{effectOf, released, released-has, EndsWith, Happens, remains, founds, starts, goes, ends, happens}
 use Rattle.soundness.specs.Queues.{Place, place, FirstHas, first-has, put-each}
 use Rattle.soundness.specs.Places.{put-missing, requeued-one}
 use Rattle.soundness.specs.Members.{each-member}
@@ -103,35 +104,35 @@ module _ (image table : List ℕ) (ok : Passed image table) (s : Machine) (k : S
   firsts : (t : ℕ) → FirstSized (first t (s .trees))
   firsts t = first-sized t (s .trees) (z .eachTree)
 
+  job-sized : (t locks : ℕ) (j : Job) → t < threadCount → threadAt s t ≡ running locks j → SizedJob j
+  job-sized t locks j v w = subst SizedThread w (each-at SizedThread (s .threads) t idle (z .eachThread) (rw (z .threads) v))
+
   -- what the statement of a running thread leaves
   effect-sized : (t locks : ℕ) (j : Job) (e : Effect) → t < threadCount → threadAt s t ≡ running locks j
       → effectOf R s t j ≡ e
       → EffectSized (length (pendingOf (first t (s .trees)))) e
   effect-sized t locks j e v w a =
-      let y : SizedJob j = subst SizedThread w (each-at SizedThread (s .threads) t idle (z .eachThread) (rw (z .threads) v)) in
       let p : JobIn image table t j = subst (ThreadIn image table t) w (k .threads t) in
-      subst (EffectSized _) a (act-sized image table ok t j _ _ (p .places .0 .below) y)
+      subst (EffectSized _) a (act-sized image table ok t j _ _ (p .places .0 .below) (job-sized t locks j v w))
 
   -- the signals that found trees when a job ends
-  held-sized : (t locks : ℕ) (j : Job) (gs : List Signal) → t < threadCount → threadAt s t ≡ running locks j → EndsWith R s t j gs
-      → Each SizedSignal gs
-  held-sized t locks j gs v w (inl f) = rw f tt
-  held-sized t locks j gs v w (inr f) = effect-sized t locks j _ v w f .each
+  held-sized : (t locks : ℕ) (j : Job) (a : Answer) → t < threadCount → threadAt s t ≡ running locks j → Each SizedSignal (released j a)
+  held-sized t locks j a v w = released-has SizedSignal j a (job-sized t locks j v w .held .each)
 
   words-kept : (e : Event) (r : Reply) → Happens R s e r → length (r .state .words) ≡ blockCount * wordCount
   words-kept e r (remains f a q) = z .words
   words-kept e r (founds g room) = z .words
   words-kept e r (starts t g p w f b) = z .words
   words-kept e r (goes t l j j′ words g want w a b) = length-keep (R .block (j .label)) words (s .words) ∙ z .words
-  words-kept e r (ends t l j gs a w f c) = ap length (admitted-words R gs (finished R t s)) ∙ z .words
+  words-kept e r (ends t l j a w f) = ap length (admitted-words R (released j a) (finished R t s)) ∙ z .words
 
   threads-count : (e : Event) (r : Reply) → Happens R s e r → length (r .state .threads) ≡ threadCount
   threads-count e r (remains f a q) = z .threads
   threads-count e r (founds g room) = z .threads
   threads-count e r (starts t g p w f b) = length-set (s .threads) t _ ∙ z .threads
   threads-count e r (goes t l j j′ words g want w a b) = length-set (s .threads) t _ ∙ z .threads
-  threads-count e r (ends t l j gs a w f c) =
-      ap length (admitted-threads R gs (finished R t s)) ∙ length-set (s .threads) t _ ∙ z .threads
+  threads-count e r (ends t l j a w f) =
+      ap length (admitted-threads R (released j a) (finished R t s)) ∙ length-set (s .threads) t _ ∙ z .threads
 
   -- 16 trees leave no room for another
   count-founded : (y : Machine) (g : Signal) → admits R (y .trees) g ≡ true → length (grown (founded R g) y .trees) ≤ treeCount
@@ -144,8 +145,8 @@ module _ (image table : List ℕ) (ok : Passed image table) (s : Machine) (k : S
   trees-count e r (founds g room) = count-founded s g room
   trees-count e r (starts t g p w f b) = rw (length-put t p (s .trees)) (z .trees)
   trees-count e r (goes t l j j′ words g want w a b) = rw (length-put t (pendingOf (first t (s .trees)) ++ added g) (s .trees)) (z .trees)
-  trees-count e r (ends t l j gs a w f c) =
-      admitted-keeps R (λ (y : Machine). length (y .trees) ≤ treeCount) gs (λ g m y room h. count-founded y g room) (finished R t s)
+  trees-count e r (ends t l j a w f) =
+      admitted-keeps R (λ (y : Machine). length (y .trees) ≤ treeCount) (released j a) (λ g m y room h. count-founded y g room) (finished R t s)
       (omega (arith, length-finished R t (s .trees), z .trees))
 
   threads-sized : (e : Event) (r : Reply) → Happens R s e r → Accepted image e → Each SizedThread (r .state .threads)
@@ -167,8 +168,8 @@ module _ (image table : List ℕ) (ok : Passed image table) (s : Machine) (k : S
         registers = h .0;
         held = h .2;
       })
-  threads-sized e r (ends t l j gs a w f c) v =
-      rw (admitted-threads R gs (finished R t s)) (each-set SizedThread (s .threads) t idle (z .eachThread) tt)
+  threads-sized e r (ends t l j a w f) v =
+      rw (admitted-threads R (released j a) (finished R t s)) (each-set SizedThread (s .threads) t idle (z .eachThread) tt)
 
   tree-founded : (y : Machine) (g : Signal) → SizedSignal g → Each SizedTree (y .trees) → Each SizedTree (grown (founded R g) y .trees)
   tree-founded y g h e = each-append SizedTree (y .trees) (founded R g ∷ []) e (record { count = omega arith; each = (h, tt) }, tt)
@@ -183,9 +184,9 @@ module _ (image table : List ℕ) (ok : Passed image table) (s : Machine) (k : S
       put-sized t (some (pendingOf (first t (s .trees)) ++ added g)) (s .trees)
       (added-sized (pendingOf (first t (s .trees))) g (pending-sized (first t (s .trees)) (firsts t)) (effect-sized t l j _ v w a .3))
       (z .eachTree)
-  trees-sized e r (ends t l j gs a w f c) v =
-      admitted-keeps R (λ (y : Machine). Each SizedTree (y .trees)) gs
-      (λ g m y room. tree-founded y g (each-member SizedSignal gs (held-sized t l j gs v w f) g m)) (finished R t s)
+  trees-sized e r (ends t l j a w f) v =
+      admitted-keeps R (λ (y : Machine). Each SizedTree (y .trees)) (released j a)
+      (λ g m y room. tree-founded y g (each-member SizedSignal (released j a) (held-sized t l j a v w) g m)) (finished R t s)
       (each-append SizedTree (put t none (s .trees)) _ (put-sized t none (s .trees) tt (z .eachTree))
       (requeued-sized R (first t (s .trees)) (firsts t)))
 

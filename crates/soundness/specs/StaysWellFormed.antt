@@ -26,7 +26,8 @@ use Rattle.laws.specs.Locks.{getD-set-idle}
 use Rattle.laws.specs.Admitted.{admitted-keeps, admitted-threads}
 use Rattle.laws.specs.Passed.{Passed, passed}
 use Rattle.soundness.specs.CheckedRules.{checked-laws}
-use Rattle.soundness.specs.Happens.{startOf, goOf, effectOf, EndsWith, Happens, remains, founds, starts, goes, ends, happens}
+use Rattle.rules.specs.declared.answer.Answer.{Answer}
+use Rattle.soundness.specs.Happens.{startOf, goOf, effectOf, released, released-has, EndsWith, Happens, remains, founds, starts, goes, ends, happens}
 use Rattle.soundness.specs.Untouched.{words-of-other-blocks-stay}
 use Rattle.soundness.specs.Queues.{first-queue, queue-append, queue-put, queue-put-other}
 use Rattle.soundness.specs.Members.{each-member, getD-set}
@@ -66,10 +67,8 @@ module _ (image table : List ℕ) (ok : Passed image table) (s : Machine) (k : S
       subst (EffectIn image table ok t) a (act-in image table ok t j _ _ (subst (ThreadIn image table t) w (k .threads t)))
 
   -- the signals that found trees when a job ends
-  held-in : (t locks : ℕ) (j : Job) (gs : List Signal) → threadAt s t ≡ running locks j → EndsWith R s t j gs
-      → Each (HeldIn image table) gs
-  held-in t locks j gs w (inl f) = rw f tt
-  held-in t locks j gs w (inr f) = effect-in t locks j _ w f
+  held-in : (t locks : ℕ) (j : Job) (a : Answer) → threadAt s t ≡ running locks j → Each (HeldIn image table) (released j a)
+  held-in t locks j a w = released-has (HeldIn image table) j a (subst (ThreadIn image table t) w (k .threads t) .held)
 
   -- an arrival's signal is one that may be pending
   arrival-in : (g : Signal) → Accepted image (arrive g) → PendingIn image table g
@@ -93,8 +92,8 @@ module _ (image table : List ℕ) (ok : Passed image table) (s : Machine) (k : S
       (record { places = (start-in t g p w f, tt); held = tt })
   threads-kept e r (goes t l j j′ words g want w a b) =
       getD-set idle (ThreadIn image table) (s .threads) t _ (k .threads) (effect-in t l j _ w a .0)
-  threads-kept e r (ends t l j gs a w f c) =
-      rw (admitted-threads R gs (finished R t s)) (getD-set idle (ThreadIn image table) (s .threads) t idle (k .threads) tt)
+  threads-kept e r (ends t l j a w f) =
+      rw (admitted-threads R (released j a) (finished R t s)) (getD-set idle (ThreadIn image table) (s .threads) t idle (k .threads) tt)
 
   -- ---- trees
 
@@ -112,9 +111,9 @@ module _ (image table : List ℕ) (ok : Passed image table) (s : Machine) (k : S
       let new = added-in g (effect-in t l j _ w a .1) in
       put-trees image table t (some (pendingOf (first t (s .trees)) ++ added g)) (s .trees)
       (each-append (PendingIn image table) (pendingOf (first t (s .trees))) (added g) old new) h (k .trees)
-  trees-kept e r (ends t l j gs a w f c) h v =
-      admitted-keeps R (λ (z : Machine). Each (TreeIn image table) (z .trees)) gs
-      (λ g m z room. tree-founded z g (held-pending image table g (each-member _ gs (held-in t l j gs w f) g m)))
+  trees-kept e r (ends t l j a w f) h v =
+      admitted-keeps R (λ (z : Machine). Each (TreeIn image table) (z .trees)) (released j a)
+      (λ g m z room. tree-founded z g (held-pending image table g (each-member _ (released j a) (held-in t l j a w) g m)))
       (finished R t s)
       (each-append (TreeIn image table) (put t none (s .trees)) _
       (put-trees image table t none (s .trees) tt h (k .trees))
@@ -172,8 +171,8 @@ module _ (image table : List ℕ) (ok : Passed image table) (s : Machine) (k : S
   queues-kept e r (goes t l j j′ words g want w a b) h =
       let root = k .invariant .rooted t j (ap jobOf w) in
       queue-applied t (goOf (R .block (j .label)) (pendingOf (first t (s .trees))) j′ words g want) (root .0) h (root .1)
-  queues-kept e r (ends t l j gs a w f c) h =
-      admitted-keeps R QueuesIn gs (λ g m z room. queue-founded z g) (finished R t s) (queue-finished t)
+  queues-kept e r (ends t l j a w f) h =
+      admitted-keeps R QueuesIn (released j a) (λ g m z room. queue-founded z g) (finished R t s) (queue-finished t)
 
 module _ (image table : List ℕ) (checked : Checked image table) where
   ok : Passed image table

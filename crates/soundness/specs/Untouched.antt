@@ -14,7 +14,8 @@ use Rattle.laws.specs.Logic.{never}
 use Rattle.laws.specs.Words.{window-keep-other}
 use Rattle.laws.specs.Admitted.{admitted-words, admitted-threads}
 use Rattle.soundness.specs.Invariant.{Invariant}
-use Rattle.soundness.specs.Happens.{EndsWith, Happens, remains, founds, starts, goes, ends, happens}
+use Rattle.rules.specs.declared.answer.Answer.{Answer}
+use Rattle.soundness.specs.Happens.{released, released-has, EndsWith, Happens, remains, founds, starts, goes, ends, happens}
 
 module _ (R : Rules) (s : Machine) where
   -- ---- the threads: only the event's own thread may change
@@ -24,8 +25,8 @@ module _ (R : Rules) (s : Machine) where
   thread-kept u e r (founds g room) n = refl
   thread-kept u e r (starts t g p w f b) n = getD-set-other (s .threads) t u _ idle (λ k. n (ap some (sym k)))
   thread-kept u e r (goes t l j j′ words g want w a b) n = getD-set-other (s .threads) t u _ idle (λ k. n (ap some (sym k)))
-  thread-kept u e r (ends t l j gs a w f c) n =
-      rw (admitted-threads R gs (finished R t s)) (getD-set-other (s .threads) t u idle idle (λ k. n (ap some (sym k))))
+  thread-kept u e r (ends t l j a w f) n =
+      rw (admitted-threads R (released j a) (finished R t s)) (getD-set-other (s .threads) t u idle idle (λ k. n (ap some (sym k))))
 
   pub other-threads-stay : (e : Event) (u : ℕ) → threadOf e ≢ some u → threadAt (react R s e .state) u ≡ threadAt s u
   other-threads-stay e u n = thread-kept u e (react R s e) (happens R s e) n
@@ -43,7 +44,7 @@ module _ (R : Rules) (s : Machine) where
   block-kept i b e r (goes t l j j′ words g want w a k) n =
       window-keep-other (R .block (j .label)) b words (s .words)
       (λ c. true≢false (sym (i .keeps t j (ap jobOf w) (R .block (j .label)) (List·Memᴰ·head refl)) ∙ rw c at (n t refl)))
-  block-kept i b e r (ends t l j gs a w f c) n = ap (window b) (admitted-words R gs (finished R t s))
+  block-kept i b e r (ends t l j a w f) n = ap (window b) (admitted-words R (released j a) (finished R t s))
 
   pub words-of-other-blocks-stay : Invariant R s → (e : Event) (b : ℕ)
       → ((t : ℕ) → threadOf e ≡ some t → has (R .lock b) (locksOf (threadAt s t)) ≡ false)
@@ -63,25 +64,25 @@ module _ (R : Rules) (s : Machine) where
   arrived g e r (founds k room) h = let q : k ≡ g = cc in record { words = refl; threads = refl; trees = inr (rw q refl) }
   arrived g e r (starts t k p w f b) h = never (cc)
   arrived g e r (goes t l j j′ words k want w a b) h = never (cc)
-  arrived g e r (ends t l j gs a w f c) h = never (cc)
+  arrived g e r (ends t l j a w f) h = never (cc)
 
   pub an-arrival-changes-the-end : (g : Signal) → Arrived g (react R s (arrive g) .state)
   an-arrival-changes-the-end g = arrived g (arrive g) (react R s (arrive g)) (happens R s (arrive g)) refl
 
-  -- an event of thread t leaves the list as it was, gives t's first tree other signals, or takes it from its place to the list's end,
-  -- where the trees come behind it that the signals of the job found
-  pub data Changed (t : ℕ) : List Tree → Type 0 where
-    same : Changed t (s .trees)
-    given : (p : List Signal) → Changed t (put t (some p) (s .trees))
-    taken : (locks : ℕ) (j : Job) (gs : List Signal) → threadAt s t ≡ running locks j → EndsWith R s t j gs
-        → Changed t (admitted R gs (finished R t s) .trees)
+  -- an event of thread t, answered a, leaves the list as it was, gives t's first tree other signals, or takes it from its place to the
+  -- list's end, where at an EXIT the trees come behind it that the signals of the job found
+  pub data Changed (t : ℕ) (a : Answer) : List Tree → Type 0 where
+    same : Changed t a (s .trees)
+    given : (p : List Signal) → Changed t a (put t (some p) (s .trees))
+    taken : (locks : ℕ) (j : Job) → threadAt s t ≡ running locks j → EndsWith R s t j a
+        → Changed t a (admitted R (released j a) (finished R t s) .trees)
 
-  changed : (t : ℕ) (e : Event) (r : Reply) → Happens R s e r → threadOf e ≡ some t → Changed t (r .state .trees)
+  changed : (t : ℕ) (e : Event) (r : Reply) → Happens R s e r → threadOf e ≡ some t → Changed t (r .answer) (r .state .trees)
   changed t e r (remains f a q) h = same
   changed t e r (founds g room) h = never (cc)
   changed t e r (starts u g p w f b) h = let q : u ≡ t = cc in rw q (given p)
   changed t e r (goes u l j j′ words g want w a b) h = let q : u ≡ t = cc in rw q (given _)
-  changed t e r (ends u l j gs a w f c) h = let q : u ≡ t = cc in rw q (taken l j gs (rw q at w) (rw q at f))
+  changed t e r (ends u l j a w f) h = let q : u ≡ t = cc in rw q (taken l j (rw q at w) (rw q at f))
 
-  pub only-the-first-tree-changes : (e : Event) (t : ℕ) → threadOf e ≡ some t → Changed t (react R s e .state .trees)
+  pub only-the-first-tree-changes : (e : Event) (t : ℕ) → threadOf e ≡ some t → Changed t (react R s e .answer) (react R s e .state .trees)
   only-the-first-tree-changes e t h = changed t e (react R s e) (happens R s e) h

@@ -24,16 +24,16 @@ module _ (R : Rules) (s : Machine) (t l : ℕ) (j : Job) (p : List Signal) (runs
   abbrev pub effect : Effect
   effect = R .act t j (window block (s .words)) (length p)
 
-  by-effect : (e : Effect) → effect ≡ e → react R s (step t) ≡ carry R s (planRunning t block p e)
+  by-effect : (e : Effect) → effect ≡ e → react R s (step t) ≡ carry R s (planRunning t block p (j .held) e)
   unfolding react plan planStep
   by-effect e h = rw (runs, tree, h) refl
 
   pub traps-by : (r : ℕ) → effect ≡ traps r → react R s (step t) ≡ reply (finished R t s) (Trapped r)
   traps-by r h = by-effect (traps r) h ∙ unfold carry planRunning in refl
 
-  pub exits-by : (gs : List Signal) → effect ≡ exits gs
-      → react R s (step t) ≡ reply (admitted R gs (finished R t s)) (Exited (length (lost R gs (finished R t s))))
-  exits-by gs h = by-effect (exits gs) h ∙ unfold carry planRunning in refl
+  pub exits-by : effect ≡ exits
+      → react R s (step t) ≡ reply (admitted R (j .held) (finished R t s)) (Exited (length (lost R (j .held) (finished R t s))))
+  exits-by h = by-effect exits h ∙ unfold carry planRunning in refl
 
   -- the machine after a move: the block's words, the thread with these locks, and its tree's signals
   abbrev moved : ℕ → Job → List ℕ → Option Signal → Machine

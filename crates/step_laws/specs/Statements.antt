@@ -58,7 +58,7 @@ module _ (image table : List ℕ) (s : Machine) (t l : ℕ) (j : Job) (p : List 
 
   pub leaves : statementOf r ≡ Exit
       → react R s (step t) ≡ reply (admitted R (j .held) (finished R t s)) (Exited (length (lost R (j .held) (finished R t s))))
-  leaves e = exits-by R s t l j p runs tree (j .held) (unfold actBy outcome readAll perform in rw e refl)
+  leaves e = exits-by R s t l j p runs tree (unfold actBy outcome readAll perform in rw e refl)
 
   -- the values that the statement read
   module _ (vs : List ℕ) where

@@ -58,18 +58,18 @@ module _ (R : Rules) where
   turned-idle s t (some []) i e = (i, λ p h. cc)
   turned-idle s t (some (g ∷ q)) i e = turned-move s t _ _ tt
 
-  turned-running : (s : Machine) (t b : ℕ) (p : List Signal) (e : Effect) → Turned s t (carry R s (planRunning t b p e) .answer)
+  turned-running : (s : Machine) (t b : ℕ) (p gs : List Signal) (e : Effect) → Turned s t (carry R s (planRunning t b p gs e) .answer)
   unfolding carry planRunning
-  turned-running s t b p (traps r) = tt
-  turned-running s t b p (exits gs) = tt
-  turned-running s t b p (moves j ws o w) = turned-move s t _ w tt
+  turned-running s t b p gs (traps r) = tt
+  turned-running s t b p gs exits = tt
+  turned-running s t b p gs (moves j ws o w) = turned-move s t _ w tt
 
   pub turned : (s : Machine) (t : ℕ) → Turned s t (react R s (nextTurn s t) .answer)
   turned s t = case (threadAt s t) refl
     where
       case : (w : ThreadState) → threadAt s t ≡ w → Turned s t (react R s (nextTurn s t) .answer)
       case idle e = unfold react plan planStep in rw e (turned-idle s t _ e refl)
-      case (running l j) e = unfold react plan planStep in rw e (turned-running s t _ _ _)
+      case (running l j) e = unfold react plan planStep in rw e (turned-running s t _ _ _ _)
 
 -- ---- the holder
 
