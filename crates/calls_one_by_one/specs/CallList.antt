@@ -6,11 +6,12 @@ use mathlib.Core.Path.{_≡_}
 use mathlib.Core.Bool.{Bool, cond}
 use mathlib.Core.List.{List, [], _∷_, _++_, map}
 use Prim.Native.Nat.{ℕ}
+use Rattle.rules.specs.Machine.{Signal}
 use Rattle.rules.specs.Encoding.{encode, machineFrom}
 use Rattle.rules.specs.Events.{Event, eventFrom, eventsIn}
 use Rattle.rules.specs.Answers.{answerBytes}
 use Rattle.rules.specs.Steps.{rulesBy, answers, final}
-use Rattle.rules.specs.Order.{ByteEntry, byteEntries, byteOrder}
+use Rattle.rules.specs.Order.{ByteEntry, byteEntries, byteOrder, Entry, order, log}
 use Rattle.rules.specs.Calls.{accepts, freshReturn, freshState, runReturn, runState, runAnswers}
 use Rattle.fields.specs.Each.{Each}
 use Rattle.encoding.specs.Numbers.{AreBytes}
@@ -92,13 +93,18 @@ eventsOf l = map (λ (n : ByteEntry). eventFrom (n .event)) l
 abbrev pub answersOf : List ByteEntry → List (List ℕ)
 answersOf l = map (λ (n : ByteEntry). n .answer) l
 
+-- what each of the events of a log lost
+abbrev pub lossesOf : List Entry → List (List Signal)
+lossesOf l = map (λ (n : Entry). n .lost) l
+
 -- the second order's events, carried out by the rules from the state that Fresh left, leave the very state bytes that the last accepted
--- call left, and
--- each gets the same two answer bytes as in the event list
+-- call left, each gets the same two answer bytes as in the event list, and each loses the very signals that it loses there
 pub record OneByOneCalls (image table start : List ℕ) (runs : List Run) : Type 0 where
   pub state : encode (final (rulesBy image table) (machineFrom start) (eventsOf (byteOrder (eventList runs)))) ≡ lastLeft start runs
   pub answers : map answerBytes (answers (rulesBy image table) (machineFrom start) (eventsOf (byteOrder (eventList runs))))
       ≡ answersOf (byteOrder (eventList runs))
+  pub lost : lossesOf (log (rulesBy image table) (machineFrom start) (eventsOf (byteOrder (eventList runs))))
+      ≡ lossesOf (order (log (rulesBy image table) (machineFrom start) (eventsOf (eventList runs))))
 
 -- without events both are Fresh's state
 pub record NoChange (image table start : List ℕ) (runs : List Run) : Type 0 where

@@ -39,6 +39,9 @@ reread-events : (l : List Entry) → eventsOf (map bytesOf l) ≡ events (map re
 reread-events [] = refl
 reread-events (n ∷ l) = ap (λ (z : List Event). eventFrom (eventBytes (n .event)) ∷ z) (reread-events l)
 
+pub events-listed : (l : List Entry) → Each SizedEvent (events l) → eventsOf (map bytesOf l) ≡ events l
+events-listed l z = reread-events l ∙ ap events (reread-same l z)
+
 pub events-ordered : (l : List Entry) → Each SizedEvent (events l) → eventsOf (byteOrder (map bytesOf l)) ≡ events (order l)
 events-ordered l z =
     ap eventsOf (sym (byte-order l)) ∙ reread-events (order l) ∙ ap events (order-reread l ∙ ap order (reread-same l z))

@@ -28,9 +28,9 @@ use Rattle.soundness.specs.StaysWellFormed.{Accepted, accepted-valid}
 use Rattle.soundness.specs.StaysSized.{sized-final}
 use Rattle.soundness.specs.States.{Ready, fresh-leaves-ready, run-leaves-ready}
 use Rattle.calls_one_by_one.specs.CallList.{Run, returned, stateLeft, accepted, next, lastLeft, Follow, Calls, eventList, eventsOf}
-use Rattle.calls_one_by_one.specs.CallList.{answersOf, OneByOneCalls, NoChange}
+use Rattle.calls_one_by_one.specs.CallList.{answersOf, lossesOf, OneByOneCalls, NoChange}
 use Rattle.calls_one_by_one.specs.Joined.{eventLists, Good, good-fresh, Joined, joined}
-use Rattle.calls_one_by_one.specs.Ordered.{events-ordered, answers-ordered}
+use Rattle.calls_one_by_one.specs.Ordered.{events-listed, events-ordered, answers-ordered}
 
 -- what the reading of values asks of events that the image accepts: their threads are 0 to 7, and their bytes have room for them
 pub all-valid : (image : List ℕ) (l : List Event) → Each (Accepted image) l → AllValid l
@@ -113,11 +113,14 @@ module _ (image table words state : List ℕ) (runs : List Run) (calls : Calls i
   reading =
       values.calls-one-by-one R (checked-laws image table checked) (wordsFrom words) (eventLists runs) (all-valid image joint (all .each))
 
+  noted-sized : Each SizedEvent (events noted)
+  noted-sized = subst (Each SizedEvent) (sym noted-events) (each-map (Accepted image) SizedEvent joint (accepted-sized image) (all .each))
+
+  listed : eventsOf (eventList runs) ≡ joint
+  listed = ap eventsOf (all .entries) ∙ events-listed noted noted-sized ∙ noted-events
+
   second : eventsOf (byteOrder (eventList runs)) ≡ events (order noted)
-  second =
-      ap (λ z. eventsOf (byteOrder z)) (all .entries)
-      ∙ events-ordered noted
-      (subst (Each SizedEvent) (sym noted-events) (each-map (Accepted image) SizedEvent joint (accepted-sized image) (all .each)))
+  second = ap (λ z. eventsOf (byteOrder z)) (all .entries) ∙ events-ordered noted noted-sized
 
   -- DEMAND 3: the one-by-one reading of a list of calls
   pub calls-one-by-one : OneByOneCalls image table (freshState image table words state) runs
@@ -128,6 +131,10 @@ module _ (image table words state : List ℕ) (runs : List Run) (calls : Calls i
         ap (map answerBytes) (ap₂ (answers R) start-machine second)
         ∙ answers-ordered R first noted (reading .answers)
         ∙ ap (λ z. answersOf (byteOrder z)) (sym (all .entries));
+    lost =
+        ap lossesOf
+        (ap₂ (log R) start-machine second ∙ reading .answers
+        ∙ ap order (logs-flatten R first (eventLists runs) ∙ sym (ap₂ (log R) start-machine listed)));
   }
 
   -- without events both are Fresh's state

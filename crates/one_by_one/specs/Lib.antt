@@ -9,6 +9,7 @@ pub mod Swap
 pub mod Carried
 pub mod Rows
 pub mod Reading
+pub mod Losses
 pub mod Checked
 -- jobs, calls, bytes
 pub mod Jobs
