@@ -6,7 +6,7 @@ use Prim.Native.Nat.{ℕ, _+_, _*_}
 use lib.ListN.{length, set, length-set}
 use Rattle.rules.specs.Sizes.{wordCount}
 use Rattle.rules.specs.Image.{blockField, labelA}
-use Rattle.rules.specs.Machine.{Machine, ThreadState, Tree, Job, running, cells, window, keep, job, withJob, withHeld, heldOf, threadAt}
+use Rattle.rules.specs.Machine.{Machine, ThreadState, Tree, Job, running, cells, window, keep, job, withHeld, heldOf, threadAt}
 use Rattle.rules.specs.Encoding.{machineFrom}
 use Rattle.rules.specs.Effects.{Cells, store, assigned}
 use Rattle.rules.specs.declared.statement.Assignment.{Assignment}
@@ -15,7 +15,7 @@ use Rattle.rules.specs.declared.statement.Operand.the-variants.{Number, Registe
 use Rattle.encoding.specs.Encoded.{Encodes, encoded-machine}
 use Rattle.encoding.specs.Stores.{withWord}
 use Rattle.step_laws.specs.Same.{keep-window, keep-more}
-use Rattle.threads.specs.Threads.{Runs, jobOf, returnsOf, registersOf, runs-fields, runs-then}
+use Rattle.threads.specs.Threads.{Runs, jobOf, returnsOf, registersOf, runs-fields, runs-then, withJob}
 use Rattle.threads.specs.declared.thread.ThreadState as code
 use Rattle.operands.specs.Legal.{Fits}
 

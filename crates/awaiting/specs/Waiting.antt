@@ -26,7 +26,6 @@ use Rattle.rules.specs.declared.answer.Answer.{Answer}
 use Rattle.laws.specs.Roles.{Leads, Refers, refers}
 use Rattle.step_laws.specs.Events.{reply, no-tree}
 use Rattle.step_laws.specs.Running.{effect, traps-by, exits-by, moves-by}
-use Rattle.threads.specs.Threads.{jobOf}
 use Rattle.threads.specs.declared.thread.ThreadState.{ThreadState}
 use Rattle.step_ready.specs.Ready.{Ready}
 use Rattle.step_ready.specs.At.{At, tree, jobAt}

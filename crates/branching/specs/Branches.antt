@@ -6,7 +6,7 @@ use Prim.Native.Nat.{ℕ, _<_}
 use Rattle.rules.specs.Image.{recordAt, labelA, labelB}
 use Rattle.rules.specs.Statements.{statementOf, conditionOf}
 use Rattle.rules.specs.Effects.{got, readAll, holds}
-use Rattle.rules.specs.Machine.{Machine, running}
+use Rattle.rules.specs.Machine.{Machine}
 use Rattle.rules.specs.Encoding.{machineFrom}
 use Rattle.rules.specs.declared.answer.Answer.{Answer}
 use Rattle.rules.specs.declared.answer.Answer.the-variants.{Moved}
@@ -14,7 +14,6 @@ use Rattle.rules.specs.declared.statement.Condition.{Condition}
 use Rattle.rules.specs.declared.statement.Statement.the-variants.{If}
 use Rattle.encoding.specs.Encoded.{Encodes}
 use Rattle.step_laws.specs.Statements as law
-use Rattle.threads.specs.Threads.{jobOf}
 use Rattle.threads.specs.declared.thread.ThreadState.{ThreadState}
 use Rattle.operands.specs.Legal.{Fits}
 use Rattle.operands.specs.Cells.{cellsOf}

@@ -6,7 +6,7 @@ use mathlib.Core.List.{List, [], _∷_, _++_}
 use Prim.Native.Nat.{ℕ, zero, suc, _+_, _*_}
 use native.Mathlib.Decide.{ℕ-discrete}
 use lib.ListN.{replicate, drop}
-use Rattle.rules.specs.Sizes.{tableSize, wordsSize, stateSize, threadsPlace, presencePlace, heldCountPlace, treeCountPlace}
+use Rattle.rules.specs.Sizes.{tableSize, wordsSize, stateSize, threadsPlace, presencePlace, heldCountPlace, treeCountPlace, treesPlace, treeSize}
 use Rattle.rules.specs.Bytes.{num16, num32, part, isZeros, allFrom, firstBad, blocks, pad, chunks, every}
 use Rattle.rules.specs.Image.{labels, recordAt, rowAt}
 use Rattle.rules.specs.Statements.{operandOf, operandAt, operandsFrom, operationAt, optional, assignmentBy}
@@ -107,15 +107,28 @@ calling = recordBytes 3 0 3 0 1 0 [] ++ recordBytes 7 0 1 0 1 1 []
 abbrev sending : List ℕ
 sending = recordBytes 6 0 3 0 1 0 [] ++ recordBytes 10 0 2 0 0 0 []
 
--- label 0: SEND .. JOBTREE to 1, on to 0; label 1: EXIT
+-- label 0: SEND JOBTREE to 1, on to 0; label 1: EXIT
 abbrev holding : List ℕ
 holding = recordBytes 11 0 3 0 1 0 [] ++ recordBytes 10 0 2 0 0 0 []
 
--- label 0: a record that leads to 1; labels 1 to 3: SEND .. JOBTREE to 5; labels 4 and 5: EXIT
+-- a record of label l: SEND JOBTREE to 5 with its own label as the one value, on to the next
+abbrev jobtree : ℕ → List ℕ
+jobtree l = recordBytes 11 0 0 0 5 (l + 1) (1 ∷ 1 ∷ l ∷ 0 ∷ [])
+
+-- label 0: a record that leads to 1; labels 1 to 3: SEND JOBTREE to 5; labels 4 and 5: EXIT
 abbrev founding : List ℕ → List ℕ
-founding first =
-    first ++ recordBytes 11 0 0 0 5 2 [] ++ recordBytes 11 0 0 0 5 3 [] ++ recordBytes 11 0 0 0 5 4 [] ++ recordBytes 10 0 0 0 0 0 []
-    ++ recordBytes 10 0 2 0 0 0 []
+founding first = first ++ jobtree 1 ++ jobtree 2 ++ jobtree 3 ++ recordBytes 10 0 0 0 0 0 [] ++ recordBytes 10 0 2 0 0 0 []
+
+-- leading there by a GOTO, the job's own tree is empty at its EXIT; by a buffered SEND to 5, it is not
+abbrev empty : List ℕ
+empty = founding (recordBytes 3 0 3 0 1 0 [])
+
+abbrev pending : List ℕ
+pending = founding (recordBytes 6 0 3 0 5 1 [])
+
+-- the first bytes of tree i: its thread, its pending count, and the label, the value count and the first value of its oldest signal
+abbrev treeStart : List ℕ → ℕ → List ℕ
+treeStart state i = part state (treesPlace + treeSize * i) 7
 
 -- 15 arrivals, and the first one's job: it starts, leads to 1, holds three signals and EXITs
 abbrev threeHeld : List ℕ
@@ -183,12 +196,16 @@ pub record OnBytes : Type 0 where
   pub held-kept : part (stateAfter holding 6 (arrivalBytes 0 [] ++ times 5 (turnBytes 2 0))) (threadsPlace + heldCountPlace) 3
       ≡ 4 ∷ 1 ∷ 0 ∷ []
   pub held-dropped : stateAfter holding 7 (arrivalBytes 0 [] ++ times 6 (turnBytes 2 0)) ≡ initial holding
+  pub held-cut : stateAfter holding 4 (arrivalBytes 0 [] ++ times 2 (turnBytes 2 0) ++ turnBytes 3 0) ≡ initial holding
   -- "EXIT with three held signals, its own tree empty and 14 others live: two are appended, one is lost; its own tree not empty: one is
-  -- appended, two are lost": the answers and then the tree count
-  pub empty-exit : drop 30 (answersTo (founding (recordBytes 3 0 3 0 1 0 [])) 21 threeHeld) ≡ 5 ∷ 0 ∷ times 4 (6 ∷ 0 ∷ []) ++ 7 ∷ 1 ∷ []
-  pub pending-exit : drop 30 (answersTo (founding (recordBytes 6 0 3 0 5 1 [])) 21 threeHeld)
-      ≡ 5 ∷ 0 ∷ times 4 (6 ∷ 0 ∷ []) ++ 7 ∷ 2 ∷ []
-  pub full-list : part (stateAfter (founding (recordBytes 3 0 3 0 1 0 [])) 21 threeHeld) treeCountPlace 1 ≡ 16 ∷ []
+  -- appended, two are lost": the answers, and the trees that come to the list's end
+  pub empty-exit : drop 30 (answersTo empty 21 threeHeld) ≡ 5 ∷ 0 ∷ times 4 (6 ∷ 0 ∷ []) ++ 7 ∷ 1 ∷ []
+  pub empty-count : part (stateAfter empty 21 threeHeld) treeCountPlace 1 ≡ 16 ∷ []
+  pub empty-first : treeStart (stateAfter empty 21 threeHeld) 14 ≡ 0 ∷ 1 ∷ 5 ∷ 0 ∷ 1 ∷ 1 ∷ 0 ∷ []
+  pub empty-second : treeStart (stateAfter empty 21 threeHeld) 15 ≡ 0 ∷ 1 ∷ 5 ∷ 0 ∷ 1 ∷ 2 ∷ 0 ∷ []
+  pub pending-exit : drop 30 (answersTo pending 21 threeHeld) ≡ 5 ∷ 0 ∷ times 4 (6 ∷ 0 ∷ []) ++ 7 ∷ 2 ∷ []
+  pub pending-own : treeStart (stateAfter pending 21 threeHeld) 14 ≡ 0 ∷ 1 ∷ 5 ∷ 0 ∷ 0 ∷ 0 ∷ 0 ∷ []
+  pub pending-first : treeStart (stateAfter pending 21 threeHeld) 15 ≡ 0 ∷ 1 ∷ 5 ∷ 0 ∷ 1 ∷ 1 ∷ 0 ∷ []
   -- "TRANSFER with one value keeps register 1; direct SEND with one makes it absent": the presence set and registers 0 and 1
   pub transfer : part (stateAfter (passing 9) 3 (arrivalBytes 0 (2 ∷ 3 ∷ 0 ∷ 4 ∷ 0 ∷ []) ++ times 2 (turnBytes 2 0))) presenceSet 8
       ≡ 3 ∷ 0 ∷ 0 ∷ 0 ∷ 5 ∷ 0 ∷ 4 ∷ 0 ∷ []
@@ -252,8 +269,13 @@ onBytes = record {
   held-kept = refl;
   held-dropped = refl;
   empty-exit = refl;
+  empty-count = refl;
+  empty-first = refl;
+  empty-second = refl;
   pending-exit = refl;
-  full-list = refl;
+  pending-own = refl;
+  pending-first = refl;
+  held-cut = refl;
   transfer = refl;
   direct = refl;
   no-events = refl;

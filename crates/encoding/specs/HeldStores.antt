@@ -53,7 +53,7 @@ held-sized idle z = record { count = omega arith; each = tt }
 held-sized (running locks j) z = z .held
 
 -- the first part stored: the signals held stay
-pub value-put : (x : ThreadState) (a : List ℕ) → length a ≡ heldCountPlace
+value-put : (x : ThreadState) (a : List ℕ) → length a ≡ heldCountPlace
     → put (threadBytes x) 0 a ≡ a ++ signalsBytes heldCount (heldOf x)
 value-put x a l =
     let p = parts x in

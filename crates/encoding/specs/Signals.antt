@@ -44,11 +44,11 @@ signal-back g z q =
     λ i. record { label = a i; values = b i }
 
 -- bytes that pass the test
-pub record SignalRead (b : List ℕ) : Type 0 where
+record SignalRead (b : List ℕ) : Type 0 where
   pub few : getD b 2 0 ≤ registerCount
   pub zeros : part (drop 3 b) (2 * getD b 2 0) (2 * (registerCount - getD b 2 0)) ≡ replicate (2 * (registerCount - getD b 2 0)) 0
 
-pub signal-read : (b : List ℕ) → signalSize ≤ length b → signalTidy b ≡ true → SignalRead b
+signal-read : (b : List ℕ) → signalSize ≤ length b → signalTidy b ≡ true → SignalRead b
 unfolding signalTidy
 signal-read b l e =
     let n = getD b 2 0 in
@@ -137,7 +137,7 @@ module _ (n : ℕ) (gs : List Signal) (z : SizedSignals n gs) (h q : List ℕ) (
 
 -- ---- bytes that pass the test of up to n signals, whose count stands at a place
 
-pub record SignalsRead (n place : ℕ) (b : List ℕ) : Type 0 where
+record SignalsRead (n place : ℕ) (b : List ℕ) : Type 0 where
   pub few : getD b place 0 ≤ n
   pub each : (j : ℕ) → j < getD b place 0 → signalTidy (drop (signalSize * j) (drop (suc place) b)) ≡ true
   pub zeros : part (drop (suc place) b) (signalSize * getD b place 0) (signalSize * (n - getD b place 0))
@@ -148,7 +148,7 @@ places : (n k : ℕ) → k ≤ n → signalSize * k + signalSize * (n - k) ≡ s
 places n k l = sym (mul-add signalSize k (n - k)) ∙ ap (λ m. signalSize * m) (omega arith)
 
 module _ (n place : ℕ) (b : List ℕ) (long : suc place + signalSize * n ≤ length b) (tidy : signalsTidy n place b ≡ true) where
-  pub signals-read : SignalsRead n place b
+  signals-read : SignalsRead n place b
   unfolding signalsTidy signalAtTidy
   signals-read =
       let k = getD b place 0 in

@@ -1,27 +1,21 @@
 -- What EXIT leaves: the own tree settled, the held signals admitted, the thread cleared.
 use mathlib.Core.Path.{_≡_, refl, sym, ap, _∙_, subst}
-use mathlib.Core.List.{List, []}
-use Prim.Native.Nat.{ℕ, _<_}
+use mathlib.Core.List.{List}
+use Prim.Native.Nat.{ℕ}
 use lib.ListN.{length, getD}
-use Rattle.rules.specs.Sizes.{threadCount, blockCount, tableSize}
-use Rattle.rules.specs.Image.{labels}
-use Rattle.rules.specs.Check.{Checked}
 use Rattle.rules.specs.Machine.{Signal, Machine, idle, threadAt, heldOf, withThread}
-use Rattle.rules.specs.Encoding.{noSignal, machineFrom}
-use Rattle.rules.specs.Steps.{rulesBy, blockAt, finished, admitted, lost}
-use Rattle.fields.specs.Each.{Each, each-at}
+use Rattle.rules.specs.Encoding.{machineFrom}
+use Rattle.rules.specs.Steps.{rulesBy, finished, admitted, lost}
+use Rattle.fields.specs.Each.{Each}
 use Rattle.laws.specs.Admitted.{admitted-threads, admitted-thread, lost-thread}
-use Rattle.laws.specs.Passed.{Passed, passed}
 use Rattle.soundness.specs.Sound.{HeldIn, ThreadIn}
-use Rattle.soundness.specs.Destinations.{block-below}
-use Rattle.soundness.specs.Trees.{pending-below, held-pending}
 use Rattle.encoding.specs.Encoded.{Encodes, encoded-machine, encoded-canonical}
 use Rattle.held_signals.specs.Held.{heldAt}
 use Rattle.thread_records.specs.Records.{Busy}
 use Rattle.threads.specs.declared.thread.ThreadState.{ThreadState}
 use Rattle.step_ready.specs.At.{At, at-busy}
 use Rattle.ending.specs.Home.{settled}
-use Rattle.exiting.specs.Founding.{Held}
+use Rattle.exiting.specs.Admitting.{Holds}
 
 module _ {image table b : List ℕ} {t : ℕ} {w : ThreadState} {r : List ℕ} (h : At image table b t w r) where
   abbrev m : Machine
@@ -42,7 +36,7 @@ module _ {image table b : List ℕ} {t : ℕ} {w : ThreadState} {r : List ℕ} (
     pub count-there : {n : ℕ} → n ≡ length (heldAt m t) → n ≡ length (heldAt (machineFrom b₁) t)
     count-there e = rw held-there e
 
-    pub still-held : Held image table b₁ t
+    pub still-held : Holds image table b₁ t
     still-held = record {
       checked = h .ready .checked;
       canonical = encoded-canonical b₁ _ k₁;

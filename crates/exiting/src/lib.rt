@@ -21,12 +21,12 @@ ghost use Rattle.encoding.specs.Encoded.{Encodes};
 ghost use Rattle.held_signals.specs.Held.{heldAt};
 ghost use Rattle.step_ready.specs.Ready.{Stepped};
 ghost use Rattle.step_ready.specs.At.{At};
-ghost use Rattle.exiting.specs.Founding.{Held, missing};
+ghost use Rattle.exiting.specs.Admitting.{Holds, missing};
 
 // Signal i of those that thread t's job holds becomes a tree at the list's end, on its block's thread, if there is room. How many are
 // lost: 0, or 1 where there is none.
 fn found_tree(image: &[u8], table: &[u8], state: &mut [u8], t: Thread, i: usize) -> u8
-    requires { ⌜ Held (now image) (now table) (now state) (t .0) × (i < length (heldAt (machineFrom (now state)) (t .0))) ⌝ }
+    requires { ⌜ Holds (now image) (now table) (now state) (t .0) × (i < length (heldAt (machineFrom (now state)) (t .0))) ⌝ }
     ensures { λ n. ⌜ n ≡ missing (now (image .entry)) (now (table .entry)) (machineFrom (now (state .entry)))
         (getD (heldAt (machineFrom (now (state .entry))) (t .0)) i noSignal) ⌝ }
     ensures { λ _. ⌜ Encodes (now (state .exit)) (admit (rulesBy (now (image .entry)) (now (table .entry)))
@@ -43,7 +43,7 @@ fn found_tree(image: &[u8], table: &[u8], state: &mut [u8], t: Thread, i: usize)
 
 // The same of all of them, in order.
 fn found_trees(image: &[u8], table: &[u8], state: &mut [u8], t: Thread, count: usize) -> u8
-    requires { ⌜ Held (now image) (now table) (now state) (t .0) × (count ≡ length (heldAt (machineFrom (now state)) (t .0))) ⌝ }
+    requires { ⌜ Holds (now image) (now table) (now state) (t .0) × (count ≡ length (heldAt (machineFrom (now state)) (t .0))) ⌝ }
     ensures { λ n. ⌜ n ≡ length (lost (rulesBy (now (image .entry)) (now (table .entry)))
         (heldAt (machineFrom (now (state .entry))) (t .0)) (machineFrom (now (state .entry)))) ⌝ }
     ensures { λ _. ⌜ Encodes (now (state .exit)) (admitted (rulesBy (now (image .entry)) (now (table .entry)))

@@ -1,8 +1,8 @@
--- What a SEND .. JOBTREE leaves on the bytes, from what the calls that carry it out leave.
+-- What a SEND JOBTREE leaves on the bytes, from what the calls that carry it out leave.
 use mathlib.Core.Path.{_≡_, refl, ap, _∙_, subst}
 use mathlib.Core.List.{List, [], _∷_, _++_}
 use Prim.Native.Nat.{ℕ, _≤_, _<_}
-use lib.ListN.{length, take, set}
+use lib.ListN.{length, take}
 use lib.Seq.{getD-set-same, set-set}
 use borrow.Author.Tests.{le-leb, lt-leb}
 use Rattle.rules.specs.Sizes.{heldCount}
@@ -10,14 +10,14 @@ use Rattle.rules.specs.Codes.{heldFullCode}
 use Rattle.rules.specs.Image.{recordAt, operands, labelA, labelB}
 use Rattle.rules.specs.Statements.{statementOf}
 use Rattle.rules.specs.Machine as law
-use Rattle.rules.specs.Machine.{Signal, Machine, idle, running, job, withHeld, heldOf, threadAt, withThread, withJob}
+use Rattle.rules.specs.Machine.{Signal, Machine, idle, running, job, withHeld, heldOf, threadAt, withThread}
 use Rattle.rules.specs.Encoding.{machineFrom}
 use Rattle.rules.specs.Steps.{rulesBy, finished}
 use Rattle.rules.specs.declared.answer.Answer.{Answer}
 use Rattle.rules.specs.declared.answer.Answer.the-variants.{Moved, Trapped}
 use Rattle.rules.specs.declared.statement.Statement.the-variants.{SendTree}
 use Rattle.encoding.specs.Encoded.{Encodes, encoded-machine}
-use Rattle.threads.specs.Threads.{returnsOf, registersOf}
+use Rattle.threads.specs.Threads.{returnsOf, registersOf, withJob}
 use Rattle.threads.specs.declared.thread.ThreadState.{ThreadState}
 use Rattle.thread_records.specs.Records.{Busy}
 use Rattle.held_signals.specs.Held.{heldAt, withHeldAt}

@@ -1,2 +1,2 @@
--- What a SEND .. JOBTREE comes to.
+-- What a SEND JOBTREE comes to.
 pub mod Held

@@ -1,4 +1,4 @@
-// SEND .. JOBTREE: its signal is held for a new tree, and the thread goes on with its registers.
+// SEND JOBTREE: its signal is held for a new tree, and the thread goes on with its registers.
 use ending::trapped;
 use held_signals::held_count;
 use held_signals::hold;

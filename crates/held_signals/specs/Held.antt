@@ -3,7 +3,7 @@ use mathlib.Core.Path.{_≡_, refl, sym, ap, _∙_, subst}
 use mathlib.Core.List.{List, [], _∷_, _++_}
 use Prim.Native.Nat.{ℕ, _+_, _*_, _-_, _≤_, _<_}
 use native.Mathlib.Omega.{arith}
-use lib.ListN.{length, getD, drop, set, replicate, length-append}
+use lib.ListN.{length, getD, drop, replicate, length-append}
 use lib.Seq.{set-getD}
 use Rattle.rules.specs.Sizes.{threadCount, heldCount, heldCountPlace, heldPlace, signalSize, threadSize}
 use Rattle.rules.specs.Machine.{Signal, Job, ThreadState, idle, running, withHeld, heldOf, Machine, threadAt, withThread}

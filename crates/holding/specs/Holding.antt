@@ -4,10 +4,10 @@ use mathlib.Core.List.{List}
 use Prim.Native.Nat.{ℕ, _^_}
 use lib.Bits.{bitOr}
 use Rattle.rules.specs.Machine as law
-use Rattle.rules.specs.Machine.{Job, Machine, running, withHeld, heldOf, threadAt, withThread, withJob}
+use Rattle.rules.specs.Machine.{Job, Machine, running, withHeld, heldOf, threadAt, withThread}
 use Rattle.rules.specs.declared.sorts.Lock.{Lock}
 use Rattle.encoding.specs.Encoded.{Encodes}
-use Rattle.threads.specs.Threads.{jobOf, Runs, runs-fields}
+use Rattle.threads.specs.Threads.{jobOf, Runs, runs-fields, withJob}
 use Rattle.threads.specs.declared.thread.ThreadState.{ThreadState}
 
 -- thread t is w, holding the lock l besides

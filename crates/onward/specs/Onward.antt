@@ -4,14 +4,14 @@ use mathlib.Core.List.{List}
 use Prim.Native.Nat.{ℕ}
 use Rattle.rules.specs.Image.{recordAt, labelA}
 use Rattle.rules.specs.Statements.{statementOf}
-use Rattle.rules.specs.Machine.{Machine, running, withThread, job, withJob}
+use Rattle.rules.specs.Machine.{Machine, job}
 use Rattle.rules.specs.Encoding.{machineFrom}
 use Rattle.rules.specs.declared.answer.Answer.{Answer}
 use Rattle.rules.specs.declared.answer.Answer.the-variants.{Moved}
 use Rattle.rules.specs.declared.statement.Statement.the-variants.{Skip}
 use Rattle.encoding.specs.Encoded.{Encodes}
 use Rattle.step_laws.specs.Statements as law
-use Rattle.threads.specs.Threads.{jobOf, returnsOf, registersOf}
+use Rattle.threads.specs.Threads.{returnsOf, registersOf, withJob}
 use Rattle.threads.specs.declared.thread.ThreadState.{ThreadState}
 use Rattle.step_ready.specs.Ready.{Stepped, done}
 use Rattle.step_ready.specs.At.{At, tree, statement-here, jobAt}

@@ -8,12 +8,12 @@ use threads::thread::ThreadState;
 ghost use mathlib.Core.Path.{_≡_};
 ghost use Prim.Native.Nat.{_<_};
 ghost use Rattle.rules.specs.Sizes.{threadCount, idleLabel};
-ghost use Rattle.rules.specs.Machine.{running, withThread, job, withJob};
+ghost use Rattle.rules.specs.Machine.{job};
 ghost use Rattle.rules.specs.Encoding.{machineFrom};
 ghost use Rattle.rules.specs.Statements.{statementOf};
 ghost use Rattle.rules.specs.declared.statement.Statement.the-variants.{Skip};
 ghost use Rattle.encoding.specs.Encoded.{Encodes, Canonical};
-ghost use Rattle.threads.specs.Threads.{Running, returnsOf, registersOf};
+ghost use Rattle.threads.specs.Threads.{Running, returnsOf, registersOf, withJob};
 ghost use Rattle.step_ready.specs.Ready.{Stepped};
 ghost use Rattle.step_ready.specs.At.{At};
 

@@ -16,7 +16,7 @@ use Rattle.rules.specs.Codes.{returnsFullCode, foreignFdBlockCode}
 use Rattle.rules.specs.Image.{labels, recordAt, labelA, labelB, operands, Row, rowAt}
 use Rattle.rules.specs.Statements.{statementOf, dataOf}
 use Rattle.rules.specs.Effects.{readAll}
-use Rattle.rules.specs.Machine.{Signal, Job, Machine, idle, running, threadAt, first, fill, withThread, job, withJob}
+use Rattle.rules.specs.Machine.{Signal, Job, Machine, idle, running, threadAt, first, fill, job}
 use Rattle.rules.specs.Encoding.{machineFrom}
 use Rattle.rules.specs.Events.{step}
 use Rattle.rules.specs.Steps.{Reply, rulesBy, blockAt, alien, held, finished, react}
@@ -28,7 +28,7 @@ use Rattle.laws.specs.Passed.{passed}
 use Rattle.soundness.specs.Destinations.{lock-below}
 use Rattle.step_laws.specs.Events.{reply}
 use Rattle.step_laws.specs.Statements.{unread, send-alien, send-waits, send-enters, call-deep, call-alien, call-waits, call-enters}
-use Rattle.threads.specs.Threads.{jobOf, returnsOf, ZerosAfter}
+use Rattle.threads.specs.Threads.{returnsOf, ZerosAfter, withJob}
 use Rattle.threads.specs.declared.thread.ThreadState.{ThreadState}
 use Rattle.state.specs.Locks.{held-by-other}
 use Rattle.operands.specs.Readings.{Reads}

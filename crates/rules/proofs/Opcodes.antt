@@ -115,7 +115,7 @@ module _ (image table : List ℕ) {s : Machine} {t locks : ℕ} {j : Job} {value
   unfolding perform
   exit r = exited image table r refl
 
-  -- SEND .. JOBTREE with four signals held, and with fewer
+  -- SEND JOBTREE with four signals held, and with fewer
   pub hold-trap : Runs image s t locks j SendTree values → heldCount ≤ length (j .held) → stepOf image table s t .answer ≡ Trapped 6
   unfolding perform
   hold-trap r h = trapped image table r 6 (rw (le-leb heldCount (length (j .held)) h))

@@ -15,7 +15,7 @@ use Rattle.rules.specs.Answers.{code, detail, answerBytes}
 use Rattle.rules.specs.Events.{step}
 use Rattle.rules.specs.Effects.{got, Cells, readAll, perform, outcome}
 use Rattle.rules.specs.Steps.{Effect, traps, exits, moves, resolve, view, blockAt, actBy, rulesBy, Reply, added, pendingOf}
-use Rattle.rules.specs.Steps.{exiting, planRunning, planStep, plan, blocked, grant, applied, finished, attempt, carry}
+use Rattle.rules.specs.Steps.{exiting, planRunning, planStep, plan, blocked, grant, applied, attempt, carry}
 use Rattle.rules.specs.Steps.{react}
 use Rattle.rules.specs.declared.statement.Statement.{Statement}
 use Rattle.rules.specs.declared.answer.Answer.{Answer}

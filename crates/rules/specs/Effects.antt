@@ -179,7 +179,7 @@ leave w holds vs c = leaveTo (nextOf w holds) (handed w vs c) (posted w vs) (hel
 
 -- ---- what a statement does with the values that it read
 
--- no room for what it adds: CALL with 8 return labels: reason 3; buffered SEND with 8 pending: reason 4; SEND ..
+-- no room for what it adds: CALL with 8 return labels: reason 3; buffered SEND with 8 pending: reason 4; SEND
 -- JOBTREE with 4 held: reason 6
 abbrev pub overflow : View → Statement → Option ℕ
 overflow v Skip = none

@@ -56,10 +56,6 @@ abbrev pub heldOf : ThreadState → List Signal
 heldOf idle = []
 heldOf (running locks j) = j .held
 
--- a machine in which thread t runs this job with these locks, holding the signals that it held
-abbrev pub withJob : Machine → ℕ → ℕ → Job → Machine
-withJob s t locks j = withThread s t (running locks (withHeld (heldOf (threadAt s t)) j))
-
 abbrev pub locksOf : ThreadState → ℕ
 locksOf idle = 0
 locksOf (running locks j) = locks

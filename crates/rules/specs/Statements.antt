@@ -95,7 +95,7 @@ unfoldable pub conditionOf : List ℕ → Condition
 conditionOf r = record { relation = relationOf (operator r); left = operandAt r 0; right = operandAt r 1 }
 
 -- opcode and statement of each: 1 SKIP and 3 GOTO, 4 IF, 5 SEND direct, 6 SEND buffered, 7 CALL, 8 RETURN, 9 TRANSFER, 10 EXIT,
--- 11 SEND .. JOBTREE
+-- 11 SEND JOBTREE
 pub record Other : Type 0 where
   pub opcode : ℕ
   pub statement : List ℕ → Statement

@@ -53,7 +53,7 @@ pub enum Statement {
     Return,
     Transfer,
     Exit,
-    // SEND .. JOBTREE: the signal founds a new tree.
+    // SEND JOBTREE: the signal founds a new tree.
     SendTree,
 }
 

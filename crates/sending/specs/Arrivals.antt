@@ -4,14 +4,14 @@ use mathlib.Core.Bool.{Bool, true, false, true≢false}
 use mathlib.Core.List.{List, []}
 use Prim.Native.Nat.{ℕ, _+_, _*_, _≤_, _<_}
 use native.Mathlib.Omega.{arith}
-use lib.ListN.{length, getD, drop, length-drop, length-map}
+use lib.ListN.{length, getD, drop, length-drop}
 use lib.Seq.{drop-drop, getD-drop}
-use borrow.Author.Tests.{eq-eqb, ltb-true}
-use Rattle.rules.specs.Sizes.{blockCount, treeCount, eventSize, eventSignalPlace}
+use borrow.Author.Tests.{eq-eqb}
+use Rattle.rules.specs.Sizes.{blockCount, eventSize, eventSignalPlace}
 use Rattle.rules.specs.Codes.{arrivalCode}
 use Rattle.rules.specs.Bytes.{num16}
 use Rattle.rules.specs.Image.{labels, rowAt}
-use Rattle.rules.specs.Machine.{Signal, Tree, Machine, treeThreads}
+use Rattle.rules.specs.Machine.{Signal, Machine, treeThreads}
 use Rattle.rules.specs.Encoding.{signalFrom, machineFrom}
 use Rattle.rules.specs.WellFormed.{signalTidy, pendingOk}
 use Rattle.rules.specs.Events.{arrive, eventFrom, eventAtOk}

@@ -3,14 +3,13 @@ use mathlib.Core.Path.{_≡_, refl, ap, _∙_, subst}
 use mathlib.Core.Option.{some}
 use mathlib.Core.List.{List}
 use Prim.Native.Nat.{ℕ, _≤_, _<_}
-use lib.ListN.{length, take, replicate}
+use lib.ListN.{length, take}
 use borrow.Author.Tests.{le-leb, lt-leb}
-use Rattle.rules.specs.Sizes.{pendingCount, operandCount}
+use Rattle.rules.specs.Sizes.{pendingCount}
 use Rattle.rules.specs.Codes.{pendingFullCode}
 use Rattle.rules.specs.Image.{recordAt, operands, labelA, labelB}
-use Rattle.rules.specs.Statements.{statementOf, dataOf}
-use Rattle.rules.specs.Effects.{readAll}
-use Rattle.rules.specs.Machine.{Machine, running, first, withThread, job, withJob}
+use Rattle.rules.specs.Statements.{statementOf}
+use Rattle.rules.specs.Machine.{Machine, first, job}
 use Rattle.rules.specs.Encoding.{machineFrom}
 use Rattle.rules.specs.Steps.{rulesBy, finished}
 use Rattle.rules.specs.declared.answer.Answer.{Answer}
@@ -18,11 +17,10 @@ use Rattle.rules.specs.declared.answer.Answer.the-variants.{Moved, Trapped}
 use Rattle.rules.specs.declared.statement.Statement.the-variants.{SendBuffered}
 use Rattle.encoding.specs.Encoded.{Encodes, Canonical, encoded-machine}
 use Rattle.encoding.specs.FirstTree.{firstTree, first-some}
-use Rattle.threads.specs.Threads.{jobOf, returnsOf, registersOf}
+use Rattle.threads.specs.Threads.{returnsOf, registersOf, withJob}
 use Rattle.threads.specs.declared.thread.ThreadState.{ThreadState}
 use Rattle.pending_signals.specs.Canon.{pendingAt}
 use Rattle.pending_signals.specs.Changes.{sent}
-use Rattle.operands.specs.Cells.{cellsOf}
 use Rattle.operands.specs.Readings.{Given}
 use Rattle.step_laws.specs.Statements.{buffer-full, buffers}
 use Rattle.step_ready.specs.Ready.{Stepped, Ended, done}

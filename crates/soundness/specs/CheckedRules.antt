@@ -3,16 +3,14 @@
 -- image an EXIT leaves with the signals that its job holds.
 use mathlib.Core.Path.{_≡_, refl}
 use mathlib.Core.Bool.{Bool, true, false}
-use mathlib.Core.List.{List, [], _∷_}
+use mathlib.Core.List.{List, []}
 use Prim.Native.Nat.{ℕ}
 use lib.Dec.{eqb, ltb}
 use borrow.Author.Tests.{ltb-true, eqb-true}
-use Rattle.rules.specs.Image.{labels, recordAt, blockField, entry, labelA, labelB, Row, rowAt}
+use Rattle.rules.specs.Image.{labels, recordAt, blockField, entry, labelA, labelB, rowAt}
 use Rattle.rules.specs.Statements.{operationAt, otherAt, statementOf, roleA, roleB, dataOf}
 use Rattle.rules.specs.Check.{labelOk, ruleOk, recordOk, Checked}
-use Rattle.rules.specs.Machine.{Job}
-use Rattle.rules.specs.Effects.{Got, trap, got, Next, onA, onB, intoA, callA, back, Going, Outcome, ends, goes, outcome}
-use Rattle.rules.specs.Steps.{Effect, trapIf, alien, steer, resolve, blockAt, actBy, rulesBy, view}
+use Rattle.rules.specs.Steps.{actBy, rulesBy, view}
 use Rattle.rules.specs.declared.statement.Role.{Role}
 use Rattle.rules.specs.declared.statement.Role.the-variants.{Unused, Inner, Direct, Local, Buffered}
 use Rattle.laws.specs.Logic.{and-both}

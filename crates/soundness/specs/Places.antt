@@ -1,7 +1,7 @@
 -- Trees keep their places: an event of thread t changes or removes t's first tree alone, and adds trees at the list's end alone: at most
 -- that first one and, at an EXIT, one for each signal that t's job held and that was not lost.
-use mathlib.Core.Path.{_≡_, refl, sym, ap, _∙_, subst}
-use mathlib.Core.Logic.{_≢_, inl, inr}
+use mathlib.Core.Path.{_≡_, refl, sym, ap, _∙_}
+use mathlib.Core.Logic.{_≢_}
 use mathlib.Core.Option.{Option, none, some}
 use mathlib.Core.List.{List, [], _∷_, _++_, append-nil, append-assoc}
 use Prim.Native.Nat.{ℕ, suc, _+_, _-_, _≤_}

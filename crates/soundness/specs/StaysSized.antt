@@ -2,7 +2,6 @@
 -- tree, 4 held signals a job, 25 values a signal; and no running thread is at label 65,535. So the state's bytes always have room for
 -- the machine.
 use mathlib.Core.Path.{_≡_, refl, sym, ap, _∙_, subst}
-use mathlib.Core.Logic.{inl, inr}
 use mathlib.Core.Bool.{true}
 use mathlib.Core.Option.{Option, none, some}
 use mathlib.Core.List.{List, [], _∷_, _++_, append-nil}
@@ -22,7 +21,7 @@ use Rattle.laws.specs.Trees.{threads-put}
 use Rattle.laws.specs.Admitted.{admitted-keeps, admitted-words, admitted-threads}
 use Rattle.encoding.specs.Sized.{SizedJob, SizedThread, SizedSignal, SizedSignals, SizedTree, Sized}
 use Rattle.rules.specs.declared.answer.Answer.{Answer}
-use Rattle.soundness.specs.Happens.{effectOf, released, released-has, EndsWith, Happens, remains, founds, starts, goes, ends, happens}
+use Rattle.soundness.specs.Happens.{effectOf, released, released-has, Happens, remains, founds, starts, goes, ends, happens}
 use Rattle.soundness.specs.Queues.{Place, place, FirstHas, first-has, put-each}
 use Rattle.soundness.specs.Places.{put-missing, requeued-one}
 use Rattle.soundness.specs.Members.{each-member}

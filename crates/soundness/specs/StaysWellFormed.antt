@@ -2,7 +2,6 @@
 -- machine is well formed.
 use mathlib.Core.Path.{_≡_, refl, sym, ap, _∙_, subst}
 use mathlib.Core.Bool.{true, false}
-use mathlib.Core.Logic.{inl, inr}
 use mathlib.Core.Option.{Option, none, some}
 use mathlib.Core.List.{List, [], _∷_, _++_}
 use Prim.Native.Nat.{ℕ, _≤_, _<_}
@@ -27,7 +26,7 @@ use Rattle.laws.specs.Admitted.{admitted-keeps, admitted-threads}
 use Rattle.laws.specs.Passed.{Passed, passed}
 use Rattle.soundness.specs.CheckedRules.{checked-laws}
 use Rattle.rules.specs.declared.answer.Answer.{Answer}
-use Rattle.soundness.specs.Happens.{startOf, goOf, effectOf, released, released-has, EndsWith, Happens, remains, founds, starts, goes, ends, happens}
+use Rattle.soundness.specs.Happens.{startOf, goOf, effectOf, released, released-has, Happens, remains, founds, starts, goes, ends, happens}
 use Rattle.soundness.specs.Untouched.{words-of-other-blocks-stay}
 use Rattle.soundness.specs.Queues.{first-queue, queue-append, queue-put, queue-put-other}
 use Rattle.soundness.specs.Members.{each-member, getD-set}

@@ -15,7 +15,7 @@ use Rattle.laws.specs.Words.{window-keep-other}
 use Rattle.laws.specs.Admitted.{admitted-words, admitted-threads}
 use Rattle.soundness.specs.Invariant.{Invariant}
 use Rattle.rules.specs.declared.answer.Answer.{Answer}
-use Rattle.soundness.specs.Happens.{released, released-has, EndsWith, Happens, remains, founds, starts, goes, ends, happens}
+use Rattle.soundness.specs.Happens.{released, EndsWith, Happens, remains, founds, starts, goes, ends, happens}
 
 module _ (R : Rules) (s : Machine) where
   -- ---- the threads: only the event's own thread may change

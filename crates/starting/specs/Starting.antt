@@ -13,7 +13,7 @@ use Rattle.rules.specs.Sorts
 use Rattle.rules.specs.Sizes.{lockCount, threadCount, idleLabel}
 use Rattle.rules.specs.Image.{rowAt}
 use Rattle.rules.specs.Machine as law
-use Rattle.rules.specs.Machine.{Signal, Tree, Machine, idle, running, threadAt, first, queue, withThread, withJob}
+use Rattle.rules.specs.Machine.{Signal, Tree, Machine, idle, threadAt, first, queue}
 use Rattle.rules.specs.Encoding.{noSignal, machineFrom}
 use Rattle.rules.specs.WellFormed.{homed, homedAs}
 use Rattle.rules.specs.Events.{step}
@@ -32,7 +32,7 @@ use Rattle.soundness.specs.Queues.{headPending, first-queue}
 use Rattle.soundness.specs.Destinations.{lock-below}
 use Rattle.step_laws.specs.Events.{reply, no-tree, start-waits, start-runs}
 use Rattle.image.specs.Records.{labels-small}
-use Rattle.threads.specs.Threads.{Idle, Runs}
+use Rattle.threads.specs.Threads.{Idle, Runs, withJob}
 use Rattle.threads.specs.declared.thread.ThreadState.{ThreadState}
 use Rattle.state.specs.Locks.{HeldBy, held-by-other}
 use Rattle.pending_signals.specs.Canon.{pendingAt}

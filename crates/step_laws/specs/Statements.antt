@@ -142,7 +142,7 @@ module _ (image table : List ℕ) (s : Machine) (t l : ℕ) (j : Job) (p : List 
           (some (record { label = labelA r; values = vs })) (unfold actBy outcome perform in rw (e, h, q) refl)
           ∙ rw (keep-window own (s .words)) refl
 
-    -- ---- SEND .. JOBTREE
+    -- ---- SEND JOBTREE
 
     module _ (e : statementOf r ≡ SendTree) (h : readAll cellsOf (dataOf r) ≡ got vs) where
       pub hold-full : leb heldCount (length (j .held)) ≡ true → react R s (step t) ≡ reply (finished R t s) (Trapped 6)

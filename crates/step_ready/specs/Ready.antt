@@ -6,7 +6,7 @@ use Prim.Native.Nat.{ℕ, _<_}
 use lib.ListN.{drop}
 use Rattle.rules.specs.Sizes.{threadCount}
 use Rattle.rules.specs.Check.{Checked}
-use Rattle.rules.specs.Machine.{Machine, Job, threadAt, withJob}
+use Rattle.rules.specs.Machine.{Machine, Job, threadAt}
 use Rattle.rules.specs.Encoding.{machineFrom}
 use Rattle.rules.specs.Events.{Event, step}
 use Rattle.rules.specs.Steps.{rulesBy, Reply, react, finished}
@@ -16,7 +16,7 @@ use Rattle.encoding.specs.Encoded.{Encodes, Canonical, encoded-machine, encoded
 use Rattle.soundness.specs.Sound.{Sound}
 use Rattle.soundness.specs.StaysWellFormed.{Accepted, sound-react}
 use Rattle.laws.specs.Logic.{never}
-use Rattle.threads.specs.Threads.{Says, Runs}
+use Rattle.threads.specs.Threads.{Says, Runs, withJob}
 use Rattle.threads.specs.Records.{threadPlace, rawThread, rawBytes}
 use Rattle.threads.specs.declared.thread.ThreadState.{ThreadState}
 use Rattle.thread_records.specs.Records.{thread-read, thread-written}

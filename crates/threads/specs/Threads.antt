@@ -15,7 +15,7 @@ use Rattle.rules.specs.Sorts.{label}
 use Rattle.rules.specs.Sizes.{returnCount, registerCount, idleLabel}
 use Rattle.rules.specs.Bytes.{pad}
 use Rattle.rules.specs.Machine as law
-use Rattle.rules.specs.Machine.{Signal, Job, job, withHeld, heldOf, idle, running, fill}
+use Rattle.rules.specs.Machine.{Signal, Job, job, withHeld, heldOf, idle, running, Machine, threadAt, withThread, fill}
 use Rattle.rules.specs.Encoding.{registersFrom}
 use Rattle.threads.specs.Returns.{TidyReturns, no-returns}
 use Rattle.threads.specs.Registers.{TidyRegisters, none-tidy, filled-registers, filled-tidy, overlaid-registers, overlaid-tidy}
@@ -37,6 +37,10 @@ stateOf w = cond (eqb (w .label .0) idleLabel) idle (running (w .locks) (jobOf w
 abbrev pub keepHeld : List Signal → law.ThreadState → law.ThreadState
 keepHeld gs idle = idle
 keepHeld gs (running locks j) = running locks (withHeld gs j)
+
+-- a machine in which thread t runs this job with these locks, holding the signals that it held
+abbrev pub withJob : Machine → ℕ → ℕ → Job → Machine
+withJob s t locks j = withThread s t (running locks (withHeld (heldOf (threadAt s t)) j))
 
 -- nothing is said but this: unused return labels and absent registers are zero, and so are the other fields of an idle thread
 pub record Tidy (w : ThreadState) : Type 0 where

@@ -10,7 +10,7 @@ use Rattle.rules.specs.Codes.{noReturnLabelCode}
 use Rattle.rules.specs.Image.{labels, recordAt, labelA}
 use Rattle.rules.specs.Statements.{statementOf, dataOf}
 use Rattle.rules.specs.Effects.{got, readAll}
-use Rattle.rules.specs.Machine.{Machine, running, fill, withThread, job, withJob}
+use Rattle.rules.specs.Machine.{Machine, fill, job}
 use Rattle.rules.specs.Encoding.{machineFrom}
 use Rattle.rules.specs.Events.{step}
 use Rattle.rules.specs.Steps.{newest, rulesBy, finished}
@@ -22,7 +22,7 @@ use Rattle.soundness.specs.Sound.{PlaceIn, ThreadIn}
 use Rattle.step_laws.specs.Events.{reply}
 use Rattle.step_laws.specs.Statements as law
 use Rattle.threads.specs.Returns.{newestOf, olderOf}
-use Rattle.threads.specs.Threads.{jobOf, returnsOf, registersOf}
+use Rattle.threads.specs.Threads.{returnsOf, registersOf, withJob}
 use Rattle.threads.specs.declared.thread.ThreadState.{ThreadState}
 use Rattle.operands.specs.Cells.{cellsOf}
 use Rattle.step_ready.specs.Ready.{Stepped, Ended, replyTo, done}

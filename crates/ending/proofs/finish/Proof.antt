@@ -1,5 +1,5 @@
 use borrow.Author.Needs.{needs}
-use mathlib.Core.Path.{ap, subst}
+use mathlib.Core.Path.{subst}
 use Rattle.rules.specs.Machine.{Machine, withThread, idle}
 use Rattle.encoding.specs.Encoded.{Encodes, encoded-machine, encoded-canonical}
 use Rattle.ending.proofs.finish.Statement.{statement}

@@ -7,7 +7,7 @@ use Rattle.rules.specs.Machine as law
 use Rattle.rules.specs.Steps.{blockAt}
 use Rattle.held_signals.specs.Held.{heldAt}
 use Rattle.trees.specs.Changes.{arrived, room-below}
-use Rattle.exiting.specs.Founding.{held-below, held-block, table-long, tree-founded, tree-lost}
+use Rattle.exiting.specs.Admitting.{held-below, held-block, table-long, tree-founded, tree-lost}
 use Rattle.exiting.proofs.found_tree.Statement.{statement}
 use Rattle.exiting.proofs.found_tree.Tie as tie
 

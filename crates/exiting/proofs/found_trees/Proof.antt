@@ -1,12 +1,9 @@
 use borrow.Author.Needs.{needs}
-use mathlib.Core.Path.{_≡_, sym, ap, _∙_}
-use Prim.Native.Nat.{_-_, _<_}
+use Prim.Native.Nat.{_-_}
 use native.Mathlib.Omega.{arith}
-use lib.ListN.{length, getD}
-use Rattle.rules.specs.Machine.{idle, heldOf}
 use Rattle.rules.specs.Encoding.{machineFrom}
 use Rattle.held_signals.specs.Held.{heldAt, held-few}
-use Rattle.exiting.specs.Founding.{After, after-none, after-all, held-again, after-signal}
+use Rattle.exiting.specs.Admitting.{After, after-none, after-all, held-again, after-signal}
 use Rattle.exiting.proofs.found_trees.Statement.{statement}
 use Rattle.exiting.proofs.found_trees.Tie as tie
 

@@ -1,14 +1,10 @@
 use borrow.Author.Needs.{needs}
-use mathlib.Core.Path.{sym, ap, _∙_, subst}
-use mathlib.Core.List.{List}
+use mathlib.Core.Path.{ap, _∙_}
 use Rattle.rules.specs.Encoding.{machineFrom}
-use Rattle.rules.specs.Machine.{Signal}
 use Rattle.rules.specs.Steps.{rulesBy, finished, admitted, lost}
 use Rattle.rules.specs.declared.answer.Answer.the-variants.{Exited}
 use Rattle.rules.specs.declared.statement.Statement.the-variants.{Exit}
-use Rattle.fields.specs.Each.{Each}
 use Rattle.encoding.specs.Encoded.{encoded-canonical}
-use Rattle.soundness.specs.Sound.{HeldIn}
 use Rattle.held_signals.specs.Held.{heldAt}
 use Rattle.step_laws.specs.Statements.{leaves}
 use Rattle.step_ready.specs.Ready.{done}

@@ -1,8 +1,6 @@
-use mathlib.Core.Path.{_≡_, refl, ap}
-use Rattle.rules.specs.Machine.{running, threadAt}
-use Rattle.rules.specs.Encoding.{machineFrom}
+use mathlib.Core.Path.{refl}
 use Rattle.rules.specs.declared.statement.Statement.the-variants.{SendTree}
-use Rattle.encoding.specs.Encoded.{encoded-machine, encoded-canonical}
+use Rattle.encoding.specs.Encoded.{encoded-canonical}
 use Rattle.operands.specs.Gathered.{zeros-stay}
 use Rattle.step_ready.specs.At.{label-B, small}
 use Rattle.founding.specs.Held.{still-busy, few-still, held-stepped}

@@ -11,7 +11,7 @@ use Rattle.rules.specs.Image.{labels, rowAt}
 use Rattle.rules.specs.Check.{Checked}
 use Rattle.rules.specs.Machine.{Signal, Machine, idle, heldOf, treeThreads}
 use Rattle.rules.specs.Encoding.{noSignal, machineFrom}
-use Rattle.rules.specs.Steps.{Rules, rulesBy, blockAt, roomFor, home, admits, admit, admitted, lost}
+use Rattle.rules.specs.Steps.{Rules, rulesBy, blockAt, roomFor, admits, admit, admitted, lost}
 use Rattle.fields.specs.Each.{Each, each-at}
 use Rattle.laws.specs.Passed.{Passed, passed}
 use Rattle.laws.specs.Admitted.{admit-keeps, lost-one}
@@ -23,7 +23,7 @@ use Rattle.held_signals.specs.Held.{heldAt}
 use Rattle.trees.specs.Changes.{arrived}
 
 -- the image and the table have passed the check, the bytes are a machine's, and the signals that thread t's job holds have entry 2
-pub record Held (image table b : List ℕ) (t : ℕ) : Type 0 where
+pub record Holds (image table b : List ℕ) (t : ℕ) : Type 0 where
   pub checked : Checked image table
   pub canonical : Canonical b
   pub inside : t < threadCount
@@ -33,7 +33,7 @@ pub record Held (image table b : List ℕ) (t : ℕ) : Type 0 where
 abbrev pub missing : List ℕ → List ℕ → Machine → Signal → ℕ
 missing image table s g = cond (admits (rulesBy image table) (s .trees) g) 0 1
 
-pub few-missing : (image table : List ℕ) (s : Machine) (g : Signal) → missing image table s g ≤ 1
+few-missing : (image table : List ℕ) (s : Machine) (g : Signal) → missing image table s g ≤ 1
 few-missing image table s g = case (admits (rulesBy image table) (s .trees) g)
   where
     case : (z : Bool) → cond z 0 1 ≤ 1
@@ -42,7 +42,7 @@ few-missing image table s g = case (admits (rulesBy image table) (s .trees) g)
 
 -- ---- one signal
 
-module _ {image table b : List ℕ} {t : ℕ} (h : Held image table b t) (i : ℕ) (l : i < length (heldAt (machineFrom b) t)) where
+module _ {image table b : List ℕ} {t : ℕ} (h : Holds image table b t) (i : ℕ) (l : i < length (heldAt (machineFrom b) t)) where
   abbrev g : Signal
   g = getD (heldAt (machineFrom b) t) i noSignal
 
@@ -134,12 +134,12 @@ module _ (image table : List ℕ) where
         (omega (arith, c), subst (Encodes b) (sym s) (h .canonical))
 
 -- the same of the signals that thread t's job holds: they stand in the record still
-module _ {image table b : List ℕ} {t : ℕ} (h : Held image table b t) {i n : ℕ} {b₁ : List ℕ}
+module _ {image table b : List ℕ} {t : ℕ} (h : Holds image table b t) {i n : ℕ} {b₁ : List ℕ}
     (a : After image table (machineFrom b) (heldAt (machineFrom b) t) i n b₁) (l : i < length (heldAt (machineFrom b) t)) where
   same : heldAt (machineFrom b₁) t ≡ heldAt (machineFrom b) t
   same = ap (λ ws. heldOf (getD ws t idle)) (a .threads)
 
-  pub held-again : Held image table b₁ t × (i < length (heldAt (machineFrom b₁) t))
+  pub held-again : Holds image table b₁ t × (i < length (heldAt (machineFrom b₁) t))
   held-again = (
     record {
       checked = h .checked;
