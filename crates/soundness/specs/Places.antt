@@ -126,7 +126,9 @@ module _ (R : Rules) where
     few-last t locks j (Waiting l) w f = absurd f
     few-last t locks j Started w f = absurd f
     few-last t locks j Moved w f = absurd f
-    few-last t locks j (Exited n) w f = rw (w, f) (ended s t (j .held) .few)
+    few-last t locks j (Exited n) w f =
+        let held : length (heldOf (threadAt s t)) ≡ length (j .held) = ap (λ x. length (heldOf x)) w in
+        omega (arith, f, held, ended s t (j .held) .few)
     few-last t locks j (Trapped r) w f = omega (arith, ended s t [] .few)
     few-last t locks j WasCut w f = omega (arith, ended s t [] .few)
     few-last t locks j NothingToCut w f = absurd f
