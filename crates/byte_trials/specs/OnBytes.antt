@@ -200,7 +200,6 @@ pub record OnBytes : Type 0 where
   -- "EXIT with three held signals, its own tree empty and 14 others live: two are appended, one is lost; its own tree not empty: one is
   -- appended, two are lost": the answers, and the trees that come to the list's end
   pub empty-exit : drop 30 (answersTo empty 21 threeHeld) ≡ 5 ∷ 0 ∷ times 4 (6 ∷ 0 ∷ []) ++ 7 ∷ 1 ∷ []
-  pub empty-count : part (stateAfter empty 21 threeHeld) treeCountPlace 1 ≡ 16 ∷ []
   pub empty-first : treeStart (stateAfter empty 21 threeHeld) 14 ≡ 0 ∷ 1 ∷ 5 ∷ 0 ∷ 1 ∷ 1 ∷ 0 ∷ []
   pub empty-second : treeStart (stateAfter empty 21 threeHeld) 15 ≡ 0 ∷ 1 ∷ 5 ∷ 0 ∷ 1 ∷ 2 ∷ 0 ∷ []
   pub pending-exit : drop 30 (answersTo pending 21 threeHeld) ≡ 5 ∷ 0 ∷ times 4 (6 ∷ 0 ∷ []) ++ 7 ∷ 2 ∷ []
@@ -269,7 +268,6 @@ onBytes = record {
   held-kept = refl;
   held-dropped = refl;
   empty-exit = refl;
-  empty-count = refl;
   empty-first = refl;
   empty-second = refl;
   pending-exit = refl;
