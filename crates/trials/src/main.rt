@@ -24,7 +24,7 @@ fn try_lines(vectors: &[u8], call: &[u8], memory: &mut Memory, lengths: &mut Len
 }
 
 fn main() {
-    let mut memory = [0u8; 1179648];
+    let mut memory = [0u8; 737280];
     let mut lengths = [0usize; 9];
     image_lengths(&mut memory, &mut lengths).print(b"check", b" image lengths agree\n");
     try_lines(b"damaged.txt", b"check", &mut memory, &mut lengths);
