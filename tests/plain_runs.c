@@ -23,6 +23,9 @@ static struct altered by_plex, by_plain;
 static uint32_t failures, codes[256], reasons[256], losing_exits;
 static uint32_t refusals[PLEX_BAD_OUTPUT_LENGTH + 1];
 
+/* Walks over states that only held signals were changed in. */
+static uint32_t refused_held, accepted_held;
+
 static void expect(const char *call, uint32_t of_plex, uint32_t of_plain)
 {
     refusals[PLEX_NUMBER(of_plex)]++;
@@ -120,20 +123,47 @@ static void try_run(void)
         count_answers();
 }
 
-/* The walk over the state that the run left, at times damaged where threads and live trees are. */
+/* At times damages how many signals a thread holds, or the first one's label or value count; says
+ * whether it did. */
+static bool damage_held(uint8_t *state)
+{
+    bool done = false;
+    for (uint32_t thread = 0; thread < PLEX_THREADS; thread++) {
+        uint8_t *held = state + PLEX_STATE_THREADS + PLEX_THREAD_SIZE * thread + PLEX_THREAD_HELD_COUNT;
+        if (*held == 0 || below(4) != 0)
+            continue;
+        damage(held, 1 + PLEX_SIGNAL_VALUES);
+        done = true;
+    }
+    return done;
+}
+
+/* At times damages a byte or two where threads and live trees are. */
+static void damage_state(uint8_t *state)
+{
+    size_t end = PLEX_STATE_TREES + PLEX_TREE_SIZE * (size_t)state[PLEX_STATE_TREE_COUNT];
+    for (uint32_t edits = below(3); edits > 0; edits--)
+        damage(state + PLEX_STATE_THREADS, end - PLEX_STATE_THREADS);
+}
+
+/* The walk over the state that the run left, at times damaged. */
 static void try_walk(void)
 {
     struct altered before = by_plex;
-    size_t end = PLEX_STATE_TREES + PLEX_TREE_SIZE * (size_t)before.state[PLEX_STATE_TREE_COUNT];
-    for (uint32_t edits = below(3); edits > 0; edits--)
-        damage(by_plex.state + PLEX_STATE_THREADS, end - PLEX_STATE_THREADS);
+    bool only_held = damage_held(by_plex.state);
+    if (!only_held)
+        damage_state(by_plex.state);
     memcpy(by_plain.state, by_plex.state, PLEX_STATE_SIZE);
     uint32_t thread = below(PLEX_THREADS);
-    expect("walk",
-           plex_walk(image, image_len, table, sizeof table, by_plex.state, PLEX_STATE_SIZE, thread, by_plex.met,
-                     PLEX_MET_SIZE),
+    uint32_t result = plex_walk(image, image_len, table, sizeof table, by_plex.state, PLEX_STATE_SIZE, thread,
+                                by_plex.met, PLEX_MET_SIZE);
+    expect("walk", result,
            plain_walk(image, image_len, table, sizeof table, by_plain.state, PLEX_STATE_SIZE, thread, by_plain.met,
                       PLEX_MET_SIZE));
+    if (only_held && memcmp(by_plex.state, before.state, PLEX_STATE_SIZE) != 0) {
+        refused_held += PLEX_NUMBER(result) == PLEX_BAD_STATE;
+        accepted_held += PLEX_NUMBER(result) == 0;
+    }
     memcpy(by_plex.state, before.state, PLEX_STATE_SIZE);
     memcpy(by_plain.state, before.state, PLEX_STATE_SIZE);
 }
@@ -157,7 +187,8 @@ bool do_runs_agree(void)
     }
     bool all_met = are_all_met(codes, PLEX_ARRIVED, PLEX_NOTHING_TO_CUT) &&
                    are_all_met(reasons, PLEX_ABSENT_REGISTER, PLEX_HELD_FULL) && losing_exits != 0 &&
-                   refusals[PLEX_BAD_STATE] != 0 && refusals[PLEX_BAD_EVENT] != 0;
+                   refusals[PLEX_BAD_STATE] != 0 && refusals[PLEX_BAD_EVENT] != 0 && refused_held != 0 &&
+                   accepted_held != 0;
     printf("plain: %d runs and walks%s; %u failures\n", MACHINES * RUNS,
            all_met ? ", with every answer" : ", NOT with every answer", failures);
     return failures == 0 && all_met;

@@ -33,6 +33,8 @@ sizes=$(git grep -nwE '9633|9_633|2816|2817|426' -- 'crates/*.rt' 'crates/*.antt
 report 'sizes as numbers outside rules' "$sizes"
 
 report 'docs/map.dot is not what `make map` makes of crates.txt' "$(awk -f tools/map.awk crates.txt | diff - docs/map.dot | head -n 5)"
+report 'crates that docs/map.svg does not show' \
+    "$(for crate in $crates; do grep -q "<title>$crate</title>" docs/map.svg || echo "$crate"; done)"
 
 # no path of one machine
 report 'paths of one machine' "$(git grep -nE '(^|[^[:alnum:]_.])/(work|root|home)/[A-Za-z]' -- . ':!tests/style.sh')"

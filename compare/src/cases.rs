@@ -1,10 +1,9 @@
 //! What is compared for a seed.
 
 use crate::both::{both, Call};
-use crate::held::differ_in_held_alone;
 use crate::seen::Seen;
-use crate::sizes::{ANSWER, EVENT, RECORD, STATE, THREADS};
-use second::generate::{damage, events, lent, Lent, Random};
+use crate::sizes::{ANSWER, EVENT, RECORD, THREADS};
+use second::generate::{damage, events, lent, only_held_changed, Lent, Random};
 use second::second_order;
 
 /// Events of one Run.
@@ -52,11 +51,10 @@ fn damaged_calls(seen: &mut Seen, random: &mut Random, good: &Lent) -> Result<()
         let mut damaged = good.clone();
         damage(random, &mut damaged);
         for call in Call::ALL {
-            both(seen, call, &mut damaged.clone())?;
-        }
-        if held_alone(good, &damaged) {
-            let returned = both(seen, Call::Walk, &mut damaged)?;
-            seen.note_damaged_held(returned);
+            let returned = both(seen, call, &mut damaged.clone())?;
+            if matches!(call, Call::Walk) && held_alone(good, &damaged) {
+                seen.note_damaged_held(returned);
+            }
         }
     }
     Ok(())
@@ -65,12 +63,7 @@ fn damaged_calls(seen: &mut Seen, random: &mut Random, good: &Lent) -> Result<()
 /// Whether a walk is lent other held signals than this good one, and nothing
 /// else that is different.
 fn held_alone(good: &Lent, damaged: &Lent) -> bool {
-    good.image == damaged.image
-        && good.table == damaged.table
-        && good.thread == damaged.thread
-        && good.met == damaged.met
-        && damaged.state.len() == STATE
-        && differ_in_held_alone(&good.state, &damaged.state)
+    good.thread == damaged.thread && good.met == damaged.met && only_held_changed(good, damaged)
 }
 
 /// A long event list in many Runs, refused ones between them, and then its

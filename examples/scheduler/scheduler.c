@@ -78,9 +78,10 @@ static void carry_out(struct batch *batch)
     count_steps(batch);
 }
 
+/* The trees on the thread, and those that the signals its job holds may still found. */
 static uint32_t trees_of(uint32_t t)
 {
-    uint32_t found = 0;
+    uint32_t found = thread_at(machine.state, t)[PLEX_THREAD_HELD_COUNT];
     for (uint32_t i = 0; i < machine.state[PLEX_STATE_TREE_COUNT]; i++)
         found += tree_at(machine.state, i)[PLEX_TREE_THREAD] == t;
     return found;
@@ -166,8 +167,8 @@ static void *worker(void *thread)
     return NULL;
 }
 
-/* Every tree is emptied: with all jobs cut no lock is held, and a job that is cut right after its
- * start has taken one signal and carried out no statement. */
+/* Every tree is emptied: with all jobs cut neither a lock nor a signal is held, and a job that is cut
+ * right after its start has taken one signal and carried out no statement. */
 static void drain(void)
 {
     for (uint32_t round = 0; round <= PLEX_TREES_MAX * PLEX_PENDING_MAX; round++) {

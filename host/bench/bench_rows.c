@@ -113,8 +113,10 @@ static void begin_state(void)
     by_plex = by_plain;
 }
 
-static void prepare_events(const struct bench_row *row)
+static void prepare_run(const struct bench_row *row, void (*make_image)(uint8_t *image, size_t records))
 {
+    begin(row);
+    make_image(work.image, row->records);
     bench_job_table(work.table);
     bench_job_events(work.events, row->events, row->records);
     begin_state();
@@ -122,16 +124,13 @@ static void prepare_events(const struct bench_row *row)
 
 static void prepare_jobs(const struct bench_row *row)
 {
-    begin(row);
-    bench_job_image(work.image, row->records);
-    prepare_events(row);
+    prepare_run(row, bench_job_image);
 }
 
+/* One job in 16 events holds two signals, and its EXIT loses none: there are at most two trees. */
 static void prepare_founders(const struct bench_row *row)
 {
-    begin(row);
-    bench_founder_image(work.image, row->records);
-    prepare_events(row);
+    prepare_run(row, bench_founder_image);
 }
 
 /* No thread waits. */

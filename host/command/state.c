@@ -27,7 +27,7 @@ static void print_threads(const uint8_t *state)
     for (uint32_t thread = 0; thread < PLEX_THREADS; thread++) {
         const uint8_t *bytes = thread_at(state, thread);
         struct line where = {0}, registers = {0};
-        add_thread(&where, bytes);
+        add_place(&where, bytes);
         add_registers(&registers, bytes);
         print("  %u  %s", thread, where.text);
         print(is_idle(bytes) ? "\n" : ", registers %s\n", registers.text);

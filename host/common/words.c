@@ -166,11 +166,10 @@ static void add_locks(struct line *line, uint32_t locks)
             add(line, " %u", lock);
 }
 
-void add_thread(struct line *line, const uint8_t *thread)
+void add_place(struct line *line, const uint8_t *thread)
 {
     uint32_t label = get16(thread + PLEX_THREAD_LABEL);
     uint32_t returns = at_most(thread[PLEX_THREAD_RETURN_COUNT], PLEX_RETURNS_MAX);
-    uint32_t held = at_most(thread[PLEX_THREAD_HELD_COUNT], PLEX_HELD_MAX);
     if (label == PLEX_IDLE)
         add(line, "idle");
     else
@@ -180,6 +179,12 @@ void add_thread(struct line *line, const uint8_t *thread)
     add(line, ", return labels%s", returns == 0 ? " none" : "");
     for (uint32_t i = 0; i < returns; i++)
         add(line, " %u", get16(thread + PLEX_THREAD_RETURNS + 2 * i));
+}
+
+void add_thread(struct line *line, const uint8_t *thread)
+{
+    uint32_t held = at_most(thread[PLEX_THREAD_HELD_COUNT], PLEX_HELD_MAX);
+    add_place(line, thread);
     add(line, held == 0 ? "" : ", held labels");
     for (uint32_t i = 0; i < held; i++)
         add(line, " %u", get16(held_at(thread, i) + PLEX_SIGNAL_LABEL));

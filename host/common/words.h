@@ -25,8 +25,10 @@ void add_event(struct line *line, const uint8_t *event);
 /* As "waiting for the lock of block 3" or "EXIT, 2 held signals lost". */
 void add_answer(struct line *line, const uint8_t *answer);
 
-/* As "at label 3, locks 0 1, return labels 1"; an idle thread is "idle" in place of "at". If it holds
- * signals, ", held labels 4 5" follows. */
+/* As "at label 3, locks 0 1, return labels 1"; an idle thread is "idle" in place of "at". */
+void add_place(struct line *line, const uint8_t *thread);
+
+/* The same, and if it holds signals, ", held labels 4 5". */
 void add_thread(struct line *line, const uint8_t *thread);
 
 /* As "r0=25 r2=7", or "none". */

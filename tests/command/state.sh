@@ -7,10 +7,10 @@ tried 'a queue' 0 '  thread 0: tree 0 (its job runs), tree 1' state waiting
 tried 'a signal' 0 '    label 8 WITH 999' state waiting
 tried 'a word' 0 '  block 1: w0=120' state waiting
 tried 'a thread that holds a signal' 0 \
-    '^  2  at label 2, locks 5, return labels none, held labels 3, registers r0=25$' state holding
+    '^  2  at label 2, locks 5, return labels none, registers r0=25$' state holding
 tried 'a held signal' 0 '^    held label 3 WITH 25$' state holding
 byte holding 1163 377 bad
-tried 'a held count above its limit' 0 ', held labels 3 0 0 0, registers' state bad
+tried 'a held count above its limit' 0 '^    held label 0$' state bad
 tried 'a short state' 1 'short-state: 9632 bytes; a state is 9,633 bytes' state short-state
 tried 'a long state' 1 'long-state: more than 9633 bytes' state long-state
 

@@ -6,11 +6,13 @@ use crate::files::load;
 use crate::files::read;
 use crate::memory::Lengths;
 use crate::memory::Memory;
-use crate::memory::PART;
 use crate::tally::Tally;
 use crate::text::after;
 use crate::text::begins;
 use crate::text::next;
+
+// The bytes that a file may have: the longest has 92,438.
+const TEXT: usize = 98304;
 
 // Whether the line is a trial of `call`, and no comment.
 fn is_of(line: &[u8], call: &[u8]) -> bool {
@@ -61,7 +63,7 @@ fn folder(path: &[u8]) -> &[u8] {
 
 // Tries each line of a file that names `call`, on the cases in the file's folder.
 pub fn try_file(path: &[u8], call: &[u8], memory: &mut Memory, lengths: &mut Lengths) -> Tally {
-    let mut text = [0u8; PART];
+    let mut text = [0u8; TEXT];
     let n = read(path, &mut text);
     try_text(folder(path), &text[..n], call, memory, lengths)
 }

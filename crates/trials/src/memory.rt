@@ -1,9 +1,9 @@
-// The buffers of a case, a part of 131,072 bytes for each, and their lengths. Files hold those from IMAGE to TABLE of a machine's case, and
-// those from TABLE to SECOND of a link's.
+// The buffers of a case, a part of 81,920 bytes for each, and their lengths: the longest that a line asks for is an event list of 81,659
+// bytes. Files hold those from IMAGE to TABLE of a machine's case, and those from TABLE to SECOND of a link's.
 ghost use mathlib.Core.Path.{_≡_};
 ghost use lib.ListN.{length};
 
-pub const PART: usize = 131072;
+pub const PART: usize = 81920;
 
 pub const BUFFERS: usize = 9;
 
@@ -25,9 +25,9 @@ pub const SECOND: usize = 7;
 
 pub const MET: usize = 8;
 
-pub type Part = [u8; 131072];
+pub type Part = [u8; 81920];
 
-pub type Memory = [u8; 1179648];
+pub type Memory = [u8; 737280];
 
 pub type Lengths = [usize; 9];
 
@@ -85,7 +85,7 @@ pub fn name(buffer: usize) -> [u8; 8] {
 
 // A copy of the bytes of a buffer, and zeros. The `ensures` says the length, which lending the array as a slice needs.
 pub fn copy(memory: &Memory, lengths: &Lengths, buffer: usize) -> Part
-    ensures { λ r. ⌜ 131072 ≡ length r ⌝ }
+    ensures { λ r. ⌜ 81920 ≡ length r ⌝ }
 {
     let from = bytes(memory, lengths, buffer);
     let mut part = [0u8; PART];

@@ -56,6 +56,20 @@ fn change_state(random: &mut Random, state: &mut [u8], image: &[u8]) {
     }
 }
 
+/// Whether the states differ, and in held signals only, with one image and table.
+pub fn only_held_changed(one: &Lent, other: &Lent) -> bool {
+    let cleared = |state: &[u8]| {
+        let mut state = state.to_vec();
+        let threads = &mut state[State::WORDS_LENGTH..][..Job::WIDTH * Thread::COUNT];
+        threads.chunks_mut(Job::WIDTH).for_each(|thread| thread[Job::HELD_START..].fill(0));
+        state
+    };
+    (&one.image, &one.table) == (&other.image, &other.table)
+        && one.state.len() == other.state.len()
+        && one.state != other.state
+        && cleared(&one.state) == cleared(&other.state)
+}
+
 /// Mostly draws new held signals for a thread, mostly for one that runs; then
 /// changes at times their count, the first one's value count or one of them.
 fn change_held(random: &mut Random, threads: &mut [u8], image: &[u8]) {

@@ -1,7 +1,7 @@
 //! Trials that generated machines meet every case of held signals.
 
 use super::trials::begun;
-use super::{damage, Lent, Random};
+use super::{damage, only_held_changed, Lent, Random};
 use crate::events::Event;
 use crate::image::Program;
 use crate::run;
@@ -80,19 +80,6 @@ fn signal_fault(image: &[u8], signal: &[u8]) -> Option<&'static str> {
         3 => Some("entry 3"),
         _ => (!is_zero(unused)).then_some("unused value"),
     }
-}
-
-/// Whether the states differ, and in held signals only, with one image and table.
-fn only_held_changed(one: &Lent, other: &Lent) -> bool {
-    let cleared = |state: &[u8]| {
-        let mut state = state.to_vec();
-        state[512..2_816].chunks_mut(288).for_each(|thread| thread[75..].fill(0));
-        state
-    };
-    (&one.image, &one.table) == (&other.image, &other.table)
-        && one.state.len() == other.state.len()
-        && one.state != other.state
-        && cleared(&one.state) == cleared(&other.state)
 }
 
 #[test]

@@ -13,7 +13,7 @@ mod random;
 #[cfg(test)]
 mod trials;
 
-pub use damage::damage;
+pub use damage::{damage, only_held_changed};
 pub use events::events;
 pub use image::{image, table};
 pub use pair::{damage_pair, pair, Guest, Pair};

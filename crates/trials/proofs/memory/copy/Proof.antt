@@ -6,7 +6,7 @@ use Rattle.trials.proofs.memory.copy.Statement.{statement}
 use Rattle.trials.proofs.memory.copy.Tie as tie
 
 abbrev Inv-loop : tie.InvT-loop
-Inv-loop memory lengths buffer from part₀ i₀ part i = 131072 ≡ length part
+Inv-loop memory lengths buffer from part₀ i₀ part i = 81920 ≡ length part
 
 abbrev μ-loop : tie.MeasureT-loop
 μ-loop memory lengths buffer from part₀ i₀ part i = length from - i
