@@ -6,7 +6,8 @@ use mathlib.Core.List.{List, [], _∷_, _++_}
 use Prim.Native.Nat.{ℕ, zero, suc, _+_, _*_}
 use native.Mathlib.Decide.{ℕ-discrete}
 use lib.ListN.{replicate, drop}
-use Rattle.rules.specs.Sizes.{tableSize, wordsSize, stateSize, threadsPlace, presencePlace, heldCountPlace, treeCountPlace, treesPlace, treeSize}
+use Rattle.rules.specs.Sizes.{tableSize, wordsSize, stateSize, threadsPlace, presencePlace, heldCountPlace, treeSize}
+use Rattle.rules.specs.Sizes.{treeCountPlace, treesPlace}
 use Rattle.rules.specs.Bytes.{num16, num32, part, isZeros, allFrom, firstBad, blocks, pad, chunks, every}
 use Rattle.rules.specs.Image.{labels, recordAt, rowAt}
 use Rattle.rules.specs.Statements.{operandOf, operandAt, operandsFrom, operationAt, optional, assignmentBy}

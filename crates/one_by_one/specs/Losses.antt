@@ -7,8 +7,8 @@ use Prim.Native.Nat.{ℕ}
 use lib.ListN.{length}
 use Rattle.rules.specs.Machine.{Signal, ThreadState, idle, running, Machine, threadAt, first}
 use Rattle.rules.specs.Events.{Kind, stepping, cutting, Event, arrive, turn}
-use Rattle.rules.specs.Steps.{Rules, Effect, traps, exits, moves, Move, Plan, stay, grow, founded, admits, planArrive, planIdle, planRunning}
-use Rattle.rules.specs.Steps.{planStep, planCut, planTurn, plan, attempt, carry, react}
+use Rattle.rules.specs.Steps.{Rules, Effect, traps, exits, moves, Move, Plan, stay, grow, founded, admits, planArrive, planIdle}
+use Rattle.rules.specs.Steps.{planRunning, planStep, planCut, planTurn, plan, attempt, carry, react}
 use Rattle.rules.specs.Order.{lostIn, lostBy}
 use Rattle.rules.specs.declared.answer.Answer.the-variants.{ListFull, Exited}
 use Rattle.laws.specs.Logic.{never}

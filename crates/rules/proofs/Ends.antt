@@ -155,7 +155,8 @@ module _ (R : Rules) where
   unfolding planRunning carry
   running-starts s t b p gs (traps r) e = absurd (false≢true (cc))
   running-starts s t b p gs exits e = absurd (false≢true (cc))
-  running-starts s t b p gs (moves j words g want) e = attempt-starts s t _ (blocked R t (s .threads) want) (λ q. absurd (false≢true (cc))) e
+  running-starts s t b p gs (moves j words g want) e =
+      attempt-starts s t _ (blocked R t (s .threads) want) (λ q. absurd (false≢true (cc))) e
 
   pub starts-nothing : (s : Machine) (t locks : ℕ) (j : Job) → threadAt s t ≡ running locks j → react R s (step t) .answer ≡ Started → ⊥
   unfolding react plan planStep
@@ -163,7 +164,8 @@ module _ (R : Rules) where
 
   -- ---- a trap: it drops what the job held
 
-  attempt-traps : (s : Machine) (t r : ℕ) (m : Move) (o : Option ℕ) → (m .answer ≡ Trapped r → ⊥) → attempt R t m s o .answer ≡ Trapped r → ⊥
+  attempt-traps : (s : Machine) (t r : ℕ) (m : Move) (o : Option ℕ) → (m .answer ≡ Trapped r → ⊥)
+      → attempt R t m s o .answer ≡ Trapped r → ⊥
   unfolding attempt
   attempt-traps s t r m none n e = n e
   attempt-traps s t r m (some l) n e = absurd (false≢true (cc))

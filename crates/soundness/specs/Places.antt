@@ -156,7 +156,8 @@ module _ (R : Rules) where
       absent l′ (given p) = behind _ [] (put-missing t (some p) (s .trees) f .0 ∙ sym (append-nil (s .trees))) (omega arith)
       absent l′ (taken locks j w e) =
           behind _ (ended s t (released j a) .last)
-          (ended s t (released j a) .trees ∙ ap (λ (z : List Tree). z ++ ended s t (released j a) .last) (put-missing t none (s .trees) f .0))
+          (ended s t (released j a) .trees
+          ∙ ap (λ (z : List Tree). z ++ ended s t (released j a) .last) (put-missing t none (s .trees) f .0))
           (few-last t locks j a w e)
 
     module _ (t : ℕ) (a : Answer) (p : Place t (s .trees)) where

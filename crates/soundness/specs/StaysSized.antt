@@ -145,7 +145,8 @@ module _ (image table : List ℕ) (ok : Passed image table) (s : Machine) (k : S
   trees-count e r (starts t g p w f b) = rw (length-put t p (s .trees)) (z .trees)
   trees-count e r (goes t l j j′ words g want w a b) = rw (length-put t (pendingOf (first t (s .trees)) ++ added g) (s .trees)) (z .trees)
   trees-count e r (ends t l j a w f) =
-      admitted-keeps R (λ (y : Machine). length (y .trees) ≤ treeCount) (released j a) (λ g m y room h. count-founded y g room) (finished R t s)
+      admitted-keeps R (λ (y : Machine). length (y .trees) ≤ treeCount) (released j a) (λ g m y room h. count-founded y g room)
+      (finished R t s)
       (omega (arith, length-finished R t (s .trees), z .trees))
 
   threads-sized : (e : Event) (r : Reply) → Happens R s e r → Accepted image e → Each SizedThread (r .state .threads)

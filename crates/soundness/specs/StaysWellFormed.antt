@@ -26,7 +26,8 @@ use Rattle.laws.specs.Admitted.{admitted-keeps, admitted-threads}
 use Rattle.laws.specs.Passed.{Passed, passed}
 use Rattle.soundness.specs.CheckedRules.{checked-laws}
 use Rattle.rules.specs.declared.answer.Answer.{Answer}
-use Rattle.soundness.specs.Happens.{startOf, goOf, effectOf, released, released-has, Happens, remains, founds, starts, goes, ends, happens}
+use Rattle.soundness.specs.Happens.{startOf, goOf, effectOf, released, released-has, Happens, remains, founds, starts, goes}
+use Rattle.soundness.specs.Happens.{ends, happens}
 use Rattle.soundness.specs.Untouched.{words-of-other-blocks-stay}
 use Rattle.soundness.specs.Queues.{first-queue, queue-append, queue-put, queue-put-other}
 use Rattle.soundness.specs.Members.{each-member, getD-set}

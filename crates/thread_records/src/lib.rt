@@ -86,8 +86,8 @@ fn write_registers(s: &mut [u8], at: usize, w: ThreadState)
     put16s(s, at + REGISTERS_PLACE, &registers);
 }
 
-// The thread comes back, whole. What is as it was read is not stored: the compiler sees that it comes from where it goes. So this
-// comes before any other store to the state.
+// The thread comes back, whole but for the signals held. Of a thread that runs on, what is as it was read is not stored: the compiler
+// sees that it comes from where it goes. So this comes before any other store to the state; an end, whose stores are constants, comes last.
 pub fn write_thread(state: &mut [u8], t: Thread, w: ThreadState)
     requires { ⌜ (length (now state) ≡ stateSize) × (t .0 < threadCount) × (w .depth ≤ returnCount) ⌝ }
     ensures { λ _. ⌜ now (state .exit) ≡ put (now (state .entry)) (threadPlace (t .0)) (rawBytes w) ⌝ }
