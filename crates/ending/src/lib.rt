@@ -2,6 +2,7 @@
 // signals that it held.
 use block_table::thread_at;
 use held_signals::drop_held;
+use held_signals::held_count;
 use image::records::block_at;
 use pending_signals::oldest_label;
 use pending_signals::pending;
@@ -21,6 +22,7 @@ ghost use Rattle.rules.specs.Encoding.{machineFrom};
 ghost use Rattle.rules.specs.Events.{cut};
 ghost use Rattle.encoding.specs.Encoded.{Canonical, Encodes};
 ghost use Rattle.thread_records.specs.Records.{Busy};
+ghost use Rattle.held_signals.specs.Held.{heldAt};
 ghost use Rattle.pending_signals.specs.Canon.{pendingAt};
 ghost use Rattle.step_ready.specs.Ready.{Ready, Recorded, Done, Ended, replyTo};
 ghost use Rattle.ending.specs.Home.{HomeOf, settled};
@@ -47,12 +49,13 @@ pub fn settle(image: &[u8], table: &[u8], state: &mut [u8], t: Thread)
     end_tree(state, i, to);
 }
 
-// Nothing of the job stays in the thread, which is w: no signal that it held either.
-pub fn clear_thread(state: &mut [u8], t: Thread, w: ThreadState)
-    requires { ⌜ Canonical (now state) × (t .0 < threadCount) × Busy (now state) (t .0) ⌝ }
+// Nothing of the job stays in the thread, which is w: none of the count signals that it held either.
+pub fn clear_thread(state: &mut [u8], t: Thread, w: ThreadState, count: usize)
+    requires { ⌜ Canonical (now state) × (t .0 < threadCount) × Busy (now state) (t .0)
+        × (count ≡ length (heldAt (machineFrom (now state)) (t .0))) ⌝ }
     ensures { λ _. ⌜ Encodes (now (state .exit)) (withThread (machineFrom (now (state .entry))) (t .0) idle) ⌝ }
 {
-    drop_held(state, t);
+    drop_held(state, t, count);
     write_thread(state, t, w.end());
 }
 
@@ -62,7 +65,8 @@ pub fn finish(image: &[u8], table: &[u8], state: &mut [u8], t: Thread, w: Thread
     ensures { λ _. ⌜ Ended (now (image .entry)) (now (table .entry)) (now (state .entry)) (t .0) (now (state .exit)) ⌝ }
 {
     settle(image, table, state, t);
-    clear_thread(state, t, w);
+    let count = held_count(state, t);
+    clear_thread(state, t, w, count);
 }
 
 pub fn trapped(

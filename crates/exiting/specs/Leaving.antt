@@ -33,9 +33,6 @@ module _ {image table b : List ℕ} {t : ℕ} {w : ThreadState} {r : List ℕ} (
     held-there : heldAt (machineFrom b₁) t ≡ heldAt m t
     held-there = ap heldOf same
 
-    pub count-there : {n : ℕ} → n ≡ length (heldAt m t) → n ≡ length (heldAt (machineFrom b₁) t)
-    count-there e = rw held-there e
-
     pub still-held : Holds image table b₁ t
     still-held = record {
       checked = h .ready .checked;
@@ -46,13 +43,16 @@ module _ {image table b : List ℕ} {t : ℕ} {w : ThreadState} {r : List ℕ} (
 
     -- the held signals are admitted
     module _ {b₂ : List ℕ} (k₂ : Encodes b₂ (admitted (rulesBy image table) (heldAt (machineFrom b₁) t) (machineFrom b₁))) where
-      pub still-busy : Busy b₂ t
-      still-busy =
-          let q = at-busy h in
-          let e : threadAt (machineFrom b₂) t ≡ threadAt (machineFrom b₁) t =
+      same-still : threadAt (machineFrom b₂) t ≡ threadAt (machineFrom b₁) t
+      same-still =
           ap (λ (x : Machine). threadAt x t) (encoded-machine b₂ _ k₂)
-          ∙ ap (λ z. getD z t idle) (admitted-threads (rulesBy image table) (heldAt (machineFrom b₁) t) (machineFrom b₁)) in
-          (q .0, q .1, e ∙ same ∙ q .2)
+          ∙ ap (λ z. getD z t idle) (admitted-threads (rulesBy image table) (heldAt (machineFrom b₁) t) (machineFrom b₁))
+
+      pub still-busy : Busy b₂ t
+      still-busy = let q = at-busy h in (q .0, q .1, same-still ∙ same ∙ q .2)
+
+      pub count-still : {n : ℕ} → n ≡ length (heldAt (machineFrom b₁) t) → n ≡ length (heldAt (machineFrom b₂) t)
+      count-still e = rw (ap heldOf same-still) e
 
       pub left : {b₃ : List ℕ} → Encodes b₃ (withThread (machineFrom b₂) t idle)
           → Encodes b₃ (admitted (rulesBy image table) (heldAt m t) (finished (rulesBy image table) t m))

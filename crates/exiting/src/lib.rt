@@ -69,9 +69,9 @@ pub fn leave(
     requires { ⌜ At (now image) (now table) (now state) (t .0) w (now r) × (statementOf (now r) ≡ Exit) ⌝ }
     ensures { λ a. ⌜ Stepped (now (image .entry)) (now (table .entry)) (now (state .entry)) (t .0) (now (state .exit)) a ⌝ }
 {
-    let count = held_count(state, t);
     settle(image, table, state, t);
+    let count = held_count(state, t);
     let missed = found_trees(image, table, state, t, count);
-    clear_thread(state, t, w);
+    clear_thread(state, t, w, count);
     Answer::Exited(missed)
 }

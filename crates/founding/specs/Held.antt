@@ -60,12 +60,11 @@ module _ {image table b : List ℕ} {t : ℕ} {w : ThreadState} {r : List ℕ} (
   thread-moved q = getD-set-same (m .threads) t _ idle inside
 
   -- going on leaves what is held
-  pub few-still : {b₁ : List ℕ} → Encodes b₁ (moved r) → length (heldAt m t) < heldCount
-      → length (heldAt (machineFrom b₁) t) < heldCount
-  few-still {b₁} k l =
+  pub count-still : {b₁ : List ℕ} {n : ℕ} → Encodes b₁ (moved r) → n ≡ length (heldAt m t) → n ≡ length (heldAt (machineFrom b₁) t)
+  count-still {b₁} k f =
       let e : heldAt (machineFrom b₁) t ≡ heldAt m t =
       ap (λ (s : Machine). heldAt s t) (encoded-machine b₁ _ k) ∙ ap heldOf (thread-moved r) in
-      rw e l
+      rw e f
 
   pub still-busy : {b₁ : List ℕ} → Encodes b₁ (moved r) → Busy b₁ t
   still-busy {b₁} k = (w .locks, _, ap (λ (s : Machine). threadAt s t) (encoded-machine b₁ _ k) ∙ thread-moved r)

@@ -24,7 +24,7 @@ ghost use Rattle.operands.specs.Readings.{Given};
 ghost use Rattle.step_ready.specs.Ready.{Stepped};
 ghost use Rattle.step_ready.specs.At.{At};
 
-// The data have been read, and the job holds fewer than four signals.
+// The data have been read, and the job holds count signals, fewer than four.
 fn hold_for_tree(
     image: &[u8],
     table: &[u8],
@@ -33,9 +33,10 @@ fn hold_for_tree(
     w: ThreadState,
     r: &[u8],
     values: [u16; Thread::REGISTERS],
+    count: usize,
 ) -> Answer
     requires { ⌜ At (now image) (now table) (now state) (t .0) w (now r) × (statementOf (now r) ≡ SendTree)
-        × Given (now state) w (now r) values × (length (heldAt (machineFrom (now state)) (t .0)) < heldCount) ⌝ }
+        × Given (now state) w (now r) values × (count ≡ length (heldAt (machineFrom (now state)) (t .0))) × (count < heldCount) ⌝ }
     ensures { λ a. ⌜ Stepped (now (image .entry)) (now (table .entry)) (now (state .entry)) (t .0) (now (state .exit)) a ⌝ }
 {
     let to = label_a(r);
@@ -44,6 +45,7 @@ fn hold_for_tree(
     hold(
         state,
         t,
+        count,
         Signal {
             label: to,
             count: operand_count(r),
@@ -69,8 +71,9 @@ pub fn send_tree(
     if trap != 0 {
         return trapped(image, table, state, t, w, trap);
     }
-    if Thread::HELD <= held_count(state, t) {
+    let count = held_count(state, t);
+    if Thread::HELD <= count {
         return trapped(image, table, state, t, w, HELD_FULL);
     }
-    hold_for_tree(image, table, state, t, w, r, values)
+    hold_for_tree(image, table, state, t, w, r, values, count)
 }

@@ -64,11 +64,11 @@ module _ {b : List ℕ} (k : Canonical b) (t : ℕ) (h : t < threadCount) where
       (record { label = y .label; returns = y .returns; registers = y .registers; held = z }) (k .sized)
 
   pub signal-held : {b₁ b₂ : List ℕ} (n : ℕ) (g : Signal) → Busy b t → SizedSignal g → n ≡ length (heldAt s t)
-      → length (heldAt s t) < heldCount → b₁ ≡ put b (threadPlace t + heldCountPlace + 1 + signalSize * n) (signalBytes g)
+      → n < heldCount → b₁ ≡ put b (threadPlace t + heldCountPlace + 1 + signalSize * n) (signalBytes g)
       → b₂ ≡ put b₁ (threadPlace t + heldCountPlace) ((n + 1) ∷ []) → Encodes b₂ (withHeldAt s t (heldAt s t ++ g ∷ []))
   signal-held {b₁} n g (locks, j, e) z c few e₁ e₂ =
       let m : n ≡ length (j .held) = rw e at c in
-      let l : length (j .held) < heldCount = rw e at few in
+      let l : length (j .held) < heldCount = omega (arith, m, few) in
       let a : threadPlace t + heldCountPlace + 1 + signalSize * n ≡ threadPlace t + heldPlace + signalSize * n = omega arith in
       let y : SizedSignals heldCount (j .held) = rw e at (held-all s t (k .same) (k .sized) h) in
       let w : SizedSignals heldCount (j .held ++ g ∷ []) = record {

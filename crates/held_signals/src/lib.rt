@@ -47,26 +47,25 @@ pub fn held_signal(state: &[u8], t: Thread, i: usize) -> Signal
     read_signal(state, count_at(t) + 1 + SIGNAL_SIZE * i)
 }
 
-// A signal comes behind the others.
-pub fn hold(state: &mut [u8], t: Thread, g: Signal)
+// A signal comes behind the others, of which there are count.
+pub fn hold(state: &mut [u8], t: Thread, count: usize, g: Signal)
     requires { ⌜ Canonical (now state) × (t .0 < threadCount) × Busy (now state) (t .0)
-        × (length (heldAt (machineFrom (now state)) (t .0)) < heldCount) × TidySignal g ⌝ }
+        × (count ≡ length (heldAt (machineFrom (now state)) (t .0))) × (count < heldCount) × TidySignal g ⌝ }
     ensures { λ _. ⌜ Encodes (now (state .exit)) (withHeldAt (machineFrom (now (state .entry))) (t .0)
         (heldAt (machineFrom (now (state .entry))) (t .0) ++ signalOf g ∷ [])) ⌝ }
 {
     let at = count_at(t);
-    let k = get8(state, at);
-    write_signal(state, at + 1 + SIGNAL_SIZE * k, g);
-    put8(state, at, (k + 1) as u8);
+    write_signal(state, at + 1 + SIGNAL_SIZE * count, g);
+    put8(state, at, (count + 1) as u8);
 }
 
-// All are dropped. Where none is held, nothing is stored.
-pub fn drop_held(state: &mut [u8], t: Thread)
-    requires { ⌜ Canonical (now state) × (t .0 < threadCount) × Busy (now state) (t .0) ⌝ }
+// All of them, count, are dropped. Where none is held, nothing is stored.
+pub fn drop_held(state: &mut [u8], t: Thread, count: usize)
+    requires { ⌜ Canonical (now state) × (t .0 < threadCount) × Busy (now state) (t .0)
+        × (count ≡ length (heldAt (machineFrom (now state)) (t .0))) ⌝ }
     ensures { λ _. ⌜ Encodes (now (state .exit)) (withHeldAt (machineFrom (now (state .entry))) (t .0) []) ⌝ }
 {
-    let at = count_at(t);
-    if state[at] != 0 {
-        clear(state, at, THREAD_SIZE - HELD_COUNT_PLACE);
+    if count != 0 {
+        clear(state, count_at(t), THREAD_SIZE - HELD_COUNT_PLACE);
     }
 }

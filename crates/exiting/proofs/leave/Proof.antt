@@ -9,40 +9,42 @@ use Rattle.held_signals.specs.Held.{heldAt}
 use Rattle.step_laws.specs.Statements.{leaves}
 use Rattle.step_ready.specs.Ready.{done}
 use Rattle.step_ready.specs.At.{tree, at-busy, statement-here}
-use Rattle.exiting.specs.Leaving.{count-there, still-held, still-busy, left, lost-there}
+use Rattle.exiting.specs.Leaving.{still-held, still-busy, count-still, left, lost-there}
 use Rattle.exiting.proofs.leave.Statement.{statement}
 use Rattle.exiting.proofs.leave.Tie as tie
 use lib.ListN.{length}
 
-held-count-requires : tie.Need-held-count-requires
-held-count-requires c κs =
-    let s = c .before .before .before .before .before in
-    (s .pre .0 .ready .canonical, s .pre .0 .inside)
-
 settle-requires : tie.Need-settle-requires
 settle-requires c κs =
-    let s = c .before .before .before .before .before .before .before in
+    let s = c .before .before .before .before .before in
     (s .pre .0 .ready, s .pre .0 .inside, at-busy (s .pre .0))
+
+held-count-requires : tie.Need-held-count-requires
+held-count-requires c κs =
+    let s = c .before .before .before .before .before .before .before .before .before in
+    (encoded-canonical _ _ (c .before .before .before .settle .ensures), s .pre .0 .inside)
 
 found-trees-requires : tie.Need-found-trees-requires
 found-trees-requires c κs =
-    let h = c .before .before .before .before .before .before .before .before .before .before .before .pre .0 in
-    let k = c .before .before .before .settle .ensures in
-    (still-held h k, count-there h k (c .before .before .before .before .before .held-count .ensures))
+    let settle = c .before .before .before .before .before .settle in
+    let held-count = c .before .held-count in
+    let s = c .before .before .before .before .before .before .before .before .before .before .before in
+    (still-held (s .pre .0) (settle .ensures), held-count .ensures)
 
 clear-thread-requires : tie.Need-clear-thread-requires
 clear-thread-requires c κs =
     let k = c .before .before .before .found-trees .ensures .1 in
-    let settle = c .before .before .before .before .before .before .before .settle in
+    let held-count = c .before .before .before .before .before .held-count in
+    let settle = c .before .before .before .before .before .before .before .before .before .settle in
     let h = c .before .before .before .before .before .before .before .before .before .before .before .before .before .before .before
     .pre .0 in
-    (encoded-canonical _ _ k, h .inside, still-busy h (settle .ensures) k)
+    (encoded-canonical _ _ k, h .inside, still-busy h (settle .ensures) k, count-still h (settle .ensures) k (held-count .ensures))
 
 returns : tie.Need-returns
 returns c =
     let clear-thread = c .before .before .clear-thread in
     let f = c .before .before .before .before .before .before .found-trees .ensures in
-    let k = c .before .before .before .before .before .before .before .before .before .before .settle .ensures in
+    let k = c .before .before .before .before .before .before .before .before .before .before .before .before .settle .ensures in
     let s = c .before .before .before .before .before .before .before .before .before .before .before .before .before .before .before
     .before .before .before in
     let a = s .args in
@@ -59,8 +61,8 @@ pub leave-spec : {M : Type 1} → statement M
 leave-spec =
     tie.close
     (tie.spec
-    held-count-requires
     settle-requires
+    held-count-requires
     found-trees-requires
     clear-thread-requires
     (λ c. search needs)

@@ -1,9 +1,10 @@
 use mathlib.Core.Path.{refl}
+use native.Mathlib.Omega.{arith}
 use Rattle.rules.specs.declared.statement.Statement.the-variants.{SendTree}
 use Rattle.encoding.specs.Encoded.{encoded-canonical}
 use Rattle.operands.specs.Gathered.{zeros-stay}
 use Rattle.step_ready.specs.At.{label-B, small}
-use Rattle.founding.specs.Held.{still-busy, few-still, held-stepped}
+use Rattle.founding.specs.Held.{still-busy, count-still, held-stepped}
 use borrow.Author.Needs.{needs}
 use Rattle.founding.proofs.hold_for_tree.Statement.{statement}
 use Rattle.founding.proofs.hold_for_tree.Tie as tie
@@ -27,7 +28,8 @@ hold-requires c κs =
       encoded-canonical _ _ (go-on .ensures .1),
       h .inside,
       still-busy h (s .pre .1) (s .args .values) given moved,
-      few-still h (s .pre .1) (s .args .values) given moved (s .pre .3),
+      count-still h (s .pre .1) (s .args .values) given moved (s .pre .3),
+      s .pre .4,
       record { few = rw n (given .few); zeros = rw n (zeros-stay given refl) },
     )
 
@@ -41,7 +43,7 @@ returns c =
     let s = c .before .before .before .before .before .before .before .before .before .before .before .before .before .before .before in
     let moved = rw (label-b .ensures) at (go-on .ensures .1) in
     let held = rw (label-a .ensures, operand-count .ensures) at (hold .ensures) in
-    held-stepped (s .pre .0) (s .pre .1) (s .args .values) (s .pre .2) (s .pre .3) moved held (go-on .ensures .0)
+    held-stepped (s .pre .0) (s .pre .1) (s .args .values) (s .pre .2) (omega (arith, s .pre .3, s .pre .4)) moved held (go-on .ensures .0)
 
 pub hold-for-tree-spec : {M : Type 1} → statement M
 hold-for-tree-spec =

@@ -1,5 +1,5 @@
 use mathlib.Core.Path.{_≡_}
-use Prim.Native.Nat.{_≤_, _<_}
+use Prim.Native.Nat.{_≤_}
 use native.Mathlib.Omega.{arith}
 use lib.ListN.{length}
 use Rattle.rules.specs.Sizes.{heldCount}
@@ -44,9 +44,13 @@ hold-for-tree-requires : tie.Need-hold-for-tree-requires
 hold-for-tree-requires c κs =
     let s = c .before .before .before .before .before .before .before .before .before .before .before .before in
     let free : c .before .before .before .before .before .read-data .result ≡ 0 = c .before .before .before .before .if1 .left in
-    let m = machineFrom (s .args .state .now) in
-    let l : length (heldAt m (s .args .t .0)) < heldCount = omega (arith, c .before .before .held-count .ensures, c .before .if2 .left) in
-    (s .pre .0, s .pre .1, rw free at (c .before .before .before .before .before .read-data .ensures), l)
+    let held-count = c .before .before .held-count in (
+      s .pre .0,
+      s .pre .1,
+      rw free at (c .before .before .before .before .before .read-data .ensures),
+      held-count .ensures,
+      omega (arith, c .before .if2 .left),
+    )
 
 pub send-tree-spec : {M : Type 1} → statement M
 send-tree-spec =
