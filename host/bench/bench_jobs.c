@@ -70,6 +70,18 @@ void bench_founder_image(uint8_t *image, size_t records)
     put_routines(image, records, founder, sizeof founder / sizeof founder[0]);
 }
 
+void bench_send_image(uint8_t *image, size_t records, uint8_t values)
+{
+    struct statement send = {0, PLEX_EXTERNAL, PLEX_SEND_DIRECT, 0, 0, 0, values, {NUMBER(0)}};
+    for (uint8_t i = 0; i < values; i++)
+        send.operands[i] = (struct operand)REGISTER(i);
+    for (size_t label = 0; label < records; label++) {
+        send.a = (uint16_t)(label + 1 < records ? label + 1 : 1);
+        put_statement(image + PLEX_RECORD_SIZE * label, &send);
+        send.entry = PLEX_DIRECT;
+    }
+}
+
 void bench_job_table(uint8_t *table)
 {
     for (uint32_t block = 0; block < PLEX_BLOCKS; block++) {
@@ -89,6 +101,19 @@ void bench_job_events(uint8_t *events, size_t count, size_t records)
         else
             put_step(events + PLEX_EVENT_SIZE * i, turn % PLEX_THREADS);
     }
+}
+
+void bench_send_start(uint8_t *events, uint8_t values)
+{
+    static const uint16_t numbers[PLEX_REGISTERS] = {300, 7, 5};
+    put_arrival(events, 0, numbers, values);
+    put_step(events + PLEX_EVENT_SIZE, 0);
+}
+
+void bench_send_events(uint8_t *events, size_t count)
+{
+    for (size_t i = 0; i < count; i++)
+        put_step(events + PLEX_EVENT_SIZE * i, 0);
 }
 
 void bench_ring_image(uint8_t *image, size_t records)

@@ -11,6 +11,9 @@ void bench_job_image(uint8_t *image, size_t records);
 /* As many: jobs that hold two signals at their EXIT, and the jobs of the trees that these found. */
 void bench_founder_image(uint8_t *image, size_t records);
 
+/* 2 records or more: a job that does nothing but direct SENDs of so many values, without end. */
+void bench_send_image(uint8_t *image, size_t records, uint8_t values);
+
 /* Two blocks a thread, all CMX. */
 void bench_job_table(uint8_t *table);
 
@@ -18,6 +21,12 @@ void bench_job_table(uint8_t *table);
  * as do the jobs of the signals that it sends; from a fresh machine they leave no thread running and
  * no tree, and the same words each time. A single event is a step without work. */
 void bench_job_events(uint8_t *events, size_t count, size_t records);
+
+/* For an image of bench_send_image with as many values: 2 events that start its job on thread 0, and
+ * so many that each do one SEND. */
+enum { SEND_START_EVENTS = 2 };
+void bench_send_start(uint8_t *events, uint8_t values);
+void bench_send_events(uint8_t *events, size_t count);
 
 /* A multiple of 16 records, up to 512: each of 8 blocks sends to the next one's second record. */
 void bench_ring_image(uint8_t *image, size_t records);

@@ -140,6 +140,14 @@ static void prepare_idle(const struct bench_row *row)
     begin_state();
 }
 
+/* The events so far made are carried out by the plain engine; the row begins with what they leave. */
+static void begin_after_events(void)
+{
+    plain_fresh(IMAGE, TABLE, WORDS, STATE(by_plain));
+    plain_run(IMAGE, TABLE, STATE(by_plain), EVENTS, ANSWERS(by_plain));
+    by_plex = by_plain;
+}
+
 /* Thread 0 waits for 1, 1 for 2, and so on to 7, which waits for 0. */
 static void prepare_ring(const struct bench_row *row)
 {
@@ -148,9 +156,35 @@ static void prepare_ring(const struct bench_row *row)
     bench_ring_table(work.table);
     bench_ring_events(work.events);
     work.event_count = RING_EVENTS;
-    plain_fresh(IMAGE, TABLE, WORDS, STATE(by_plain));
-    plain_run(IMAGE, TABLE, STATE(by_plain), EVENTS, ANSWERS(by_plain));
-    by_plex = by_plain;
+    begin_after_events();
+}
+
+/* Each event is a direct SEND of so many values. */
+static void prepare_sends(const struct bench_row *row, uint8_t values)
+{
+    begin(row);
+    bench_send_image(work.image, row->records, values);
+    bench_job_table(work.table);
+    bench_send_start(work.events, values);
+    work.event_count = SEND_START_EVENTS;
+    begin_after_events();
+    bench_send_events(work.events, row->events);
+    work.event_count = row->events;
+}
+
+static void prepare_sends_of_0(const struct bench_row *row)
+{
+    prepare_sends(row, 0);
+}
+
+static void prepare_sends_of_3(const struct bench_row *row)
+{
+    prepare_sends(row, 3);
+}
+
+static void prepare_sends_of_25(const struct bench_row *row)
+{
+    prepare_sends(row, PLEX_REGISTERS);
 }
 
 /* Two guests with every sort of statement, in blocks of their own. */
@@ -194,6 +228,9 @@ const struct bench_row bench_rows[] = {
     {"run, 512 records", 512, 64, FULL_RUN_PLOT, RUN},
     {"run, 512 records", 512, 256, FULL_RUN_PLOT, RUN},
     {"run, 512 records", 512, 1024, FULL_RUN_PLOT, RUN},
+    {"run, SEND of 0 values", 16, 1024, NO_PLOT, prepare_sends_of_0, plex_run_call, plain_run_call},
+    {"run, SEND of 3 values", 16, 1024, NO_PLOT, prepare_sends_of_3, plex_run_call, plain_run_call},
+    {"run, SEND of 25 values", 16, 1024, NO_PLOT, prepare_sends_of_25, plex_run_call, plain_run_call},
     {"run, new trees", 16, 1024, NO_PLOT, prepare_founders, plex_run_call, plain_run_call},
 };
 const size_t bench_row_count = sizeof bench_rows / sizeof bench_rows[0];

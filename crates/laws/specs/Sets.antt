@@ -26,13 +26,13 @@ bit-lt n l = omega arith
 bit-zero : (l : ℕ) → bit 0 l ≡ 0
 bit-zero l = rw (div-eq-of-lt (pow-pos l))
 
-bit-same : (l : ℕ) → bit (2 ^ l) l ≡ 1
+pub bit-same : (l : ℕ) → bit (2 ^ l) l ≡ 1
 bit-same l = let e : 2 ^ l / 2 ^ l ≡ 1 = rw one-mul at (shl-shr 1 l) in rw e
 
 high-bit : (k l : ℕ) → 2 ^ (suc k + l) / 2 ^ l % 2 ≡ 0
 high-bit k l = rw (pow-add 2 (suc k) l, shl-shr (2 ^ suc k) l, ← one-mul (2 ^ suc k)) (shifted-even 1 k)
 
-bit-other : (l m : ℕ) → l ≢ m → bit (2 ^ m) l ≡ 0
+pub bit-other : (l m : ℕ) → l ≢ m → bit (2 ^ m) l ≡ 0
 bit-other l m h = go (decLt m l)
   where
     go : Dec (m < l) → 2 ^ m / 2 ^ l % 2 ≡ 0

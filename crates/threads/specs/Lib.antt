@@ -2,4 +2,5 @@ pub mod Bits
 pub mod Registers
 pub mod Returns
 pub mod Threads
+pub mod Filling
 pub mod Records

@@ -8,6 +8,7 @@ ghost use lib.Bits.{bitOr};
 ghost use lib.ListN.{set, take};
 ghost use Rattle.rules.specs.Machine.{job};
 ghost use Rattle.rules.specs.Sizes.{registerCount};
+ghost use Rattle.threads.specs.Bits.{withBit};
 ghost use Rattle.threads.specs.Threads.{Running, Runs, returnsOf, registersOf, filled, ZerosAfter};
 
 // A presence bit set.
@@ -26,6 +27,15 @@ pub fn low(count: u8) -> u32
     (1u32 << count) - 1
 }
 
+// A presence set with one register's bit as in another.
+fn with_bit(present: u32, other: u32, register: usize) -> u32
+    requires { ⌜ register < registerCount ⌝ }
+    ensures { λ r. ⌜ r ≡ withBit register other present ⌝ }
+{
+    let bit = 1u32 << register;
+    ((present | bit) ^ bit) | (other & bit)
+}
+
 impl ThreadState {
     // Every register is set, with its presence bit: the first of the values in registers 0 upward, the others absent and zero. No bit of
     // the presence set that came stays, and bits 25 to 31 are zero.
@@ -33,8 +43,18 @@ impl ThreadState {
         requires { ⌜ (count ≤ registerCount) × ZerosAfter count values ⌝ }
         ensures { λ r. ⌜ r ≡ filled self (take count values) ⌝ }
     {
-        self.present = low(count);
-        self.registers = values;
+        let given = low(count);
+        let mut present = self.present;
+        let mut registers = self.registers;
+        let mut i = 0;
+        // After i turns registers 0 to i - 1 are final, and the others, presence bits too, as they came.
+        while i < Thread::REGISTERS {
+            registers[i] = values[i];
+            present = with_bit(present, given, i);
+            i += 1;
+        }
+        self.present = present & low(Thread::REGISTERS as u8);
+        self.registers = registers;
         self
     }
 
