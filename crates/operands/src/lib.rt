@@ -115,9 +115,12 @@ pub fn read_data(
     ensures { λ reason. ⌜ Reads (readAll (cellsOf (now (state .entry)) w (now (r .entry))) (dataOf (now (r .entry)))) reason
         (operands (now (r .entry))) (now (values .entry)) (now (values .exit)) ⌝ }
 {
+    let n = wide(operand_count(r));
+    if n == 0 {
+        return 0;
+    }
     let block = block_field(r);
     let registers = w.registers;
-    let n = wide(operand_count(r));
     let mut k = 0;
     while k < n {
         match read_place(state, block, &registers, w.present, r, k) {
