@@ -44,7 +44,7 @@ extern "C" {
 
 /* ---- Versions: of the library and its papers, and of the formats. The latter is raised by each
  * change of a format; no buffer holds it, so a host notes it beside the bytes that it keeps. */
-#define PLEX_VERSION "0.4.0"
+#define PLEX_VERSION "0.4.1"
 #define PLEX_FORMAT_VERSION 2
 
 /* ---- Limits. */
