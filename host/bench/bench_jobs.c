@@ -70,18 +70,6 @@ void bench_founder_image(uint8_t *image, size_t records)
     put_routines(image, records, founder, sizeof founder / sizeof founder[0]);
 }
 
-void bench_send_image(uint8_t *image, size_t records, uint8_t values)
-{
-    struct statement send = {0, PLEX_EXTERNAL, PLEX_SEND_DIRECT, 0, 0, 0, values, {NUMBER(0)}};
-    for (uint8_t i = 0; i < values; i++)
-        send.operands[i] = (struct operand)REGISTER(i);
-    for (size_t label = 0; label < records; label++) {
-        send.a = (uint16_t)(label + 1 < records ? label + 1 : 1);
-        put_statement(image + PLEX_RECORD_SIZE * label, &send);
-        send.entry = PLEX_DIRECT;
-    }
-}
-
 void bench_job_table(uint8_t *table)
 {
     for (uint32_t block = 0; block < PLEX_BLOCKS; block++) {
@@ -100,6 +88,18 @@ void bench_job_events(uint8_t *events, size_t count, size_t records)
             put_arrival(events + PLEX_EVENT_SIZE * i, ROUTINE * turn, values, 3);
         else
             put_step(events + PLEX_EVENT_SIZE * i, turn % PLEX_THREADS);
+    }
+}
+
+void bench_send_image(uint8_t *image, size_t records, uint8_t values)
+{
+    struct statement send = {0, PLEX_EXTERNAL, PLEX_SEND_DIRECT, 0, 0, 0, values, {NUMBER(0)}};
+    for (uint8_t i = 0; i < values; i++)
+        send.operands[i] = (struct operand)REGISTER(i);
+    for (size_t label = 0; label < records; label++) {
+        send.a = (uint16_t)(label + 1 < records ? label + 1 : 1);
+        put_statement(image + PLEX_RECORD_SIZE * label, &send);
+        send.entry = PLEX_DIRECT;
     }
 }
 

@@ -1,4 +1,4 @@
-/* Images and event lists whose jobs do every sort of statement, the same in every run. */
+/* Images and event lists of jobs for Run and the walk, the same in every run. */
 #ifndef BENCH_JOBS_H
 #define BENCH_JOBS_H
 
@@ -11,9 +11,6 @@ void bench_job_image(uint8_t *image, size_t records);
 /* As many: jobs that hold two signals at their EXIT, and the jobs of the trees that these found. */
 void bench_founder_image(uint8_t *image, size_t records);
 
-/* 2 records or more: a job that does nothing but direct SENDs of so many values, without end. */
-void bench_send_image(uint8_t *image, size_t records, uint8_t values);
-
 /* Two blocks a thread, all CMX. */
 void bench_job_table(uint8_t *table);
 
@@ -21,6 +18,9 @@ void bench_job_table(uint8_t *table);
  * as do the jobs of the signals that it sends; from a fresh machine they leave no thread running and
  * no tree, and the same words each time. A single event is a step without work. */
 void bench_job_events(uint8_t *events, size_t count, size_t records);
+
+/* 2 records or more: a job that does nothing but direct SENDs of so many values, without end. */
+void bench_send_image(uint8_t *image, size_t records, uint8_t values);
 
 /* For an image of bench_send_image with as many values: 2 events that start its job on thread 0, and
  * so many that each do one SEND. */

@@ -3,22 +3,35 @@
 use mathlib.Core.Path.{_≡_, refl, sym, ap, _∙_}
 use mathlib.Core.Logic.{_≢_}
 use mathlib.Core.Bool.{true, false, _||_, or-true, or-false}
-use Prim.Native.Nat.{ℕ, suc, _+_, _-_, _/_, _%_, _^_, max, _<_}
+use Prim.Native.Nat.{ℕ, zero, suc, _+_, _-_, _/_, _%_, _^_, min, max, _<_}
 use native.Mathlib.Nat.{one-mul, div-eq-of-lt}
 use native.Mathlib.Decide.{decLt, ℕ-discrete}
 use native.Mathlib.Omega.{arith}
 use lib.Dec.{eqb}
 use lib.Pow.{pow-lt, pow-pos, pow-add, shl-shr}
 use borrow.Author.Tests.{eq-eqb, ne-eqb}
-use lib.Bits.{bitOr, or-shr, or-step, shifted-even}
+use lib.Bits.{bitAnd, bitOr, bitXor, differ, and-shr, and-step, or-shr, or-step, xor-shr, xor-step, shifted-even}
 use Rattle.rules.specs.Bytes.{has}
 
 -- bit l of a number
 abbrev bit : ℕ → ℕ → ℕ
 bit n l = n / 2 ^ l % 2
 
+pub bit-and : (a b l : ℕ) → bit (bitAnd a b) l ≡ min (bit a l) (bit b l)
+bit-and a b l = rw (and-shr a b l) (omega (arith, and-step (a / 2 ^ l) (b / 2 ^ l)))
+
 pub bit-or : (a b l : ℕ) → bit (bitOr a b) l ≡ max (bit a l) (bit b l)
 bit-or a b l = rw (or-shr a b l) (omega (arith, or-step (a / 2 ^ l) (b / 2 ^ l)))
+
+differ-lt : (x y : ℕ) → x < 2 → y < 2 → differ x y < 2
+differ-lt zero y h k = k
+differ-lt (suc x) zero h k = h
+differ-lt (suc x) (suc y) h k = differ-lt x y (omega arith) (omega arith)
+
+pub bit-xor : (a b l : ℕ) → bit (bitXor a b) l ≡ differ (bit a l) (bit b l)
+bit-xor a b l =
+    rw (xor-shr a b l)
+    (omega (arith, xor-step (a / 2 ^ l) (b / 2 ^ l), differ-lt (bit a l) (bit b l) (omega arith) (omega arith)))
 
 bit-lt : (n l : ℕ) → bit n l < 2
 bit-lt n l = omega arith
@@ -41,10 +54,10 @@ bit-other l m h = go (decLt m l)
         let e : m ≡ suc (m - l - 1) + l = omega arith in
         ap (λ n. 2 ^ n / 2 ^ l % 2) e ∙ high-bit (m - l - 1) l
 
-or-same : (a l : ℕ) → bit (bitOr a (2 ^ l)) l ≡ 1
+pub or-same : (a l : ℕ) → bit (bitOr a (2 ^ l)) l ≡ 1
 or-same a l = omega (arith, bit-or a (2 ^ l) l, bit-same l, bit-lt a l)
 
-or-other : (a l m : ℕ) → l ≢ m → bit (bitOr a (2 ^ m)) l ≡ bit a l
+pub or-other : (a l m : ℕ) → l ≢ m → bit (bitOr a (2 ^ m)) l ≡ bit a l
 or-other a l m h = omega (arith, bit-or a (2 ^ m) l, bit-other l m h)
 
 pub has-none : (l : ℕ) → has l 0 ≡ false

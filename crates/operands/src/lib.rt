@@ -116,6 +116,7 @@ pub fn read_data(
         (operands (now (r .entry))) (now (values .entry)) (now (values .exit)) ⌝ }
 {
     let n = wide(operand_count(r));
+    // Without data the registers need not be copied to where they can be indexed.
     if n == 0 {
         return 0;
     }

@@ -1,15 +1,15 @@
--- The set of the low bits, a set joined with it, a set with one bit as in another, and sets with the same bits.
+-- The set of the low bits, a set joined with it, a set with one bit as in another, and sets with the same low bits.
 use mathlib.Core.Path.{_≡_, refl, sym, ap, _∙_}
 use mathlib.Core.Logic.{_≢_}
 use mathlib.Core.Bool.{true, false, cond}
-use Prim.Native.Nat.{ℕ, zero, suc, _+_, _*_, _-_, _/_, _%_, _^_, min, _≤_, _<_}
+use Prim.Native.Nat.{ℕ, zero, suc, _+_, _*_, _-_, _/_, _%_, _^_, _≤_, _<_}
 use native.Mathlib.Nat.{div-eq-of-lt, pow-suc, mod-one}
 use native.Mathlib.Omega.{arith}
-use lib.Bits.{bitAnd, bitOr, bitXor, differ, and-shr, and-step, xor-shr, xor-step}
+use lib.Bits.{bitAnd, bitOr, bitXor, differ}
 use lib.Dec.{eqb}
 use lib.Pow.{pow-mono, pow-pos, high, mod-pow-add, ones-lt, ones-split}
 use Rattle.rules.specs.Bytes.{has}
-use Rattle.laws.specs.Sets.{bit-or, bit-same, bit-other}
+use Rattle.laws.specs.Sets.{bit-and, bit-or, bit-xor, bit-same, bit-other, or-same, or-other}
 
 pub ones-bit : (i k : ℕ) → i < k → (2 ^ k - 1) / 2 ^ i % 2 ≡ 1
 ones-bit i k h =
@@ -41,27 +41,13 @@ has-or-high p k i h = let e : bitOr p (2 ^ k - 1) / 2 ^ i % 2 ≡ p / 2 ^ i % 2 
 
 -- ---- one bit as in another set
 
-bit-and : (a b l : ℕ) → bitAnd a b / 2 ^ l % 2 ≡ min (a / 2 ^ l % 2) (b / 2 ^ l % 2)
-bit-and a b l = rw (and-shr a b l) (omega (arith, and-step (a / 2 ^ l) (b / 2 ^ l)))
-
-differ-lt : (x y : ℕ) → x < 2 → y < 2 → differ x y < 2
-differ-lt zero y h k = k
-differ-lt (suc x) zero h k = h
-differ-lt (suc x) (suc y) h k = differ-lt x y (omega arith) (omega arith)
-
-bit-xor : (a b l : ℕ) → bitXor a b / 2 ^ l % 2 ≡ differ (a / 2 ^ l % 2) (b / 2 ^ l % 2)
-bit-xor a b l =
-    rw (xor-shr a b l)
-    (omega (arith, xor-step (a / 2 ^ l) (b / 2 ^ l), differ-lt (a / 2 ^ l % 2) (b / 2 ^ l % 2) (omega arith) (omega arith)))
-
 -- p with bit r as in q
 abbrev pub withBit : ℕ → ℕ → ℕ → ℕ
 withBit r q p = bitOr (bitXor (bitOr p (2 ^ r)) (2 ^ r)) (bitAnd q (2 ^ r))
 
 pub with-bit-same : (r q p : ℕ) → has r (withBit r q p) ≡ has r q
 with-bit-same r q p =
-    let o : bitOr p (2 ^ r) / 2 ^ r % 2 ≡ 1 = omega (arith, bit-or p (2 ^ r) r, bit-same r) in
-    let x : bitXor (bitOr p (2 ^ r)) (2 ^ r) / 2 ^ r % 2 ≡ 0 = bit-xor (bitOr p (2 ^ r)) (2 ^ r) r ∙ rw (o, bit-same r) in
+    let x : bitXor (bitOr p (2 ^ r)) (2 ^ r) / 2 ^ r % 2 ≡ 0 = bit-xor (bitOr p (2 ^ r)) (2 ^ r) r ∙ rw (or-same p r, bit-same r) in
     let e : withBit r q p / 2 ^ r % 2 ≡ q / 2 ^ r % 2 =
     omega (arith, bit-or (bitXor (bitOr p (2 ^ r)) (2 ^ r)) (bitAnd q (2 ^ r)) r, bit-and q (2 ^ r) r, bit-same r) in
     rw e
@@ -69,9 +55,8 @@ with-bit-same r q p =
 pub with-bit-other : (l r q p : ℕ) → l ≢ r → has l (withBit r q p) ≡ has l p
 with-bit-other l r q p h =
     let z : 2 ^ r / 2 ^ l % 2 ≡ 0 = bit-other l r h in
-    let o : bitOr p (2 ^ r) / 2 ^ l % 2 ≡ p / 2 ^ l % 2 = omega (arith, bit-or p (2 ^ r) l) in
     let x : bitXor (bitOr p (2 ^ r)) (2 ^ r) / 2 ^ l % 2 ≡ p / 2 ^ l % 2 = bit-xor (bitOr p (2 ^ r)) (2 ^ r) l
-    ∙ rw (z, o) (differ-zero _) in
+    ∙ rw (z, or-other p l r h) (differ-zero _) in
     let e : withBit r q p / 2 ^ l % 2 ≡ p / 2 ^ l % 2 =
     omega (arith, bit-or (bitXor (bitOr p (2 ^ r)) (2 ^ r)) (bitAnd q (2 ^ r)) l, bit-and q (2 ^ r) l) in
     rw e
@@ -80,17 +65,18 @@ with-bit-other l r q p h =
     differ-zero zero = refl
     differ-zero (suc x) = refl
 
--- ---- numbers with the same low bits
+-- ---- sets with the same low bits
 
-told : (x : ℕ) → x < 2 → x ≡ cond (eqb x 1) 1 0
-told zero h = refl
-told (suc zero) h = refl
-told (suc (suc x)) h = absurd (omega arith)
+bit-as-test : (x : ℕ) → x < 2 → x ≡ cond (eqb x 1) 1 0
+bit-as-test zero h = refl
+bit-as-test (suc zero) h = refl
+bit-as-test (suc (suc x)) h = absurd (omega arith)
 
 pub same-bits : (n a b : ℕ) → ((r : ℕ) → r < n → has r a ≡ has r b) → a % 2 ^ n ≡ b % 2 ^ n
 same-bits zero a b h = mod-one a ∙ sym (mod-one b)
 same-bits (suc n) a b h =
     let e : a / 2 ^ n % 2 ≡ b / 2 ^ n % 2 =
-    told (a / 2 ^ n % 2) (omega arith) ∙ ap (λ t. cond t 1 0) (h n (omega arith)) ∙ sym (told (b / 2 ^ n % 2) (omega arith)) in
+    bit-as-test (a / 2 ^ n % 2) (omega arith) ∙ ap (λ t. cond t 1 0) (h n (omega arith))
+    ∙ sym (bit-as-test (b / 2 ^ n % 2) (omega arith)) in
     let s : suc n ≡ 1 + n = omega arith in
     rw s (mod-pow-add a 1 n ∙ rw (e, same-bits n a b (λ r k. h r (omega arith))) (sym (mod-pow-add b 1 n)))

@@ -16,12 +16,12 @@ use Rattle.threads.specs.declared.thread.ThreadState.{ThreadState}
 
 -- what i turns leave of the values and of the presence set that came: each turn sets one register, with its presence bit
 unfoldable pub valuesAfter : ℕ → List ℕ → List ℕ → List ℕ
-valuesAfter zero values came = came
-valuesAfter (suc i) values came = set (valuesAfter i values came) i (getD values i 0)
+valuesAfter zero final came = came
+valuesAfter (suc i) final came = set (valuesAfter i final came) i (getD final i 0)
 
 unfoldable pub presentAfter : ℕ → ℕ → ℕ → ℕ
-presentAfter zero present came = came
-presentAfter (suc i) present came = withBit i present (presentAfter i present came)
+presentAfter zero final came = came
+presentAfter (suc i) final came = withBit i final (presentAfter i final came)
 
 -- register r, its presence bit too, is as in thread w
 pub record RegisterAs (w : ThreadState) (r present : ℕ) (values : List ℕ) : Type 0 where
@@ -58,10 +58,10 @@ next-turn i came final present values h turned = record {
     }
     go r k (no e) = other r e (turned .done r (omega arith))
 
-pub length-after : (i : ℕ) (values came : List ℕ) → length (valuesAfter i values came) ≡ length came
+pub length-after : (i : ℕ) (final came : List ℕ) → length (valuesAfter i final came) ≡ length came
 unfolding valuesAfter
-length-after zero values came = refl
-length-after (suc i) values came = length-set (valuesAfter i values came) i (getD values i 0) ∙ length-after i values came
+length-after zero final came = refl
+length-after (suc i) final came = length-set (valuesAfter i final came) i (getD final i 0) ∙ length-after i final came
 
 -- the loop's own fact: after any i of its 25 turns registers 0 to i - 1 are final, and the others, presence bits too, as they came
 pub after-turns : (came final : ThreadState) → length (came .registers) ≡ registerCount → (i : ℕ) → i ≤ registerCount
@@ -85,8 +85,7 @@ module _ {came final : ThreadState} {present : ℕ} {values : List ℕ} (turned 
 
 -- ---- the final registers
 
-module _ (w : ThreadState) (count : ℕ) (values : List ℕ) (few : count ≤ registerCount) (zeros : ZerosAfter count values)
-    (sized : length values ≡ registerCount) where
+module _ (w : ThreadState) (count : ℕ) (values : List ℕ) (few : count ≤ registerCount) (sized : length values ≡ registerCount) where
   counted : length (take count values) ≡ count
   counted = length-take-le count values (omega arith)
 
@@ -94,6 +93,6 @@ module _ (w : ThreadState) (count : ℕ) (values : List ℕ) (few : count ≤ re
   unfolding filled
   filled-present = rw counted
 
-  pub filled-values : filled w (take count values) .registers ≡ values
+  pub filled-values : ZerosAfter count values → filled w (take count values) .registers ≡ values
   unfolding filled
-  filled-values = sym (pad-split 0 registerCount (take count values) (omega (arith, counted))) ∙ zeros
+  filled-values zeros = sym (pad-split 0 registerCount (take count values) (omega (arith, counted))) ∙ zeros

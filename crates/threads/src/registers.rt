@@ -53,6 +53,7 @@ impl ThreadState {
             present = with_bit(present, given, i);
             i += 1;
         }
+        // Bits 25 to 31 are no register's.
         self.present = present & low(Thread::REGISTERS as u8);
         self.registers = registers;
         self

@@ -26,15 +26,15 @@ abbrev μ-loop : tie.MeasureT-loop
 sized : (c : tie.Start Inv-loop μ-loop) → length (c .args .t2) ≡ registerCount
 sized c = search needs
 
-kept : (c : tie.Start Inv-loop μ-loop) → length (c .args .self .registers) ≡ registerCount
-kept c = search needs
+came-sized : (c : tie.Start Inv-loop μ-loop) → length (c .args .self .registers) ≡ registerCount
+came-sized c = search needs
 
 final-present : (c : tie.Start Inv-loop μ-loop)
     → filled (c .args .self) (take (c .args .count) (c .args .t2)) .present ≡ 2 ^ c .args .count - 1
-final-present c = filled-present (c .args .self) (c .args .count) (c .args .t2) (c .pre .0) (c .pre .1) (sized c)
+final-present c = filled-present (c .args .self) (c .args .count) (c .args .t2) (c .pre .0) (sized c)
 
 final-values : (c : tie.Start Inv-loop μ-loop) → filled (c .args .self) (take (c .args .count) (c .args .t2)) .registers ≡ c .args .t2
-final-values c = filled-values (c .args .self) (c .args .count) (c .args .t2) (c .pre .0) (c .pre .1) (sized c)
+final-values c = filled-values (c .args .self) (c .args .count) (c .args .t2) (c .pre .0) (sized c) (c .pre .1)
 
 loop-holds : tie.Need-loop-holds Inv-loop μ-loop
 unfolding presentAfter valuesAfter
@@ -47,7 +47,7 @@ loop-again c =
     let l = c .before .before .loop in (
       omega arith,
       rw (add-one, c .with-bit .ensures, c .before .before .before .before .low .ensures, l .inv .1, final-present s),
-      rw (add-one, l .inv .2, final-values s),
+      rw (add-one, ← l .inv .2, final-values s),
     )
 
 returns : tie.Need-returns Inv-loop μ-loop
@@ -59,11 +59,11 @@ returns c =
     let l = c .before .before .loop in
     let e : l .i ≡ registerCount = omega arith in
     let turned : Turned registerCount w f (l .present) (l .registers) =
-    rw (l .inv .1, l .inv .2, e) (after-turns w f (kept s) registerCount (omega arith)) in
+    rw (l .inv .1, l .inv .2, e) (after-turns w f (came-sized s) registerCount (omega arith)) in
     let small : f .present < 2 ^ registerCount = rw (final-present s) (omega (arith, pow-mono (s .pre .0), pow-pos (s .args .count))) in
     let p : bitAnd (l .present) (c .low2 .result) ≡ f .present =
     rw (c .low2 .ensures) (and-mask (l .present) registerCount ∙ turned-present turned ∙ mod-eq-of-lt small) in
-    let r : l .registers ≡ f .registers = turned-values turned (rw (l .inv .2) (length-after _ _ _ ∙ kept s))
+    let r : l .registers ≡ f .registers = turned-values turned (rw (l .inv .2) (length-after _ _ _ ∙ came-sized s))
     (rw (final-values s) (sized s)) in
     λ i. record { present = p i; label = w .label; locks = w .locks; depth = w .depth; returns = w .returns; registers = r i }
 
