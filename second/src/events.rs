@@ -3,7 +3,7 @@
 use crate::bytes::Reader;
 use crate::image::{Entry, Program};
 use crate::refusal::Refusal;
-use crate::sorts::{Block, Thread};
+use crate::sorts::{Lock, Thread};
 use crate::tree::Signal;
 
 #[derive(Clone, Debug)]
@@ -75,7 +75,7 @@ pub enum Answer {
     Arrived,
     ListFull,
     NoWork,
-    Waiting(Block),
+    Waiting(Lock),
     Started,
     MovedOn,
     Exited { lost: u8 },
@@ -93,7 +93,7 @@ impl Answer {
             Answer::Arrived => [1, 0],
             Answer::ListFull => [2, 0],
             Answer::NoWork => [3, 0],
-            Answer::Waiting(block) => [4, block.number()],
+            Answer::Waiting(lock) => [4, lock.number()],
             Answer::Started => [5, 0],
             Answer::MovedOn => [6, 0],
             Answer::Exited { lost } => [7, lost],

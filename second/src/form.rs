@@ -25,11 +25,12 @@ fn locks_apart(state: &State) -> bool {
         .all(|(place, job)| jobs[..place].iter().all(|other| !job.locks.meets(other.locks)))
 }
 
-/// The blocks of the label and the return labels are locked, and CMX or the thread's own.
+/// The job holds the locks of its label's and return labels' blocks, and each of
+/// those blocks is CMX or the thread's own.
 fn in_its_blocks(program: &Program, thread: Thread, job: &Job) -> bool {
     job.returns.iter().chain([&job.label]).all(|&label| {
-        let block = program.block(label);
-        job.locks.holds(block.lock()) && program.table.open_to(block, thread)
+        let open = program.table.open_to(program.block(label), thread);
+        open && job.locks.holds(program.lock(label))
     })
 }
 

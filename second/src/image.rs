@@ -2,7 +2,7 @@
 
 use crate::bytes::Reader;
 use crate::refusal::Refusal;
-use crate::sorts::{Block, Label, Thread};
+use crate::sorts::{Block, Label, Lock, Thread};
 use crate::statement::{Fields, Links, Operand, Statement, OPERANDS, OPERAND_WIDTH};
 use crate::table::Table;
 
@@ -113,5 +113,10 @@ impl Program {
     /// The thread of the label's block.
     pub fn thread(&self, label: Label) -> Thread {
         self.table.thread(self.block(label))
+    }
+
+    /// The lock of the label's block.
+    pub fn lock(&self, label: Label) -> Lock {
+        self.table.lock(self.block(label))
     }
 }

@@ -18,6 +18,10 @@ impl LockSet {
         LockSet(self.0 | lock.bit())
     }
 
+    pub fn without(self, lock: Lock) -> LockSet {
+        LockSet(self.0 & !lock.bit())
+    }
+
     pub fn meets(self, other: LockSet) -> bool {
         self.0 & other.0 != 0
     }

@@ -5,7 +5,8 @@ use crate::refusal::Refusal;
 
 /// The first guest's records, then the second's with every label they name
 /// shifted by the first's record count. The guests have no block in common,
-/// so each record still finds its own labels, blocks and entries.
+/// though perhaps a lock, so each record still finds its own labels, blocks and
+/// entries.
 pub fn linked(first: Vec<Record>, second: Vec<Record>) -> Result<Vec<Record>, Refusal> {
     let in_second = |record: &Record| second.iter().any(|other| other.block == record.block);
     if first.iter().any(in_second) {

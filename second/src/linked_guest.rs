@@ -1,6 +1,7 @@
 //! The linked-guest reading (document 02, #101): what a guest has by itself,
 //! as it stands on the linked image. From a fresh machine with the same words
-//! the relocated events get the same answers there and leave the relocated state.
+//! the relocated events get the same answers there and leave the relocated state:
+//! no job of the other guest runs, so none holds a lock that the guests share.
 //!
 //! `by` is the number of records laid before the guest's: 0 for the first
 //! guest, the first's record count for the second. An error is the refusal

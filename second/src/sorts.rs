@@ -1,5 +1,5 @@
 //! The four sorts of number. None stands in for another: a value of one sort
-//! becomes one of another only by the named functions here and in `image`.
+//! becomes one of another only by a named function, mostly of `table` or `image`.
 
 /// The index of a record; it is below the number of records of its image.
 #[derive(Clone, Copy, Debug, PartialEq, Eq)]
@@ -51,11 +51,6 @@ impl Block {
     pub fn index(self) -> usize {
         usize::from(self.0)
     }
-
-    /// Lock b guards block b.
-    pub fn lock(self) -> Lock {
-        Lock(self.0)
-    }
 }
 
 /// A thread number, 0..7.
@@ -88,6 +83,21 @@ impl Thread {
 pub struct Lock(u8);
 
 impl Lock {
+    pub const COUNT: usize = 16;
+
+    pub fn new(number: u8) -> Option<Lock> {
+        (usize::from(number) < Lock::COUNT).then_some(Lock(number))
+    }
+
+    /// Every lock, 0 first.
+    pub fn all() -> impl Iterator<Item = Lock> {
+        (0..).map_while(Lock::new)
+    }
+
+    pub fn number(self) -> u8 {
+        self.0
+    }
+
     /// The set with this lock alone, as bits.
     pub fn bit(self) -> u16 {
         1 << self.0

@@ -4,7 +4,7 @@ use crate::events::{Answer, Event, Trap};
 use crate::image::Program;
 use crate::job::Job;
 use crate::registers::Registers;
-use crate::sorts::{Block, Label, Lock, Thread};
+use crate::sorts::{Label, Lock, Thread};
 use crate::state::State;
 use crate::statement::{Formula, Operand, Place, Statement, Test};
 use crate::tree::{Signal, Tree};
@@ -53,7 +53,7 @@ pub fn step(program: &Program, state: &mut State, thread: Thread) -> Answer {
             state.jobs[thread.index()] = Some(job);
             Answer::MovedOn
         }
-        Err(Stop::Wait(block)) => Answer::Waiting(block),
+        Err(Stop::Wait(lock)) => Answer::Waiting(lock),
         Err(Stop::Exit(held)) => exit(program, state, thread, held),
         Err(Stop::Trap(trap)) => {
             end(program, state, thread);
@@ -78,12 +78,12 @@ fn start(program: &Program, state: &mut State, thread: Thread) -> Answer {
     let Some(place) = state.first_tree(thread) else {
         return Answer::NoWork;
     };
-    let block = program.block(state.trees[place].pending[0].label);
-    if held_by_another(state, block.lock(), thread) {
-        return Answer::Waiting(block);
+    let lock = program.lock(state.trees[place].pending[0].label);
+    if held_by_another(state, lock, thread) {
+        return Answer::Waiting(lock);
     }
     let signal = state.trees[place].pending.remove(0);
-    let job = Job::begun(signal.label, block.lock(), &signal.values);
+    let job = Job::begun(signal.label, lock, &signal.values);
     state.jobs[thread.index()] = Some(job);
     Answer::Started
 }
@@ -103,7 +103,7 @@ fn end(program: &Program, state: &mut State, thread: Thread) {
 
 /// Why a job does not move on.
 enum Stop {
-    Wait(Block),
+    Wait(Lock),
     /// With the signals the job holds.
     Exit(Vec<Signal>),
     Trap(Trap),
@@ -157,7 +157,8 @@ fn advance(program: &Program, state: &mut State, thread: Thread, job: Job) -> Re
 }
 
 /// The end of a direct SEND or a CALL: on to the signal with its block's lock,
-/// the values in the registers.
+/// the values in the registers. A job that holds the lock already, through any
+/// block of the group, does not wait.
 fn enter(
     program: &Program,
     state: &State,
@@ -166,14 +167,14 @@ fn enter(
     signal: Label,
     values: &[u16],
 ) -> Result<Job, Stop> {
-    let block = program.block(signal);
-    if !program.table.open_to(block, thread) {
+    if !program.table.open_to(program.block(signal), thread) {
         return Err(Trap::ForeignBlock.into());
     }
-    if held_by_another(state, block.lock(), thread) {
-        return Err(Stop::Wait(block));
+    let lock = program.lock(signal);
+    if held_by_another(state, lock, thread) {
+        return Err(Stop::Wait(lock));
     }
-    Ok(job.at(signal).taking(block.lock()).with(Registers::filled(values)))
+    Ok(job.at(signal).taking(lock).with(Registers::filled(values)))
 }
 
 /// RETURN takes the newest return label and keeps every lock.

@@ -1,8 +1,8 @@
-//! The block table: the thread and the kind of each block.
+//! The block table: the thread, the kind and the lock of each block.
 
 use crate::bytes::Reader;
 use crate::refusal::Refusal;
-use crate::sorts::{Block, Thread};
+use crate::sorts::{Block, Lock, Thread};
 
 #[derive(Clone, Copy, Debug, PartialEq, Eq)]
 pub enum Kind {
@@ -13,6 +13,7 @@ pub enum Kind {
 struct Row {
     thread: Thread,
     kind: Kind,
+    lock: Lock,
 }
 
 pub struct Table {
@@ -20,7 +21,9 @@ pub struct Table {
 }
 
 impl Table {
-    pub const LENGTH: usize = 2 * Block::COUNT;
+    /// Bytes of one block's row.
+    pub const ROW_WIDTH: usize = 3;
+    pub const LENGTH: usize = Table::ROW_WIDTH * Block::COUNT;
 
     pub fn decode(bytes: &[u8]) -> Result<Table, Refusal> {
         if bytes.len() != Table::LENGTH {
@@ -38,6 +41,11 @@ impl Table {
         self.rows[block.index()].thread
     }
 
+    /// The lock that guards the block, and with it the others of its group.
+    pub fn lock(&self, block: Block) -> Lock {
+        self.rows[block.index()].lock
+    }
+
     /// Whether jobs of this thread may be in the block: it is CMX or its own.
     pub fn open_to(&self, block: Block, thread: Thread) -> bool {
         let row = &self.rows[block.index()];
@@ -47,12 +55,12 @@ impl Table {
 
 impl Row {
     fn read(reader: &mut Reader) -> Option<Row> {
-        let (thread, kind) = (reader.byte(), reader.byte());
+        let (thread, kind, lock) = (reader.byte(), reader.byte(), reader.byte());
         let kind = match kind {
             0 => Kind::Fd,
             1 => Kind::Cmx,
             _ => return None,
         };
-        Some(Row { thread: Thread::new(thread)?, kind })
+        Some(Row { thread: Thread::new(thread)?, kind, lock: Lock::new(lock)? })
     }
 }

@@ -9,7 +9,7 @@ use crate::step::step;
 /// The holder the thread waits for: its next step would be answered waiting.
 fn awaited(program: &Program, state: &State, thread: Thread) -> Option<Thread> {
     match step(program, &mut state.clone(), thread) {
-        Answer::Waiting(block) => state.holder(block.lock()),
+        Answer::Waiting(lock) => state.holder(lock),
         _ => None,
     }
 }

@@ -1,6 +1,7 @@
 //! Damage to what a call is lent. Some damaged calls are still accepted.
 
 use super::events::thread;
+use super::lock_damage::change_locks;
 use super::random::Random;
 use super::Lent;
 use crate::bytes::Writer;
@@ -8,21 +9,24 @@ use crate::calls::MET_LENGTH;
 use crate::events::{Answer, Event};
 use crate::image::{Program, Record};
 use crate::job::Job;
-use crate::sorts::Thread;
+use crate::sorts::{Block, Lock, Thread};
 use crate::state::State;
 use crate::table::Table;
 use crate::tree::{Signal, Tree};
+use std::ops::Range;
 
-/// One edit or a few, each of a byte, a bit, a record, a length or the thread.
+/// One edit or a few, each of a byte, a bit, a record, a lock set, a length or
+/// the thread.
 pub fn damage(random: &mut Random, lent: &mut Lent) {
     for _ in 0..random.one_of([1, 1, 1, 2, 3]) {
-        match random.weighted(&[6, 2, 12, 5, 1, 2, 8]) {
+        match random.weighted(&[6, 4, 12, 4, 5, 1, 2, 8]) {
             0 => change_records(random, &mut lent.image, Record::WIDTH),
-            1 => change_records(random, &mut lent.table, 2),
+            1 => change_table(random, &mut lent.table),
             2 => change_state(random, &mut lent.state, &lent.image),
-            3 => change_records(random, &mut lent.events, Event::WIDTH),
-            4 => change_records(random, &mut lent.words, 2),
-            5 => lent.thread = random.one_of([0, 1, 7, 8, 9, 255, 256, 65_536, u32::MAX]),
+            3 => change_locks(random, &mut lent.state, &lent.image, &lent.table),
+            4 => change_records(random, &mut lent.events, Event::WIDTH),
+            5 => change_records(random, &mut lent.words, 2),
+            6 => lent.thread = random.one_of([0, 1, 7, 8, 9, 255, 256, 65_536, u32::MAX]),
             _ => change_length(random, lent),
         }
     }
@@ -58,10 +62,16 @@ fn change_state(random: &mut Random, state: &mut [u8], image: &[u8]) {
 
 /// Whether the states differ, and in held signals only, with one image and table.
 pub fn only_held_changed(one: &Lent, other: &Lent) -> bool {
+    only_changed(one, other, Job::HELD_START..Job::WIDTH)
+}
+
+/// Whether the states differ, and in these bytes of thread records only, with
+/// one image and table.
+pub fn only_changed(one: &Lent, other: &Lent, bytes: Range<usize>) -> bool {
     let cleared = |state: &[u8]| {
         let mut state = state.to_vec();
         let threads = &mut state[State::WORDS_LENGTH..][..Job::WIDTH * Thread::COUNT];
-        threads.chunks_mut(Job::WIDTH).for_each(|thread| thread[Job::HELD_START..].fill(0));
+        threads.chunks_mut(Job::WIDTH).for_each(|thread| thread[bytes.clone()].fill(0));
         state
     };
     (&one.image, &one.table) == (&other.image, &other.table)
@@ -134,6 +144,19 @@ pub fn change_records(random: &mut Random, bytes: &mut [u8], width: usize) {
     }
 }
 
+/// Changes any row, or the lock of a block, often of the last, to a lock or a
+/// number beyond them.
+pub fn change_table(random: &mut Random, table: &mut [u8]) {
+    if random.once_in(2) {
+        return change_records(random, table, Table::ROW_WIDTH);
+    }
+    let (block, lock) = (random.below(Block::COUNT), random.below(Lock::COUNT) as u8);
+    let block = random.one_of([block, Block::COUNT - 1]);
+    if let Some(row) = table.chunks_exact_mut(Table::ROW_WIDTH).nth(block) {
+        row[2] = random.one_of([lock, 15, 16, 255]);
+    }
+}
+
 /// A byte at or beside a limit, or any.
 fn telling_byte(random: &mut Random) -> u8 {
     let any = random.byte();
@@ -143,7 +166,7 @@ fn telling_byte(random: &mut Random) -> u8 {
 fn change_length(random: &mut Random, lent: &mut Lent) {
     let (bytes, width, limit) = match random.below(7) {
         0 => (&mut lent.image, Record::WIDTH, Program::LENGTH_LIMIT),
-        1 => (&mut lent.table, 2, Table::LENGTH),
+        1 => return resize_table(random, &mut lent.table),
         2 => (&mut lent.words, 2, State::WORDS_LENGTH),
         3 => (&mut lent.state, Tree::WIDTH, State::LENGTH),
         4 => (&mut lent.events, Event::WIDTH, Event::WIDTH * Event::LIMIT),
@@ -160,4 +183,14 @@ pub fn resize(random: &mut Random, bytes: &mut Vec<u8>, width: usize, limit: usi
     let longer = [length + 1, length + width, limit, limit + 1, limit + width];
     let length = if random.once_in(2) { random.one_of(shorter) } else { random.one_of(longer) };
     bytes.resize(length, random.one_of([0, 1]));
+}
+
+/// As `resize` does, or to the length that rows of one byte fewer or more give.
+pub fn resize_table(random: &mut Random, table: &mut Vec<u8>) {
+    if random.once_in(2) {
+        resize(random, table, Table::ROW_WIDTH, Table::LENGTH);
+    } else {
+        let width = random.one_of([Table::ROW_WIDTH - 1, Table::ROW_WIDTH + 1]);
+        table.resize(width * Block::COUNT, 0);
+    }
 }

@@ -1,10 +1,9 @@
 //! Trials that generated machines meet every case of held signals.
 
-use super::trials::begun;
-use super::{damage, only_held_changed, Lent, Random};
+use super::trials::{begun, faults_met};
+use super::{only_held_changed, Lent};
 use crate::events::Event;
 use crate::image::Program;
-use crate::run;
 use crate::state::State;
 use crate::step::carry_out;
 use std::collections::BTreeSet;
@@ -84,24 +83,9 @@ fn signal_fault(image: &[u8], signal: &[u8]) -> Option<&'static str> {
 
 #[test]
 fn damaged_held_signals_have_every_fault_and_are_refused() {
-    let random = &mut Random::new(3);
-    let mut faults = BTreeSet::new();
-    for mut whole in (0..80).map(begun) {
-        let Lent { image, table, state, events, answers, .. } = &mut whole;
-        assert_eq!(run(image, table, state, events, answers), 0);
-        (*events, *answers) = (Vec::new(), Vec::new());
-        for _ in 0..40 {
-            let mut lent = whole.clone();
-            damage(random, &mut lent);
-            if only_held_changed(&whole, &lent) {
-                let mut threads = lent.state[512..2_816].chunks(288);
-                let fault = threads.find_map(|thread| fault(&lent.image, thread));
-                faults.insert(fault.unwrap_or("none"));
-                let Lent { image, table, mut state, events, mut answers, .. } = lent;
-                let code = run(&image, &table, &mut state, &events, &mut answers);
-                assert_eq!(code / 65_536 == 6, fault.is_some());
-            }
-        }
-    }
-    assert_eq!(faults, BTreeSet::from(FAULTS));
+    let first_fault = |lent: &Lent| {
+        let mut threads = lent.state[512..2_816].chunks(288);
+        threads.find_map(|thread| fault(&lent.image, thread))
+    };
+    assert_eq!(faults_met(3, only_held_changed, first_fault), BTreeSet::from(FAULTS));
 }

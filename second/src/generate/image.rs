@@ -1,25 +1,12 @@
-//! Valid images and block tables at random.
+//! Valid images at random.
 
 use super::layout::{layout, Position, Slot};
 use super::operands::Operands;
 use super::random::Random;
 use crate::encode::image_bytes;
 use crate::image::{Entry, Program, Record};
-use crate::sorts::{Block, Label, Thread};
+use crate::sorts::{Block, Label};
 use crate::statement::Statement;
-
-/// A block table: the blocks spread over the threads or drawn to a few of
-/// them, with all, some or no blocks FD.
-pub fn table(random: &mut Random) -> Vec<u8> {
-    let spread = random.once_in(2);
-    let threads = random.between(1, Thread::COUNT);
-    let fd_odds = random.one_of([1, 3, 8, 16, 64, 64, 64, 64]);
-    let row = |block| {
-        let thread = if spread { block % Thread::COUNT } else { random.below(threads) };
-        [thread as u8, u8::from(!random.once_in(fd_odds))]
-    };
-    (0..Block::COUNT).flat_map(row).collect()
-}
 
 /// An image that keeps every rule.
 pub fn image(random: &mut Random) -> Vec<u8> {

@@ -7,17 +7,22 @@ mod events;
 mod held_trials;
 mod image;
 mod layout;
+mod lock_damage;
+#[cfg(test)]
+mod lock_trials;
 mod operands;
 mod pair;
 mod random;
+mod table;
 #[cfg(test)]
 mod trials;
 
 pub use damage::{damage, only_held_changed};
 pub use events::events;
-pub use image::{image, table};
+pub use image::image;
 pub use pair::{damage_pair, pair, Guest, Pair};
 pub use random::Random;
+pub use table::table;
 
 use crate::calls::{fresh, MET_LENGTH};
 use crate::events::{Answer, Event};

@@ -1,12 +1,12 @@
 //! Pairs of guests to be linked, and damage to them.
 
-use super::damage::{change_records, resize};
-use super::image::{image_in, record_count, table};
+use super::damage::{change_records, change_table, resize, resize_table};
+use super::image::{image_in, record_count};
 use super::random::Random;
+use super::table::table;
 use super::{first_events, noise, words};
 use crate::image::{Program, Record};
 use crate::sorts::Block;
-use crate::table::Table;
 
 /// A guest's image, and an event list that Run accepts with it after Fresh.
 #[derive(Clone)]
@@ -25,8 +25,8 @@ pub struct Pair {
     pub out: Vec<u8>,
 }
 
-/// Two guests that link accepts: one table, no block in common, at most 512
-/// records together, at times just 512. The output is of their exact length
+/// Two guests that link accepts: one table, no block but often a lock in common,
+/// at most 512 records together, at times just 512. The output is of their exact length
 /// and holds any bytes. The events are each guest's by itself: to run on the
 /// linked image they are relocated.
 pub fn pair(seed: u64) -> Pair {
@@ -56,9 +56,9 @@ pub fn damage_pair(random: &mut Random, pair: &mut Pair) {
         } else {
             (&mut pair.second.image, &pair.first.image)
         };
-        match random.weighted(&[8, 2, 4, 3, 3]) {
+        match random.weighted(&[8, 3, 4, 3, 3]) {
             0 => change_records(random, one, Record::WIDTH),
-            1 => change_records(random, &mut pair.table, 2),
+            1 => change_table(random, &mut pair.table),
             2 => change_length(random, pair),
             3 => share_block(random, one, other),
             _ => fill_up(random, one, other, &mut pair.out),
@@ -70,7 +70,7 @@ fn change_length(random: &mut Random, pair: &mut Pair) {
     let (bytes, width, limit) = match random.below(5) {
         0 => (&mut pair.first.image, Record::WIDTH, Program::LENGTH_LIMIT),
         1 => (&mut pair.second.image, Record::WIDTH, Program::LENGTH_LIMIT),
-        2 => (&mut pair.table, 2, Table::LENGTH),
+        2 => return resize_table(random, &mut pair.table),
         _ => (&mut pair.out, Record::WIDTH, Program::LENGTH_LIMIT),
     };
     resize(random, bytes, width, limit);

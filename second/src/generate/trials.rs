@@ -12,6 +12,34 @@ pub fn begun(seed: u64) -> Lent {
     lent
 }
 
+/// The faults that damage of one sort makes in states that Run left, or "none"
+/// where it makes none. Run refuses such a state exactly if it has a fault.
+pub fn faults_met(
+    seed: u64,
+    of_the_sort: impl Fn(&Lent, &Lent) -> bool,
+    fault: impl Fn(&Lent) -> Option<&'static str>,
+) -> BTreeSet<&'static str> {
+    let random = &mut Random::new(seed);
+    let mut faults = BTreeSet::new();
+    for mut whole in (0..80).map(begun) {
+        let Lent { image, table, state, events, answers, .. } = &mut whole;
+        assert_eq!(run(image, table, state, events, answers), 0);
+        (*events, *answers) = (Vec::new(), Vec::new());
+        for _ in 0..40 {
+            let mut lent = whole.clone();
+            damage(random, &mut lent);
+            if of_the_sort(&whole, &lent) {
+                let fault = fault(&lent);
+                faults.insert(fault.unwrap_or("none"));
+                let Lent { image, table, mut state, events, mut answers, .. } = lent;
+                let code = run(&image, &table, &mut state, &events, &mut answers);
+                assert_eq!(code / 65_536 == 6, fault.is_some());
+            }
+        }
+    }
+    faults
+}
+
 #[test]
 fn the_jobs_one_by_one_leave_the_same_state_and_answers() {
     for seed in 0..40 {

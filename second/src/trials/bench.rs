@@ -6,8 +6,12 @@ use crate::image::{Entry, Record};
 use crate::sorts::{Block, Label, Thread};
 use crate::statement::{Operand, Statement};
 use crate::tree::Signal;
-use crate::{fresh, run, walk};
+use crate::{fresh, run, second_order, walk};
 
+/// Bytes of one block's row in the table.
+pub const ROW: usize = 3;
+/// Every block is FD, on thread 0 and with lock 0.
+pub const ZERO_TABLE: [u8; 48] = [0; 48];
 pub const STATE_LENGTH: usize = 9_633;
 const THREADS: usize = 512;
 pub const TREES: usize = 2_816;
@@ -55,19 +59,29 @@ pub fn cut(thread: u8) -> Event {
 /// A machine that starts fresh with zero words.
 pub struct Bench {
     pub image: Vec<u8>,
-    pub table: [u8; 32],
+    pub table: [u8; 48],
     pub state: Vec<u8>,
 }
 
 impl Bench {
-    /// Blocks 0, 1, .. on the given threads and of the given kinds, the others zero.
+    /// Blocks 0, 1, .. on the given threads and of the given kinds, the others
+    /// zero there; each block has the lock of its number.
     pub fn new(rows: &[[u8; 2]], records: &[Record]) -> Bench {
-        let mut table = [0; 32];
-        table[..2 * rows.len()].copy_from_slice(rows.as_flattened());
+        let mut table = ZERO_TABLE;
+        for (row, given) in table.chunks_mut(ROW).zip(rows) {
+            row[..2].copy_from_slice(given);
+        }
+        (0..16).for_each(|block| table[ROW * block + 2] = block as u8);
         Bench::on(image_bytes(records), table)
     }
 
-    pub fn on(image: Vec<u8>, table: [u8; 32]) -> Bench {
+    /// The bench with this lock for these blocks; it has had no events yet.
+    pub fn grouped(mut self, lock: u8, blocks: &[usize]) -> Bench {
+        blocks.iter().for_each(|block| self.table[ROW * block + 2] = lock);
+        self
+    }
+
+    pub fn on(image: Vec<u8>, table: [u8; 48]) -> Bench {
         let mut bench = Bench { image, table, state: vec![1; STATE_LENGTH] };
         assert_eq!(fresh(&bench.image, &bench.table, &[0; 512], &mut bench.state), 0);
         bench
@@ -77,6 +91,17 @@ impl Bench {
         let mut answers = vec![[0; 2]; events.len()];
         let lent = (&events_bytes(events), answers.as_flattened_mut());
         assert_eq!(run(&self.image, &self.table, &mut self.state, lent.0, lent.1), 0);
+        answers
+    }
+
+    /// Runs the events; their jobs one by one leave the same state and answers.
+    pub fn run_both_orders(&mut self, events: &[Event]) -> Vec<[u8; 2]> {
+        let mut state = self.state.clone();
+        let answers = self.run(events);
+        let (events, expected) = second_order(&events_bytes(events), answers.as_flattened());
+        let mut second = vec![0; expected.len()];
+        assert_eq!(run(&self.image, &self.table, &mut state, &events, &mut second), 0);
+        assert!(second == expected && state == self.state);
         answers
     }
 

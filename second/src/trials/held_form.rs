@@ -1,6 +1,6 @@
 //! The trials of what a record of opcode 11 and held signals must be.
 
-use super::bench::{exit, hold, record, Bench, HELD, STATE_LENGTH};
+use super::bench::{exit, hold, record, Bench, HELD, STATE_LENGTH, ZERO_TABLE};
 use crate::encode::image_bytes;
 use crate::image::Entry;
 use crate::statement::Operand;
@@ -18,7 +18,7 @@ fn opcode_11_has_the_fields_and_rules_of_opcode_6() {
     let code = |opcode, byte: usize, value| {
         let mut image = image.clone();
         (image[0], image[byte]) = (opcode, value);
-        check(&image, &[0; 32])
+        check(&image, &ZERO_TABLE)
     };
     for opcode in [6, 11] {
         assert_eq!((code(opcode, 2, 0), code(opcode, 6, 4)), (0, 0));
@@ -38,8 +38,8 @@ fn a_state_of_another_length_is_refused() {
     let image = image_bytes(&[exit(0, Entry::External)]);
     for length in [0, 7_929, STATE_LENGTH - 1, STATE_LENGTH + 1] {
         let mut state = vec![1; length];
-        assert_eq!(fresh(&image, &[0; 32], &[0; 512], &mut state), 5 * 65_536);
-        assert_eq!(run(&image, &[0; 32], &mut state, &[], &mut []), 5 * 65_536);
+        assert_eq!(fresh(&image, &ZERO_TABLE, &[0; 512], &mut state), 5 * 65_536);
+        assert_eq!(run(&image, &ZERO_TABLE, &mut state, &[], &mut []), 5 * 65_536);
         assert_eq!(state, vec![1; length]);
     }
 }

@@ -1,7 +1,8 @@
 //! The trials of linking two guests.
 
 use super::bench::{
-    arrival, at, call, cut, exit, hold, record, step, Bench, HELD, IDLE, STATE_LENGTH, TREES,
+    arrival, at, call, cut, exit, hold, record, step, Bench, HELD, IDLE, ROW, STATE_LENGTH, TREES,
+    ZERO_TABLE,
 };
 use crate::encode::{events_bytes, image_bytes};
 use crate::image::Entry;
@@ -25,8 +26,8 @@ fn refused(first: &[u8], second: &[u8], table: &[u8], length: usize) -> (u32, u3
 
 fn linked(first: &[u8], second: &[u8]) -> Vec<u8> {
     let mut out = vec![7; first.len() + second.len()];
-    assert_eq!(link(first, second, &[0; 32], &mut out), 0);
-    assert_eq!(check(&out, &[0; 32]), 0);
+    assert_eq!(link(first, second, &ZERO_TABLE, &mut out), 0);
+    assert_eq!(check(&out, &ZERO_TABLE), 0);
     out
 }
 
@@ -40,8 +41,8 @@ fn faulty(mut image: Vec<u8>, label: usize) -> Vec<u8> {
 fn the_causes_are_given_in_their_order() {
     let (first, second) = (exits(&[0; 256]), exits(&[0; 257]));
     let (bad_first, bad_second) = (faulty(first.clone(), 200), faulty(second.clone(), 100));
-    let (table, mut bad_table) = ([0; 32], [0; 32]);
-    (bad_table[2 * 5], bad_table[2 * 9 + 1]) = (8, 2);
+    let (table, mut bad_table) = (ZERO_TABLE, ZERO_TABLE);
+    (bad_table[ROW * 5 + 2], bad_table[ROW * 9 + 1]) = (16, 2);
     // Every cause after the one given still applies.
     assert_eq!(refused(&bad_first[1..], &bad_second[1..], &bad_table[1..], 1), (1, 0));
     assert_eq!(refused(&bad_first[1..], &bad_second, &bad_table[1..], 1), (1, 0));
@@ -60,23 +61,23 @@ fn each_image_has_1_to_512_whole_records() {
     let good = exits(&[0]);
     for bad in [&[][..], &good[1..], &[good.clone(), vec![0]].concat(), &exits(&[1; 513])] {
         let length = good.len() + bad.len();
-        assert_eq!(refused(bad, &good, &[0; 32], length), (1, 0));
-        assert_eq!(refused(&good, bad, &[0; 32], length), (1, 0));
+        assert_eq!(refused(bad, &good, &ZERO_TABLE, length), (1, 0));
+        assert_eq!(refused(&good, bad, &ZERO_TABLE, length), (1, 0));
     }
 }
 
 #[test]
 fn a_label_of_the_other_image_is_no_label() {
     let goto = |on| image_bytes(&[record(0, Entry::Closed, Statement::Goto { on: at(on) })]);
-    assert_eq!(refused(&goto(1), &exits(&[1]), &[0; 32], 168), (4, 0));
-    assert_eq!(refused(&exits(&[1]), &goto(1), &[0; 32], 168), (4, 0));
+    assert_eq!(refused(&goto(1), &exits(&[1]), &ZERO_TABLE, 168), (4, 0));
+    assert_eq!(refused(&exits(&[1]), &goto(1), &ZERO_TABLE, 168), (4, 0));
 }
 
 #[test]
 fn a_common_block_is_found_at_any_record() {
     let pairs = [([0, 2, 4], [1, 3, 2]), ([0, 4, 2], [2, 1, 3]), ([0, 2, 4], [1, 2, 3])];
     for (first, second) in pairs {
-        assert_eq!(refused(&exits(&first), &exits(&second), &[0; 32], 504), (13, 0));
+        assert_eq!(refused(&exits(&first), &exits(&second), &ZERO_TABLE, 504), (13, 0));
     }
     linked(&exits(&[0, 2, 4]), &exits(&[1, 3, 5]));
 }
@@ -87,14 +88,14 @@ fn records_result_up_to_512() {
         let (first, second) = (exits(&vec![14; first]), exits(&vec![15; second]));
         assert_eq!(linked(&first, &second).len(), 43_008);
         let longer = [&second[..], &second[..84]].concat();
-        assert_eq!(refused(&first, &longer, &[0; 32], 43_092), (14, 0));
+        assert_eq!(refused(&first, &longer, &ZERO_TABLE, 43_092), (14, 0));
     }
 }
 
 #[test]
 fn the_output_has_their_exact_length() {
     for length in [0, 84, 167, 169, 252] {
-        assert_eq!(refused(&exits(&[0]), &exits(&[1]), &[0; 32], length), (15, 0));
+        assert_eq!(refused(&exits(&[0]), &exits(&[1]), &ZERO_TABLE, length), (15, 0));
     }
 }
 
@@ -155,6 +156,22 @@ fn the_second_guest_has_its_labels_shifted_in_events_and_state() {
     // Its tree has the signal of label 303 pending; one of label 300 waits behind.
     assert_eq!(guest.state[TREES..][..7], [2, 3, 1, 47, 1, 0, 0]);
     assert_eq!(guest.state[TREES + 1 + 426..][..7], [3, 1, 44, 1, 1, 9, 0]);
+}
+
+#[test]
+fn guests_may_have_a_lock_in_common() {
+    // Block 1 of thread 0 is the first guest's, block 2 of thread 3 the second's.
+    let records = [record(2, Entry::External, Statement::Goto { on: at(0) })];
+    let mut alone = Bench::new(&[[0, 0], [0, 1], [3, 1]], &records).grouped(9, &[1, 2]);
+    let mut both = Bench::on(linked(&exits(&[1]), &alone.image), alone.table);
+    let list = |label| [arrival(label, &[]), step(3), step(3)];
+    assert_eq!(alone.run(&list(0)), [[1, 0], [5, 0], [6, 0]]);
+    assert_eq!(both.run(&list(1)), [[1, 0], [5, 0], [6, 0]]);
+    let relocated = relocated_state(&alone.image, &alone.table, &alone.state, 1);
+    assert_eq!(relocated, Ok(both.state.clone()));
+    // A job of the first guest waits for one of the second.
+    assert_eq!(both.run(&[arrival(0, &[]), step(0)]), [[1, 0], [4, 9]]);
+    assert_eq!(both.walk(0), (2, [0, 3, 255, 255, 255, 255, 255, 255]));
 }
 
 #[test]

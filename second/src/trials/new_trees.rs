@@ -1,10 +1,8 @@
 //! The trials of signals that found new trees.
 
 use super::bench::{arrival, at, call, cut, exit, hold, record, step, Bench, HELD, IDLE, TREES};
-use crate::encode::events_bytes;
 use crate::image::{Entry, Record};
 use crate::statement::{Operand, Place, Statement};
-use crate::{run, second_order};
 
 fn hold_number(signal: u16, number: u16, on: u16) -> Statement {
     hold(signal, vec![Operand::Number(number)], on)
@@ -176,14 +174,9 @@ fn jobs_one_by_one_lose_the_same_signals() {
     }
     records.push(exit(2, Entry::Buffered));
     let mut bench = Bench::new(&ROWS, &records);
-    let begun = bench.state.clone();
     let mut events = vec![arrival(4, &[]), arrival(0, &[]), step(1)];
     events.extend(vec![arrival(0, &[]); 13]);
     events.extend([0, 0, 1, 0, 1, 1, 0, 1, 0].map(step));
-    let answers = bench.run(&events);
+    let answers = bench.run_both_orders(&events);
     assert_eq!((answers[23], answers[24]), ([7, 1], [7, 2]));
-    let (events, expected) = second_order(&events_bytes(&events), answers.as_flattened());
-    let (mut state, mut answers) = (begun, vec![0; expected.len()]);
-    assert_eq!(run(&bench.image, &bench.table, &mut state, &events, &mut answers), 0);
-    assert!(answers == expected && state == bench.state);
 }

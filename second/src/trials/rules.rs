@@ -1,6 +1,8 @@
 //! The trials of the machine's rules.
 
-use super::bench::{arrival, at, call, cut, exit, record, step, Bench, IDLE, STATE_LENGTH, TREES};
+use super::bench::{
+    arrival, at, call, cut, exit, record, step, Bench, IDLE, ROW, STATE_LENGTH, TREES, ZERO_TABLE,
+};
 use crate::encode::{events_bytes, image_bytes};
 use crate::image::Entry;
 use crate::statement::{Formula, Operand, Place, Statement};
@@ -111,7 +113,7 @@ fn whole_list() {
     let mut events = [[0; 55]; 5];
     events[0][..5].copy_from_slice(&[1, 0, 0, 0, 0]);
     events[1..].iter_mut().for_each(|event| event[0] = 2);
-    let (table, mut state, mut answers) = ([0; 32], [1; STATE_LENGTH], [1; 10]);
+    let (table, mut state, mut answers) = (ZERO_TABLE, [1; STATE_LENGTH], [1; 10]);
     assert_eq!(fresh(&image, &table, &[0; 512], &mut state), 0);
     assert_eq!(run(&image, &table, &mut state, events.as_flattened(), &mut answers), 0);
     assert_eq!(answers, [1, 0, 5, 0, 6, 0, 7, 0, 3, 0]);
@@ -121,9 +123,9 @@ fn whole_list() {
 #[test]
 fn image_lengths() {
     let image = |count: usize| image_bytes(&vec![exit(0, Entry::Closed); count]);
-    assert_eq!((image(512).len(), check(&image(512), &[0; 32])), (43_008, 0));
-    assert_eq!((image(513).len(), check(&image(513), &[0; 32])), (43_092, 65_536));
-    assert_eq!(check(&[], &[0; 32]), 65_536);
+    assert_eq!((image(512).len(), check(&image(512), &ZERO_TABLE)), (43_008, 0));
+    assert_eq!((image(513).len(), check(&image(513), &ZERO_TABLE)), (43_092, 65_536));
+    assert_eq!(check(&[], &ZERO_TABLE), 65_536);
 }
 
 #[test]
@@ -136,7 +138,7 @@ fn the_first_cause_is_given_and_no_byte_altered() {
         number
     };
     let mut bad_kind = bench.table;
-    bad_kind[2 * 15 + 1] = 2;
+    bad_kind[ROW * 15 + 1] = 2;
     let mut bad_second = events_bytes(&[step(0), step(7)]);
     bad_second[55 + 1] = 8;
     assert_eq!(refused(&bad_kind, &[0; 54]), 3 * 65_536 + 15);
