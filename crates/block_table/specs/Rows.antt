@@ -1,47 +1,97 @@
--- The rows of the block table as 16-bit numbers: the thread in the low byte, the kind in the high byte.
-use mathlib.Core.Path.{_≡_}
-use mathlib.Core.Bool.{Bool, _&&_, and-true}
-use mathlib.Core.List.{List}
-use Prim.Native.Nat.{ℕ, _+_, _*_, _/_, _%_, _<_}
-use native.Mathlib.Nat.{add-zero}
+-- The rows of the block table, eight at a time: the bits that no field may have, tested in words of eight bytes.
+use mathlib.Core.Path.{_≡_, sym, ap, _∙_}
+use mathlib.Core.Bool.{Bool, _&&_, and-true, and-assoc}
+use mathlib.Core.List.{List, [], _∷_}
+use Prim.Native.Nat.{ℕ, zero, suc, _+_, _*_, _-_, _%_, _<_, _≤_}
+use native.Mathlib.Nat.{add-zero, add-assoc}
 use native.Mathlib.Omega.{arith}
-use lib.Bits.{bitOr, or-mod, or-shr}
-use lib.Dec.{ltb}
+use lib.Bits.{bitAnd, bitOr}
+use lib.Dec.{eqb, ltb}
 use lib.ListN.{length, getD, drop}
-use lib.Seq.{getD-drop}
-use Rattle.rules.specs.Sizes.{threadCount, blockCount, blockKindCount, rowSize, tableSize}
-use Rattle.rules.specs.Bytes.{num16, every}
+use Rattle.rules.specs.Sizes.{threadCount, blockCount, blockKindCount, lockCount, rowSize, tableSize}
+use Rattle.rules.specs.Bytes.{allFrom, every}
 use Rattle.rules.specs.Check.{rowOk}
-use Rattle.fields.specs.Runs.{exchange}
-use Rattle.fields.specs.Bits.{or-below}
+use Rattle.fields.specs.Bits.{below-power}
+use Rattle.fields.specs.Marked.{clear, two, four, eight, eight-of, eight-clear}
+use Rattle.fields.specs.Numbers.{num64}
+use Rattle.fields.specs.Runs.{all-same, all-split, all-threes}
+use Rattle.fields.specs.Tests.{or-none}
 use Rattle.image.specs.Records.{getD-any}
 
-abbrev pub inRange : ℕ → Bool
-inRange x = ltb (x % 256) threadCount && ltb (x / 256) blockKindCount
+-- the bits that a byte of the table may not have: byte i is of the field i % 3, and every limit is a power of two
+abbrev pub mark : ℕ → ℕ
+mark i = getD ((256 - threadCount) ∷ (256 - blockKindCount) ∷ (256 - lockCount) ∷ []) (i % rowSize) 0
 
-pub both-in-range : (x y : ℕ) → inRange (bitOr x y) ≡ (inRange x && inRange y)
-both-in-range x y =
-    let low : bitOr x y % 256 ≡ bitOr (x % 256) (y % 256) = or-mod x y 8 in
-    let high : bitOr x y / 256 ≡ bitOr (x / 256) (y / 256) = or-shr x y 8 in
-    let threads : ltb (bitOr (x % 256) (y % 256)) threadCount ≡ (ltb (x % 256) threadCount && ltb (y % 256) threadCount) =
-    or-below 3 (x % 256) (y % 256) in
-    let kinds : ltb (bitOr (x / 256) (y / 256)) blockKindCount ≡ (ltb (x / 256) blockKindCount && ltb (y / 256) blockKindCount) =
-    or-below 1 (x / 256) (y / 256) in
-    rw (low, high, threads, kinds)
-    (exchange (ltb (x % 256) threadCount) (ltb (y % 256) threadCount) (ltb (x / 256) blockKindCount) (ltb (y / 256) blockKindCount))
+mark-short : (i : ℕ) → mark i < 256
+mark-short i = go (i % rowSize)
+  where
+    go : (r : ℕ) → getD ((256 - threadCount) ∷ (256 - blockKindCount) ∷ (256 - lockCount) ∷ []) r 0 < 256
+    go zero = omega arith
+    go (suc zero) = omega arith
+    go (suc (suc zero)) = omega arith
+    go (suc (suc (suc r))) = omega arith
 
-pub row-in-range : (table : List ℕ) (b x : ℕ) → length table ≡ tableSize → b < blockCount → getD table (rowSize * b) 0 < 256
-    → x ≡ num16 (drop (rowSize * b) table) → inRange x ≡ rowOk table b
-unfolding rowOk every num16
-row-in-range table b x l h small e =
-    let is : x ≡ getD table (rowSize * b + 0) 0 + 256 * getD table (rowSize * b + 1) 0 = rw (getD-drop, getD-drop) at e in
-    let zero : getD table (rowSize * b + 0) 0 ≡ getD table (rowSize * b) 0 = rw add-zero in
-    let low : x % 256 ≡ getD table (rowSize * b + 0) 0 = omega arith in
-    let high : x / 256 ≡ getD table (rowSize * b + 1) 0 = omega arith in
-    rw (
-      low,
-      high,
-      and-true,
-      getD-any table (rowSize * b + 0) 0 threadCount (omega arith),
-      getD-any table (rowSize * b + 1) 0 blockKindCount (omega arith),
-    )
+-- they come again in every row
+module _ (b : ℕ) where
+  mark-again : (i : ℕ) → mark (rowSize * b + i) ≡ mark i
+  mark-again i = let e : (rowSize * b + i) % rowSize ≡ i % rowSize = omega arith in rw e
+
+  two-again : (i : ℕ) → two mark (rowSize * b + i) ≡ two mark i
+  two-again i = rw (add-assoc (rowSize * b) i 1, mark-again i, mark-again (i + 1))
+
+  four-again : (i : ℕ) → four mark (rowSize * b + i) ≡ four mark i
+  four-again i = rw (add-assoc (rowSize * b) i 2, two-again i, two-again (i + 2))
+
+  eight-again : (i : ℕ) → eight mark (rowSize * b + i) ≡ eight mark i
+  eight-again i = rw (add-assoc (rowSize * b) i 4, four-again i, four-again (i + 4))
+
+module _ (table : List ℕ) (size : length table ≡ tableSize) (bytes : (i : ℕ) → getD table i 0 < 256) where
+  -- byte i of the table has none of these bits
+  abbrev byteOk : ℕ → Bool
+  byteOk i = clear (getD table i 0) (mark i)
+
+  row-bytes : (b : ℕ) → b < blockCount → (byteOk (3 * b) && byteOk (3 * b + 1) && byteOk (3 * b + 2)) ≡ rowOk table b
+  unfolding rowOk every
+  row-bytes b h =
+      let first : 3 * b % rowSize ≡ 0 = omega arith in
+      let second : (3 * b + 1) % rowSize ≡ 1 = omega arith in
+      let third : (3 * b + 2) % rowSize ≡ 2 = omega arith in
+      rw (
+        first,
+        second,
+        third,
+        below-power 5 3 (getD table (3 * b) 0) (bytes (3 * b)),
+        below-power 7 1 (getD table (3 * b + 1) 0) (bytes (3 * b + 1)),
+        below-power 4 4 (getD table (3 * b + 2) 0) (bytes (3 * b + 2)),
+        add-zero (3 * b),
+        and-true,
+        getD-any table (3 * b) 0 threadCount (omega arith),
+        getD-any table (3 * b + 1) 0 blockKindCount (omega arith),
+        getD-any table (3 * b + 2) 0 lockCount (omega arith),
+        and-assoc,
+      )
+
+  -- a word of the rows from block b on has none of the marks of its eight bytes
+  word-clear : (b i x : ℕ) → x ≡ num64 (drop (rowSize * b + i) table) → clear x (eight mark i) ≡ allFrom byteOk (rowSize * b + i) 8
+  word-clear b i x e =
+      rw (e, eight-of table (rowSize * b + i), ← eight-again b i)
+      (eight-clear (λ j. getD table j 0) mark bytes mark-short (rowSize * b + i))
+
+  -- eight rows are three words
+  pub eight-rows : (b x y z : ℕ) → b + 8 ≤ blockCount → x ≡ num64 (drop (rowSize * b) table)
+      → y ≡ num64 (drop (rowSize * b + 8) table)
+      → z ≡ num64 (drop (rowSize * b + 16) table)
+      → eqb (bitOr (bitOr (bitAnd x (eight mark 0)) (bitAnd y (eight mark 8))) (bitAnd z (eight mark 16))) 0 ≡ allFrom (rowOk table) b 8
+  eight-rows b x y z h e f g =
+      rw (
+        or-none (bitOr (bitAnd x (eight mark 0)) (bitAnd y (eight mark 8))) (bitAnd z (eight mark 16)),
+        or-none (bitAnd x (eight mark 0)) (bitAnd y (eight mark 8)),
+        word-clear b 0 x (rw add-zero e),
+        word-clear b 8 y f,
+        word-clear b 16 z g,
+        add-zero (rowSize * b),
+      )
+      (sym (ap (λ w. w && allFrom byteOk (rowSize * b + 16) 8) (all-split byteOk (rowSize * b) 8 8))
+      ∙ sym (all-split byteOk (rowSize * b) 16 8)
+      ∙ all-threes byteOk b 8
+      ∙ all-same _ (rowOk table) b 8 (λ k p q. row-bytes k (omega arith)))

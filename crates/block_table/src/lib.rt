@@ -1,7 +1,8 @@
 // The block table.
-use fields::read::get16;
+use fields::read::get64;
 use fields::read::wide;
 use rules::layout::ROW_KIND_PLACE;
+use rules::layout::ROW_LOCK_PLACE;
 use rules::layout::ROW_SIZE;
 use rules::layout::ROW_THREAD_PLACE;
 use rules::sorts::Block;
@@ -12,8 +13,8 @@ use rules::sorts::block_of;
 use rules::sorts::lock_of;
 use rules::sorts::thread_of;
 ghost use mathlib.Core.Path.{_≡_};
-ghost use Prim.Native.Nat.{_+_, _*_, _<_};
-ghost use lib.Dec.{ltb};
+ghost use Prim.Native.Nat.{_+_, _*_, _<_, _≤_};
+ghost use lib.Dec.{eqb, ltb};
 ghost use lib.ListN.{length, getD};
 ghost use Rattle.rules.specs.Sizes.{blockCount, rowSize, tableSize};
 ghost use Rattle.rules.specs.Sorts.{thread, lock};
@@ -46,12 +47,12 @@ pub fn kind_at(table: &[u8], b: Block) -> u8
     field_at(table, b, ROW_KIND_PLACE)
 }
 
-// The lock of a block. Lock b guards block b.
+// The lock of a block. It guards every block that has it.
 pub fn lock_at(table: &[u8], b: Block) -> Lock
     requires { ⌜ (b .0 < blockCount) × (length (now table) ≡ tableSize) ⌝ }
     ensures { λ r. ⌜ r ≡ lock (rowAt (now (table .entry)) (b .0) .lock) ⌝ }
 {
-    lock_of(block_number(b))
+    lock_of(field_at(table, b, ROW_LOCK_PLACE))
 }
 
 // The field at a place of a block's row has one of so many values.
@@ -69,21 +70,42 @@ pub fn row_ok(table: &[u8], b: Block) -> bool
 {
     field_ok(table, b, ROW_THREAD_PLACE, Thread::COUNT)
         & field_ok(table, b, ROW_KIND_PLACE, Block::KINDS)
+        & field_ok(table, b, ROW_LOCK_PLACE, Lock::COUNT)
 }
 
-// Every row is in range. The rows are gathered as numbers without a branch, and then tested field by field: the limit of each field is
-// a power of two, so a field of all rows is below it exactly if its bits together are.
+// Bits that no row has. The limit of each field is a power of two, so a field is below it exactly if it has none of the bits from the
+// limit on.
+const ROW_MARKS: u64 = 256 - Thread::COUNT as u64
+    + 256 * (256 - Block::KINDS as u64)
+    + 65536 * (256 - Lock::COUNT as u64);
+
+// Eight rows are three words of eight bytes: the marks of the rows that have a part in each.
+const FIRST_MARKS: u64 = ROW_MARKS + 16777216 * ROW_MARKS + 281474976710656 * (ROW_MARKS % 65536);
+
+const SECOND_MARKS: u64 = ROW_MARKS / 65536
+    + 256 * ROW_MARKS
+    + 4294967296 * ROW_MARKS
+    + 72057594037927936 * (ROW_MARKS % 256);
+
+const THIRD_MARKS: u64 = ROW_MARKS / 256 + 65536 * ROW_MARKS + 1099511627776 * ROW_MARKS;
+
+// The marked bits that eight rows from block b on have.
+pub fn marked_bits(table: &[u8], b: usize) -> u64
+    requires { ⌜ (b + 8 ≤ blockCount) × (length (now table) ≡ tableSize) ⌝ }
+    ensures { λ r. ⌜ eqb r 0 ≡ allFrom (rowOk (now (table .entry))) b 8 ⌝ }
+{
+    let at = ROW_SIZE * b;
+    (get64(table, at) & FIRST_MARKS)
+        | (get64(table, at + 8) & SECOND_MARKS)
+        | (get64(table, at + 16) & THIRD_MARKS)
+}
+
+// Every row is in range.
 pub fn rows_ok(table: &[u8]) -> bool
     requires { ⌜ length (now table) ≡ tableSize ⌝ }
     ensures { λ r. ⌜ r ≡ allFrom (rowOk (now (table .entry))) 0 blockCount ⌝ }
 {
-    let mut seen: u16 = 0;
-    let mut b = 0;
-    while b < Block::COUNT {
-        seen = seen | get16(table, ROW_SIZE * b);
-        b += 1;
-    }
-    (seen % 256 < Thread::COUNT as u16) & (seen / 256 < Block::KINDS as u16)
+    marked_bits(table, 0) | marked_bits(table, 8) == 0
 }
 
 // The first block whose row is out of range, or 16.

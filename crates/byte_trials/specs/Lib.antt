@@ -1,3 +1,5 @@
--- The marked trials on bytes: `onBytes` of OnBytes. A link on bytes: `links` of Links.
+-- The marked trials on bytes: `onBytes` of OnBytes. Blocks that one lock guards: `groups` of Groups. A link on bytes: `links` of Links.
+pub mod Lent
 pub mod OnBytes
+pub mod Groups
 pub mod Links

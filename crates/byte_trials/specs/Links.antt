@@ -10,7 +10,7 @@ use Rattle.rules.specs.Check.{otherOk, headOk, slotOk, labelOk, ruleOk, recordO
 use Rattle.rules.specs.Check.{tableFault, recordFault, firstOf}
 use Rattle.rules.specs.Link.{shiftRecord, records, linked, names, shareBlock}
 use Rattle.rules.specs.Calls.{sharedBlockFault, tooManyRecordsFault, outputLengthFault, checkReturn, linkReturn, linkOut}
-use Rattle.byte_trials.specs.OnBytes.{recordBytes, table}
+use Rattle.byte_trials.specs.Lent.{recordBytes, table}
 
 -- label 0: EXIT in this block
 abbrev exiting : ℕ → List ℕ

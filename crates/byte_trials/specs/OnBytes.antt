@@ -3,10 +3,10 @@
 use mathlib.Core.Path.{_≡_, refl}
 use mathlib.Core.Option.{Option·elim}
 use mathlib.Core.List.{List, [], _∷_, _++_}
-use Prim.Native.Nat.{ℕ, zero, suc, _+_, _*_}
+use Prim.Native.Nat.{ℕ, _+_, _*_}
 use native.Mathlib.Decide.{ℕ-discrete}
 use lib.ListN.{replicate, drop}
-use Rattle.rules.specs.Sizes.{tableSize, wordsSize, stateSize, threadsPlace, presencePlace, heldCountPlace, treeSize}
+use Rattle.rules.specs.Sizes.{threadsPlace, presencePlace, heldCountPlace, treeSize}
 use Rattle.rules.specs.Sizes.{treeCountPlace, treesPlace}
 use Rattle.rules.specs.Bytes.{num16, num32, part, isZeros, allFrom, firstBad, blocks, pad, chunks, every}
 use Rattle.rules.specs.Image.{labels, recordAt, rowAt}
@@ -29,52 +29,30 @@ use Rattle.rules.specs.Walk.{mem?, walkOn, walk, holder, awaits, walkFrom, metB
 use Rattle.rules.specs.Calls.{threadFault, metLengthFault, walkFault, walkReturn, walkMet}
 use Rattle.rules.specs.Calls.{stateLengthFault, stateFault, eventsLengthFault, eventFault, answersLengthFault, wordsLengthFault}
 use Rattle.rules.specs.Calls.{checkReturn, freshReturn, freshState, runReturn, runState, runAnswers}
-
--- ---- records of an image, and events
-
--- the 84 bytes of a record: opcode, block, entry, operator, labels A and B, and the operand count with the operands
-abbrev pub recordBytes : ℕ → ℕ → ℕ → ℕ → ℕ → ℕ → List ℕ → List ℕ
-recordBytes opcode block entry operator a b operands = opcode ∷ block ∷ entry ∷ operator ∷ a ∷ 0 ∷ b ∷ 0 ∷ pad 0 76 operands
-
--- the 55 bytes of an arrival at a label, with the value count and the values, and of a step (kind 2) or a cut (kind 3) of a thread
-abbrev arrivalBytes : ℕ → List ℕ → List ℕ
-arrivalBytes l values = 1 ∷ 0 ∷ l ∷ 0 ∷ pad 0 51 values
-
-abbrev turnBytes : ℕ → ℕ → List ℕ
-turnBytes kind t = kind ∷ t ∷ replicate 53 0
-
--- the same bytes n times
-abbrev times : ℕ → List ℕ → List ℕ
-times zero b = []
-times (suc n) b = b ++ times n b
+use Rattle.byte_trials.specs.Lent.{recordBytes, arrivalBytes, turnBytes, times, table, beginning, words, zeros}
+use Rattle.byte_trials.specs.Lent.{freshWith, answersWith, stateWith}
 
 -- ---- the calls, with a block table of zeros
 
-abbrev pub table : List ℕ
-table = replicate tableSize 0
-
--- the same, but block 1 is on thread 1 and of this kind
-abbrev foreign : ℕ → List ℕ
-foreign kind = 0 ∷ 0 ∷ 1 ∷ kind ∷ replicate 28 0
-
-abbrev words : List ℕ
-words = replicate wordsSize 0
-
-abbrev zeros : List ℕ
-zeros = replicate stateSize 0
-
 abbrev initial : List ℕ → List ℕ
-initial image = freshState image table words zeros
+initial image = freshWith table image
 
--- Fresh, and then Run with m events: its answers, and the state that it leaves
 abbrev answersTo : List ℕ → ℕ → List ℕ → List ℕ
-answersTo image m events = runAnswers image table (initial image) events (replicate (2 * m) 0)
-
-abbrev answersWith : List ℕ → List ℕ → ℕ → List ℕ → List ℕ
-answersWith rows image m events = runAnswers image rows (freshState image rows words zeros) events (replicate (2 * m) 0)
+answersTo image m events = answersWith table image m events
 
 abbrev stateAfter : List ℕ → ℕ → List ℕ → List ℕ
-stateAfter image m events = runState image table (initial image) events (replicate (2 * m) 0)
+stateAfter image m events = stateWith table image m events
+
+-- tables in which the first three blocks have a lock each: all FD on thread 0; block 1 on thread 1 and of this kind; blocks 0 and 1 CMX,
+-- on threads 0 and 1
+abbrev ownLocks : List ℕ
+ownLocks = beginning (0 ∷ 0 ∷ 0 ∷ 0 ∷ 0 ∷ 1 ∷ 0 ∷ 0 ∷ 2 ∷ [])
+
+abbrev foreign : ℕ → List ℕ
+foreign kind = beginning (0 ∷ 0 ∷ 0 ∷ 1 ∷ kind ∷ 1 ∷ 0 ∷ 0 ∷ 2 ∷ [])
+
+abbrev both : List ℕ
+both = beginning (0 ∷ 1 ∷ 0 ∷ 1 ∷ 1 ∷ 1 ∷ 0 ∷ 0 ∷ 2 ∷ [])
 
 -- where the presence set of thread 0 stands in a state, its registers behind it
 abbrev presenceSet : ℕ
@@ -153,19 +131,13 @@ entering = recordBytes 5 0 3 0 1 0 [] ++ recordBytes 10 1 1 0 0 0 []
 abbrev startAndStep : List ℕ
 startAndStep = arrivalBytes 0 (1 ∷ 7 ∷ 0 ∷ []) ++ times 2 (turnBytes 2 0)
 
--- blocks 0 and 1 are CMX, on threads 0 and 1; labels 0 in block 0 and 2 in block 1: SEND direct to 1 in block 1, to 3 in block 0; labels 1
--- and 3: EXIT
-abbrev both : List ℕ
-both = 0 ∷ 1 ∷ 1 ∷ 1 ∷ replicate 28 0
-
+-- labels 0 in block 0 and 2 in block 1: SEND direct to 1 in block 1, to 3 in block 0; labels 1 and 3: EXIT
 abbrev crossing : List ℕ
 crossing = recordBytes 5 0 3 0 1 0 [] ++ recordBytes 10 1 1 0 0 0 [] ++ recordBytes 5 1 3 0 3 0 [] ++ recordBytes 10 0 1 0 0 0 []
 
 -- a job starts on thread 0, and one on thread 1: each holds the lock that the other's next step asks for
 abbrev ring : List ℕ
-ring =
-    runState crossing both (freshState crossing both words zeros)
-    (arrivalBytes 0 [] ++ arrivalBytes 2 [] ++ turnBytes 2 0 ++ turnBytes 2 1) (replicate 8 0)
+ring = stateWith both crossing 4 (arrivalBytes 0 [] ++ arrivalBytes 2 [] ++ turnBytes 2 0 ++ turnBytes 2 1)
 
 abbrev wholeList : List ℕ
 wholeList = arrivalBytes 0 [] ++ times 4 (turnBytes 2 0)
@@ -189,9 +161,9 @@ pub record OnBytes : Type 0 where
   pub arrivals : answersTo assigning 17 (times 17 (arrivalBytes 0 [])) ≡ times 16 (1 ∷ 0 ∷ []) ++ 2 ∷ 0 ∷ []
   -- "EXIT two calls deep: lock set, return count, presence all 0": before it three locks are held and there are two return labels;
   -- after it the state is Fresh's again
-  pub deep : part (stateAfter (nested 10) 4 (arrivalBytes 0 [] ++ times 3 (turnBytes 2 0))) threadsPlace 5 ≡ 4 ∷ 0 ∷ 7 ∷ 0 ∷ 2 ∷ []
-  pub exit : answersTo (nested 10) 5 (arrivalBytes 0 [] ++ times 4 (turnBytes 2 0)) ≡ 1 ∷ 0 ∷ 5 ∷ 0 ∷ 6 ∷ 0 ∷ 6 ∷ 0 ∷ 7 ∷ 0 ∷ []
-  pub exited : stateAfter (nested 10) 5 (arrivalBytes 0 [] ++ times 4 (turnBytes 2 0)) ≡ initial (nested 10)
+  pub deep : part (stateWith ownLocks (nested 10) 4 (arrivalBytes 0 [] ++ times 3 (turnBytes 2 0))) threadsPlace 5 ≡ 4 ∷ 0 ∷ 7 ∷ 0 ∷ 2 ∷ []
+  pub exit : answersWith ownLocks (nested 10) 5 (arrivalBytes 0 [] ++ times 4 (turnBytes 2 0)) ≡ 1 ∷ 0 ∷ 5 ∷ 0 ∷ 6 ∷ 0 ∷ 6 ∷ 0 ∷ 7 ∷ 0 ∷ []
+  pub exited : stateWith ownLocks (nested 10) 5 (arrivalBytes 0 [] ++ times 4 (turnBytes 2 0)) ≡ initial (nested 10)
   -- "The fourth held signal is kept; the fifth: 8, 6"
   pub held-signals : answersTo holding 7 (arrivalBytes 0 [] ++ times 6 (turnBytes 2 0)) ≡ 1 ∷ 0 ∷ 5 ∷ 0 ∷ times 4 (6 ∷ 0 ∷ []) ++ 8 ∷ 6 ∷ []
   pub held-kept : part (stateAfter holding 6 (arrivalBytes 0 [] ++ times 5 (turnBytes 2 0))) (threadsPlace + heldCountPlace) 3
@@ -236,11 +208,11 @@ pub record OnBytes : Type 0 where
   pub walk-alone : walkReturn crossing both ring 2 (replicate 8 0) ≡ 1
   pub alone-met : walkMet crossing both ring 2 (replicate 8 0) ≡ 2 ∷ replicate 7 255
   -- also: after two CALLs and a RETURN all three locks are held
-  pub return : part (stateAfter (nested 8) 5 (arrivalBytes 0 [] ++ times 4 (turnBytes 2 0))) threadsPlace 5 ≡ 3 ∷ 0 ∷ 7 ∷ 0 ∷ 1 ∷ []
+  pub return : part (stateWith ownLocks (nested 8) 5 (arrivalBytes 0 [] ++ times 4 (turnBytes 2 0))) threadsPlace 5 ≡ 3 ∷ 0 ∷ 7 ∷ 0 ∷ 1 ∷ []
   -- also: a cut two calls deep leaves Fresh's state
-  pub cut : answersTo (nested 10) 5 (arrivalBytes 0 [] ++ times 3 (turnBytes 2 0) ++ turnBytes 3 0)
+  pub cut : answersWith ownLocks (nested 10) 5 (arrivalBytes 0 [] ++ times 3 (turnBytes 2 0) ++ turnBytes 3 0)
       ≡ 1 ∷ 0 ∷ 5 ∷ 0 ∷ 6 ∷ 0 ∷ 6 ∷ 0 ∷ 9 ∷ 0 ∷ []
-  pub cut-clears : stateAfter (nested 10) 5 (arrivalBytes 0 [] ++ times 3 (turnBytes 2 0) ++ turnBytes 3 0) ≡ initial (nested 10)
+  pub cut-clears : stateWith ownLocks (nested 10) 5 (arrivalBytes 0 [] ++ times 3 (turnBytes 2 0) ++ turnBytes 3 0) ≡ initial (nested 10)
 
 pub onBytes : OnBytes
 unfolding num16 num32 part isZeros allFrom firstBad blocks pad chunks every labels recordAt rowAt operandOf operandAt operandsFrom

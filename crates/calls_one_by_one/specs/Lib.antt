@@ -1,8 +1,10 @@
 -- Demand 3, "The one-by-one reading", of a list of calls and its bytes. CallList says what a list of calls is and what is
--- claimed of it; Whole has the theorem, `calls-one-by-one`; Jobs says that a row is one job, `one-job-a-row`.
+-- claimed of it; Whole has the theorem, `calls-one-by-one`; Jobs says that a row is one job, `one-job-a-row`;
+-- Groups has what the locks of several blocks come to there, `enters-own-group` and `waits-for-the-group`.
 pub mod CallList
 pub mod Accepted
 pub mod Joined
 pub mod Ordered
 pub mod Whole
 pub mod Jobs
+pub mod Groups

@@ -116,7 +116,7 @@ module _ (image table words state : List ℕ) (runs : List Run) (calls : Calls i
   noted-sized : Each SizedEvent (events noted)
   noted-sized = subst (Each SizedEvent) (sym noted-events) (each-map (Accepted image) SizedEvent joint (accepted-sized image) (all .each))
 
-  listed : eventsOf (eventList runs) ≡ joint
+  pub listed : eventsOf (eventList runs) ≡ joint
   listed = ap eventsOf (all .entries) ∙ events-listed noted noted-sized ∙ noted-events
 
   second : eventsOf (byteOrder (eventList runs)) ≡ events (order noted)

@@ -1,20 +1,22 @@
 -- Which bits of a number are zero.
 use mathlib.Core.Path.{_≡_, refl, ap, _∙_}
 use mathlib.Core.Bool.{Bool, true, false, _&&_}
-use Prim.Native.Nat.{ℕ, _*_, _/_, _^_, _<_}
-use native.Mathlib.Nat.{mod-eq-of-lt}
+use Prim.Native.Nat.{ℕ, _+_, _*_, _-_, _/_, _%_, _^_, _<_}
+use native.Mathlib.Nat.{zero-mul, mod-eq-of-lt, div-eq-of-lt, mod-lt}
 use native.Mathlib.Omega.{arith}
 use lib.Bits.{bitAnd, bitOr, and-zero-r, and-mask, and-high, and-le-l, and-le-r, or-add-and, or-lt}
 use lib.Dec.{eqb, ltb}
+use lib.Pow.{pow-pos, split, shr-mod}
 use borrow.Author.Tests.{eq-eqb, ne-eqb, ltb-true, ltb-false, lt-ltb, le-ltb}
 
--- 252 tests that a byte is below 4, 255 that it is 0
-pub below-four : (x : ℕ) → x < 256 → eqb (bitAnd x 252) 0 ≡ ltb x 4
-below-four x h = go (ltb x 4) refl (and-high x 6 2 ∙ ap (λ y. y * 4) (mod-eq-of-lt (omega arith)))
+-- the j bits from bit k on test that a number of j + k bits is below 2 ^ k, all bits that it is 0
+pub below-power : (j k x : ℕ) → x < 2 ^ (j + k) → eqb (bitAnd x (2 ^ (j + k) - 2 ^ k)) 0 ≡ ltb x (2 ^ k)
+below-power j k x h = go (ltb x (2 ^ k)) refl (and-high x j k ∙ ap (λ y. y * 2 ^ k) (shr-mod j k h))
   where
-    go : (t : Bool) → ltb x 4 ≡ t → bitAnd x 252 ≡ x / 4 * 4 → eqb (bitAnd x 252) 0 ≡ t
-    go true l e = eq-eqb (bitAnd x 252) 0 (omega (arith, ltb-true x 4 l))
-    go false l e = ne-eqb (bitAnd x 252) 0 (λ z. omega (arith, ltb-false x 4 l))
+    go : (t : Bool) → ltb x (2 ^ k) ≡ t → bitAnd x (2 ^ (j + k) - 2 ^ k) ≡ x / 2 ^ k * 2 ^ k → eqb (bitAnd x (2 ^ (j + k) - 2 ^ k)) 0 ≡ t
+    go true l e = eq-eqb _ 0 (e ∙ rw (div-eq-of-lt (ltb-true x (2 ^ k) l), zero-mul))
+    go false l e =
+        ne-eqb (bitAnd x (2 ^ (j + k) - 2 ^ k)) 0 (λ z. let m : x % 2 ^ k < 2 ^ k = mod-lt x (pow-pos k) in omega (arith, ltb-false x (2 ^ k) l, split x k))
 
 pub all-bits : (x : ℕ) → x < 256 → eqb (bitAnd x 255) 0 ≡ eqb x 0
 all-bits x h = ap (λ y. eqb y 0) (and-mask x 8 ∙ mod-eq-of-lt h)

@@ -23,6 +23,10 @@ module _ {A : Type 0} (P : A → Type 0) where
   each-append [] ys h k = k
   each-append (x ∷ xs) ys h k = (h .0, each-append xs ys (h .1) k)
 
+  pub each-front : (xs ys : List A) → Each P (xs ++ ys) → Each P xs
+  each-front [] ys h = tt
+  each-front (x ∷ xs) ys h = (h .0, each-front xs ys (h .1))
+
   pub each-tail : (xs : List A) → Each P xs → Each P (drop 1 xs)
   each-tail [] e = tt
   each-tail (x ∷ xs) e = e .1

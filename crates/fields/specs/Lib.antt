@@ -7,6 +7,7 @@ pub mod Filled
 pub mod Tests
 pub mod Runs
 pub mod Bits
+pub mod Marked
 pub mod Gathered
 pub mod Pieces
 pub mod Inside

@@ -1,5 +1,6 @@
--- A guest leaves alone every block that its image does not name: no shared word of it changes, and no thread comes to hold its lock. A
--- job writes only to the block that it is in, and takes only the locks of blocks that it enters, and the image names these.
+-- A guest leaves alone every block that its image does not name: no shared word of it changes. And no thread comes to hold a lock that
+-- none of the blocks has that the image names. A job writes only to the block that it is in, and takes only the locks of blocks that it
+-- enters, and the image names these.
 use mathlib.Core.Path.{_≡_, refl, sym, ap, subst, _∙_}
 use mathlib.Core.Logic.{_≢_}
 use mathlib.Core.Bool.{Bool, true, false, true≢false}
@@ -66,79 +67,82 @@ act-asks image table t j words n =
 
 -- ---- the blocks of an image's labels
 
--- a block that the image does not name is not the block of one of its labels
-elsewhere : (image : List ℕ) (b l : ℕ) → names image b ≡ false → l < labels image → b ≢ blockAt image l
+-- an image names the block of each of its labels
+named : (image : List ℕ) (l : ℕ) → l < labels image → names image (blockAt image l) ≡ true
 unfolding names
-elsewhere image b l n h e =
-    true≢false (sym (any-at _ 0 (labels image) l (eq-eqb (blockAt image l) b (sym e)) (omega arith) (omega arith)) ∙ n)
+named image l h = any-at _ 0 (labels image) l (eq-eqb (blockAt image l) (blockAt image l) refl) (omega arith) (omega arith)
 
--- no thread holds the lock of block b
-abbrev pub Free : List ℕ → ℕ → Machine → Type 0
-Free table b s = (t : ℕ) → has (rowAt table b .lock) (locksOf (threadAt s t)) ≡ false
+-- ---- the words of a block that the image does not name
 
 module _ (image table : List ℕ) (b : ℕ) (unnamed : names image b ≡ false) where
-  -- ---- one event
+  words-kept : (s : Machine) → Sound image table s → (e : Event) (r : Reply) → Happens (rulesBy image table) s e r
+      → window b (r .state .words) ≡ window b (s .words)
+  words-kept s k e r (remains f a q) = refl
+  words-kept s k e r (founds g room) = refl
+  words-kept s k e r (starts t g p w f c) = refl
+  words-kept s k e r (Happens.goes t l j j′ words g want w a c) =
+      let below : j .label < labels image = subst (ThreadIn image table t) w (k .threads t) .places .0 .below in
+      window-keep-other (blockAt image (j .label)) b words (s .words)
+      (λ e. true≢false (sym (named image (j .label) below) ∙ rw e at unnamed))
+  words-kept s k e r (Happens.ends t l j a w f) = ap (window b) (admitted-words (rulesBy image table) (released j a) _)
 
-  module _ (s : Machine) (k : Sound image table s) where
-    words-kept : (e : Event) (r : Reply) → Happens (rulesBy image table) s e r → window b (r .state .words) ≡ window b (s .words)
-    words-kept e r (remains f a q) = refl
-    words-kept e r (founds g room) = refl
-    words-kept e r (starts t g p w f c) = refl
-    words-kept e r (Happens.goes t l j j′ words g want w a c) =
-        window-keep-other (blockAt image (j .label)) b words (s .words)
-        (elsewhere image b (j .label) unnamed (subst (ThreadIn image table t) w (k .threads t) .places .0 .below))
-    words-kept e r (Happens.ends t l j a w f) = ap (window b) (admitted-words (rulesBy image table) (released j a) _)
+  -- A BLOCK THAT THE IMAGE DOES NOT NAME KEEPS ITS WORDS
+  pub words-of-unnamed-blocks-stay : Checked image table → (s : Machine) (l : List Event) → Sound image table s → Each (Accepted image) l
+      → window b (final (rulesBy image table) s l .words) ≡ window b (s .words)
+  unfolding final
+  words-of-unnamed-blocks-stay checked s [] k h = refl
+  words-of-unnamed-blocks-stay checked s (e ∷ l) k h =
+      words-of-unnamed-blocks-stay checked (react (rulesBy image table) s e .state) l (sound-react image table checked s e k (h .0)) (h .1)
+      ∙ words-kept s k e _ (happens (rulesBy image table) s e)
 
-    -- a set of locks with the lock of a named block more
-    not-granted : (l locks : ℕ) → l < labels image → has (rowAt table b .lock) locks ≡ false
-        → has (rowAt table b .lock) (grant (rulesBy image table) (some (blockAt image l)) locks) ≡ false
-    unfolding rowAt
-    not-granted l locks h f = has-other b (blockAt image l) locks (elsewhere image b l unnamed h) ∙ f
+-- ---- a lock that none of the blocks has that the image names
 
-    not-asked : (j : Job) (want : Option ℕ) (locks : ℕ) → Asks (blockAt image) (moves j [] none want) → j .label < labels image
-        → has (rowAt table b .lock) locks ≡ false
-        → has (rowAt table b .lock) (grant (rulesBy image table) want locks) ≡ false
-    not-asked j none locks q h f = f
-    not-asked j (some c) locks q h f = rw q (not-granted (j .label) locks h f)
+abbrev pub Unused : List ℕ → List ℕ → ℕ → Type 0
+Unused image table lock = (b : ℕ) → names image b ≡ true → rowAt table b .lock ≢ lock
 
-    module _ (ok : Passed image table) (free : Free table b s) where
-      lock-free : (e : Event) (r : Reply) → Happens (rulesBy image table) s e r → Free table b (r .state)
-      lock-free e r (remains f a q) = free
-      lock-free e r (founds g room) = free
-      lock-free e r (starts t g p w f c) =
-          getD-set idle (λ u (z : ThreadState). has (rowAt table b .lock) (locksOf z) ≡ false) (s .threads) t _ free
-          (not-granted (g .label) _ (start-in image table ok s k t g p w f .below) (free t))
-      lock-free e r (Happens.goes t l j j′ words g want w a c) =
-          getD-set idle (λ u (z : ThreadState). has (rowAt table b .lock) (locksOf z) ≡ false) (s .threads) t _ free
-          (not-asked j′ want _ (subst (Asks (blockAt image)) a (act-asks image table t j _ _))
-          (effect-in image table ok s k t l j _ w a .0 .places .0 .below) (free t))
-      lock-free e r (Happens.ends t l j a w f) =
-          rw (admitted-threads (rulesBy image table) (released j a) (finished (rulesBy image table) t s))
-          (getD-set idle (λ u (z : ThreadState). has (rowAt table b .lock) (locksOf z) ≡ false) (s .threads) t idle free
-          (has-none (rowAt table b .lock)))
+-- no thread holds a lock
+abbrev pub Free : ℕ → Machine → Type 0
+Free lock s = (t : ℕ) → has lock (locksOf (threadAt s t)) ≡ false
 
-  -- ---- a list of events
+module _ (image table : List ℕ) (lock : ℕ) (unused : Unused image table lock) where
+  -- a set of locks with the lock of a named block more
+  not-granted : (l locks : ℕ) → l < labels image → has lock locks ≡ false
+      → has lock (grant (rulesBy image table) (some (blockAt image l)) locks) ≡ false
+  not-granted l locks h f =
+      has-other lock (rowAt table (blockAt image l) .lock) locks (λ e. unused (blockAt image l) (named image l h) (sym e)) ∙ f
 
-  module _ (checked : Checked image table) where
-    -- A BLOCK THAT THE IMAGE DOES NOT NAME KEEPS ITS WORDS
-    pub words-of-unnamed-blocks-stay : (s : Machine) (l : List Event) → Sound image table s → Each (Accepted image) l
-        → window b (final (rulesBy image table) s l .words) ≡ window b (s .words)
-    unfolding final
-    words-of-unnamed-blocks-stay s [] k h = refl
-    words-of-unnamed-blocks-stay s (e ∷ l) k h =
-        words-of-unnamed-blocks-stay (react (rulesBy image table) s e .state) l (sound-react image table checked s e k (h .0)) (h .1)
-        ∙ words-kept s k e _ (happens (rulesBy image table) s e)
+  not-asked : (j : Job) (want : Option ℕ) (locks : ℕ) → Asks (blockAt image) (moves j [] none want) → j .label < labels image
+      → has lock locks ≡ false
+      → has lock (grant (rulesBy image table) want locks) ≡ false
+  not-asked j none locks q h f = f
+  not-asked j (some c) locks q h f = rw q (not-granted (j .label) locks h f)
 
-    -- AND NO THREAD COMES TO HOLD ITS LOCK
-    pub locks-of-unnamed-blocks-stay-free : (s : Machine) (l : List Event) → Sound image table s → Each (Accepted image) l → Free table b s
-        → Free table b (final (rulesBy image table) s l)
-    unfolding final
-    locks-of-unnamed-blocks-stay-free s [] k h free = free
-    locks-of-unnamed-blocks-stay-free s (e ∷ l) k h free =
-        locks-of-unnamed-blocks-stay-free (react (rulesBy image table) s e .state) l (sound-react image table checked s e k (h .0)) (h .1)
-        (lock-free s k (passed image table [] checked .0) free e _ (happens (rulesBy image table) s e))
+  module _ (s : Machine) (k : Sound image table s) (ok : Passed image table) (free : Free lock s) where
+    lock-free : (e : Event) (r : Reply) → Happens (rulesBy image table) s e r → Free lock (r .state)
+    lock-free e r (remains f a q) = free
+    lock-free e r (founds g room) = free
+    lock-free e r (starts t g p w f c) =
+        getD-set idle (λ u (z : ThreadState). has lock (locksOf z) ≡ false) (s .threads) t _ free
+        (not-granted (g .label) _ (start-in image table ok s k t g p w f .below) (free t))
+    lock-free e r (Happens.goes t l j j′ words g want w a c) =
+        getD-set idle (λ u (z : ThreadState). has lock (locksOf z) ≡ false) (s .threads) t _ free
+        (not-asked j′ want _ (subst (Asks (blockAt image)) a (act-asks image table t j _ _))
+        (effect-in image table ok s k t l j _ w a .0 .places .0 .below) (free t))
+    lock-free e r (Happens.ends t l j a w f) =
+        rw (admitted-threads (rulesBy image table) (released j a) (finished (rulesBy image table) t s))
+        (getD-set idle (λ u (z : ThreadState). has lock (locksOf z) ≡ false) (s .threads) t idle free (has-none lock))
+
+  -- NO THREAD COMES TO HOLD IT
+  pub unused-locks-stay-free : Checked image table → (s : Machine) (l : List Event) → Sound image table s → Each (Accepted image) l
+      → Free lock s
+      → Free lock (final (rulesBy image table) s l)
+  unfolding final
+  unused-locks-stay-free checked s [] k h free = free
+  unused-locks-stay-free checked s (e ∷ l) k h free =
+      unused-locks-stay-free checked (react (rulesBy image table) s e .state) l (sound-react image table checked s e k (h .0)) (h .1)
+      (lock-free s k (passed image table [] checked .0) free e _ (happens (rulesBy image table) s e))
 
 -- no thread of a fresh machine holds a lock
-pub fresh-free : (table : List ℕ) (b : ℕ) (words : List ℕ) → Free table b (fresh words)
+pub fresh-free : (lock : ℕ) (words : List ℕ) → Free lock (fresh words)
 unfolding fresh
-fresh-free table b words t = rw (getD-same idle threadCount t) (has-none (rowAt table b .lock))
+fresh-free lock words t = rw (getD-same idle threadCount t) (has-none lock)

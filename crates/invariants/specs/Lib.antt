@@ -3,6 +3,8 @@
 
 -- ends of a job
 pub mod Ends
+-- blocks that one lock guards
+pub mod Groups
 -- return labels
 pub mod Paths
 pub mod Returns

@@ -1,7 +1,7 @@
 -- Lock sets: what taking a lock changes, and when a lock that is wanted is free.
 use mathlib.Core.Path.{_≡_, refl, sym, _∙_}
 use mathlib.Core.Logic.{_≢_, _⊎_, inl, inr}
-use mathlib.Core.Bool.{Bool, true, false, cond, _||_, true≢false}
+use mathlib.Core.Bool.{Bool, true, false, cond, _||_, or-true, true≢false}
 use mathlib.Core.Option.{Option, none, some}
 use mathlib.Core.List.{List, [], _∷_}
 use Prim.Native.Nat.{ℕ, zero, suc, _^_}
@@ -12,7 +12,7 @@ use lib.Seq.{getD-set-other}
 use Rattle.rules.specs.Bytes.{has}
 use Rattle.rules.specs.Machine.{ThreadState, idle, locksOf}
 use Rattle.rules.specs.Steps.{Rules, held, blocked, grant}
-use Rattle.laws.specs.Sets.{has-none, has-same, has-other}
+use Rattle.laws.specs.Sets.{has-none, has-same, has-other, has-again}
 
 or-false : (a b : Bool) → a || b ≡ false → (a ≡ false) × (b ≡ false)
 or-false true b h = absurd (true≢false h)
@@ -83,3 +83,22 @@ module _ (R : Rules) where
       go : (k : ℕ) → Dec (k ≡ t) → has (R .lock b) (locksOf (getD (set ts t idle) k idle)) ≡ false
       go k (yes e) = rw (e, getD-set-idle ts t) (has-none (R .lock b))
       go k (no n) = rw (getD-set-other ts t k idle idle n) (h b refl k n)
+
+  -- ---- one lock guards several blocks: what counts is the lock, not the block through which it was taken
+
+  -- a lock that a thread holds already is not taken twice
+  pub grant-again : (b k : ℕ) → has (R .lock b) k ≡ true → grant R (some b) k ≡ k
+  grant-again b k h = has-again (R .lock b) k h
+
+  held-there : (l : ℕ) (ts : List ThreadState) (k : ℕ) → has l (locksOf (getD ts k idle)) ≡ true → held l ts ≡ true
+  unfolding held
+  held-there l [] k h = absurd (true≢false (sym h ∙ has-none l))
+  held-there l (x ∷ ts) zero h = rw h
+  held-there l (x ∷ ts) (suc k) h = rw (held-there l ts k h) (or-true (has l (locksOf x)))
+
+  -- a thread is hindered by another that holds the lock
+  pub blocked-by : (ts : List ThreadState) (t k b : ℕ) → k ≢ t → has (R .lock b) (locksOf (getD ts k idle)) ≡ true
+      → blocked R t ts (some b) ≡ some (R .lock b)
+  unfolding blocked
+  blocked-by ts t k b n h =
+      rw (held-there (R .lock b) (set ts t idle) k (rw (getD-set-other ts t k idle idle n) h)) refl

@@ -10,7 +10,7 @@ use borrow.Author.Tests.{ltb-true, eqb-true}
 use Rattle.rules.specs.Codes.{badTableFieldNumber, badRecordNumber}
 use Rattle.rules.specs.Sizes.{threadCount, blockKindCount, lockCount, blockCount, operandCount, tableSize}
 use Rattle.rules.specs.Bytes.{allFrom, every}
-use Rattle.rules.specs.Image.{labels, recordAt, blockField, entry, labelA, labelB, Row, rowAt, fieldAt, threadField, kindField}
+use Rattle.rules.specs.Image.{labels, recordAt, blockField, entry, labelA, labelB, Row, rowAt, fieldAt, threadField, kindField, lockField}
 use Rattle.rules.specs.Statements.{statementOf, roleA, roleB}
 use Rattle.rules.specs.Check.{headOk, slotOk, roleOk, labelOk, ruleOk, recordOk, fieldOk, rowOk, firstOf, imageFaults, imagesFaults}
 use Rattle.rules.specs.Check.{imageLengthFault, Checked}
@@ -95,11 +95,12 @@ unfolding rowOk rowAt every
 row-in image table b p h =
     let thread : Bool = fieldOk table b threadField in
     let kind : Bool = fieldOk table b kindField in
+    let lock : Bool = fieldOk table b lockField in
     let k = and-both thread _ (p .rows b h) in
     record {
       thread = ltb-true (fieldAt table b threadField) threadCount (k .0);
       kind = ltb-true (fieldAt table b kindField) blockKindCount (and-both kind _ (k .1) .0);
-      lock = h;
+      lock = ltb-true (fieldAt table b lockField) lockCount (and-both lock _ (and-both kind _ (k .1) .1) .0);
     }
 
 -- past the last label there is no record

@@ -9,8 +9,8 @@ use native.Mathlib.Decide.{decLt, ℕ-discrete}
 use native.Mathlib.Omega.{arith}
 use lib.Dec.{eqb}
 use lib.Pow.{pow-lt, pow-pos, pow-add, shl-shr}
-use borrow.Author.Tests.{eq-eqb, ne-eqb}
-use lib.Bits.{bitAnd, bitOr, bitXor, differ, and-shr, and-step, or-shr, or-step, xor-shr, xor-step, shifted-even}
+use borrow.Author.Tests.{eq-eqb, ne-eqb, eqb-true}
+use lib.Bits.{bitAnd, bitOr, bitXor, differ, and-shr, and-step, or-shr, or-step, xor-shr, xor-step, shifted-even, and-high, or-add-and}
 use Rattle.rules.specs.Bytes.{has}
 
 -- bit l of a number
@@ -68,6 +68,14 @@ has-same l set = ap (λ (n : ℕ). eqb n 1) (or-same set l)
 
 pub has-other : (l m set : ℕ) → l ≢ m → has l (bitOr set (2 ^ m)) ≡ has l set
 has-other l m set h = ap (λ (n : ℕ). eqb n 1) (or-other set l m h)
+
+-- a number that is in a set is in it once: adding it again changes nothing
+pub has-again : (l set : ℕ) → has l set ≡ true → bitOr set (2 ^ l) ≡ set
+has-again l set h =
+    let one : 2 ^ (1 + l) - 2 ^ l ≡ 2 ^ l = omega (arith, pow-add 2 1 l) in
+    let here : bit set l ≡ 1 = eqb-true (bit set l) 1 h in
+    let both : bitAnd set (2 ^ l) ≡ 2 ^ l = rw (← one) (and-high set 1 l ∙ rw (here, one, one-mul)) in
+    omega (arith, or-add-and set (2 ^ l))
 
 -- what a set has with one number more
 pub has-with : (l m set : ℕ) → has l (bitOr set (2 ^ m)) ≡ (has l set || eqb m l)

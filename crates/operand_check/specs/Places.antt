@@ -18,7 +18,7 @@ use Rattle.rules.specs.Image.{operands, kind, value}
 use Rattle.rules.specs.Check.{operandOk, slotOk}
 use Rattle.fields.specs.Runs.{exchange, all-at, all-holds, all-same, all-both, all-split, all-threes}
 use Rattle.operand_check.specs.Operands.{placesSize, roomOf, markOf, Marks, bitsOk, placeOk, valueOk}
-use Rattle.fields.specs.Bits.{below-four, all-bits, no-bits, or-below}
+use Rattle.fields.specs.Bits.{below-power, all-bits, no-bits, or-below}
 
 twice : (a b c : Bool) → (a && b && (b && c)) ≡ (a && (b && c))
 twice true true c = refl
@@ -86,7 +86,7 @@ module _ (m : List ℕ) (marks : Marks m) where
           and-true,
           and-true,
         )
-        (below-four (kind r k) (bytes (operandsPlace + operandSize * k)))
+        (below-power 6 2 (kind r k) (bytes (operandsPlace + operandSize * k)))
 
     unused : (k : ℕ) → k < operandCount → c ≤ k
         → (bitsOk m r c (operandSize * k) && bitsOk m r c (operandSize * k + 1) && bitsOk m r c (operandSize * k + 2))

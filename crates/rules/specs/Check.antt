@@ -83,7 +83,7 @@ ruleOk image r =
 unfoldable pub recordOk : List ℕ → ℕ → Bool
 recordOk image l = ruleOk image (recordAt image l)
 
--- ---- the rules of the block table: each field of a row is in range (thread 0 to 7, kind 0 or 1)
+-- ---- the rules of the block table: each field of a row is in range (thread 0 to 7, kind 0 or 1, lock 0 to 15)
 
 abbrev pub fieldOk : List ℕ → ℕ → Field → Bool
 fieldOk table b f = ltb (fieldAt table b f) (f .limit)
@@ -104,7 +104,7 @@ firstFault ok n number = refusal (eqb (firstBad ok 0 n) n) number (firstBad ok 0
 unfoldable pub imageLengthFault : List ℕ → ℕ
 imageLengthFault image = refusal (ltb 0 (labels image)) badImageLengthNumber 0
 
--- 2: table not 32 bytes
+-- 2: table not 48 bytes
 unfoldable pub tableLengthFault : List ℕ → ℕ
 tableLengthFault table = refusal (eqb (length table) tableSize) badTableLengthNumber 0
 

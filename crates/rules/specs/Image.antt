@@ -4,9 +4,9 @@ use mathlib.Core.List.{List, [], _∷_}
 use Prim.Native.Nat.{ℕ, _+_, _*_, _/_}
 use lib.ListN.{length, getD, take, drop}
 use lib.Dec.{eqb, leb, ltb}
-use Rattle.rules.specs.Sizes.{threadCount, blockKindCount, blockCount, recordCount, opcodePlace, blockPlace, entryPlace}
+use Rattle.rules.specs.Sizes.{threadCount, blockKindCount, lockCount, blockCount, recordCount, opcodePlace, blockPlace, entryPlace}
 use Rattle.rules.specs.Sizes.{operatorPlace, labelAPlace, labelBPlace, operandCountPlace, operandsPlace, operandSize, recordSize}
-use Rattle.rules.specs.Sizes.{rowThreadPlace, rowKindPlace, rowSize}
+use Rattle.rules.specs.Sizes.{rowThreadPlace, rowKindPlace, rowLockPlace, rowSize}
 use Rattle.rules.specs.Bytes.{num16}
 
 -- the number of records: n where the length is 84 × n, n 1 to 512; otherwise 0
@@ -58,18 +58,21 @@ threadField = record { place = rowThreadPlace; limit = threadCount }
 abbrev pub kindField : Field
 kindField = record { place = rowKindPlace; limit = blockKindCount }
 
+abbrev pub lockField : Field
+lockField = record { place = rowLockPlace; limit = lockCount }
+
 abbrev pub rowFields : List Field
-rowFields = threadField ∷ kindField ∷ []
+rowFields = threadField ∷ kindField ∷ lockField ∷ []
 
 -- past the table a field has a value that none can have
 abbrev pub fieldAt : List ℕ → ℕ → Field → ℕ
 fieldAt table b f = getD table (rowSize * b + f .place) (f .limit)
 
--- what the block table says of a block: its thread, its kind (0 FD, 1 CMX), and its lock. Lock b guards block b
+-- what the block table says of a block: its thread, its kind (0 FD, 1 CMX), and its lock, which guards every block that has it
 pub record Row : Type 0 where
   pub thread : ℕ
   pub kind : ℕ
   pub lock : ℕ
 
 unfoldable pub rowAt : List ℕ → ℕ → Row
-rowAt table b = record { thread = fieldAt table b threadField; kind = fieldAt table b kindField; lock = b }
+rowAt table b = record { thread = fieldAt table b threadField; kind = fieldAt table b kindField; lock = fieldAt table b lockField }

@@ -88,7 +88,7 @@ operandSize = 3
 abbrev pub recordSize : ℕ
 recordSize = operandsPlace + operandSize * operandCount
 
--- ---- the block table: a row is thread, kind
+-- ---- the block table: a row is thread, kind, lock
 
 abbrev pub rowThreadPlace : ℕ
 rowThreadPlace = 0
@@ -96,8 +96,11 @@ rowThreadPlace = 0
 abbrev pub rowKindPlace : ℕ
 rowKindPlace = 1
 
+abbrev pub rowLockPlace : ℕ
+rowLockPlace = 2
+
 abbrev pub rowSize : ℕ
-rowSize = 2
+rowSize = 3
 
 abbrev pub tableSize : ℕ
 tableSize = rowSize * blockCount

@@ -26,12 +26,14 @@ pub const OPERAND_SIZE: usize = 3;
 
 pub const RECORD_SIZE: usize = OPERANDS_PLACE + OPERAND_SIZE * Image::OPERANDS;
 
-// A row of the block table: thread, kind.
+// A row of the block table: thread, kind, lock.
 pub const ROW_THREAD_PLACE: usize = 0;
 
 pub const ROW_KIND_PLACE: usize = 1;
 
-pub const ROW_SIZE: usize = 2;
+pub const ROW_LOCK_PLACE: usize = 2;
+
+pub const ROW_SIZE: usize = 3;
 
 pub const TABLE_SIZE: usize = ROW_SIZE * Block::COUNT;
 

@@ -1,0 +1,117 @@
+-- Blocks that one lock guards, in a list of calls. A job that needs one block of the group enters another: its step is answered 6, and its
+-- lock set stays as it is, `enters-own-group`. Another thread that wants a block of the group meanwhile: it waits, answered 4 with the lock,
+-- and the one-by-one order is the same as if it had not asked, `waits-for-the-group`.
+use mathlib.Core.Path.{_≡_, refl, sym, ap, _∙_, subst}
+use mathlib.Core.Logic.{_≢_}
+use mathlib.Core.Option.{some}
+use mathlib.Core.List.{List, [], _∷_, _++_, map, map-append}
+use Prim.Native.Nat.{ℕ, _<_}
+use Rattle.rules.specs.Sizes.{threadCount}
+use Rattle.rules.specs.Image.{rowAt}
+use Rattle.rules.specs.Machine.{Job, running, Machine, threadAt, locksOf, jobOf}
+use Rattle.rules.specs.Encoding.{wordsFrom}
+use Rattle.rules.specs.Events.{Event, step, eventBytes}
+use Rattle.rules.specs.Answers.{Sort, out, code, detail, answerBytes, sortOfCode}
+use Rattle.rules.specs.Steps.{Rules, Move, Reply, rulesBy, applied, react, final}
+use Rattle.rules.specs.Order.{Sheet, noteAs, notesBy, blank, spread, orderBy, Entry, lostBy, log, ByteEntry, byteOrder}
+use Rattle.rules.specs.Calls.{freshState}
+use Rattle.rules.specs.declared.answer.Answer.{Answer}
+use Rattle.rules.specs.declared.answer.Answer.the-variants.{Waiting, Moved}
+use Rattle.fields.specs.Each.{Each, each-front}
+use Rattle.laws.specs.EventLists.{log-append}
+use Rattle.soundness.specs.CheckedRules.{checked-laws}
+use Rattle.soundness.specs.Laws.{Needs}
+use Rattle.soundness.specs.Sound.{Sound}
+use Rattle.soundness.specs.StaysWellFormed.{Accepted, sound-final}
+use Rattle.one_by_one.specs.ByteOrder.{bytesOf}
+use Rattle.invariants.specs.Groups as groups
+use Rattle.invariants.specs.Groups.{Wants}
+use Rattle.calls_one_by_one.specs.CallList.{Run, Calls, eventList, eventsOf, OneByOneCalls}
+use Rattle.calls_one_by_one.specs.Whole as whole
+
+-- an entry that is left out has no part in the second order
+module _ {A : Type 0} (f : A → Sort) (g : A → ℕ) where
+  passed-over : (h : Sheet A) (xs ys : List A) (n : A) → f n ≡ out → notesBy f g h (xs ++ n ∷ ys) ≡ notesBy f g h (xs ++ ys)
+  unfolding notesBy noteAs
+  passed-over h [] ys n e = ap (λ k. notesBy f g (noteAs k (g n) h n) ys) e
+  passed-over h (x ∷ xs) ys n e = passed-over (noteAs (f x) (g x) h x) xs ys n e
+
+  left-out : (xs ys : List A) (n : A) → f n ≡ out → orderBy f g (xs ++ n ∷ ys) ≡ orderBy f g (xs ++ ys)
+  unfolding orderBy
+  left-out xs ys n e = ap spread (passed-over blank xs ys n e)
+
+module _ (image table words state : List ℕ) (runs : List Run) (calls : Calls image table words state runs) where
+  abbrev R : Rules
+  R = rulesBy image table
+
+  -- the machine that the events before have left, and their entries
+  abbrev pub reached : List Event → Machine
+  reached before = final R (whole.first image table words state runs calls) before
+
+  abbrev pub entriesTo : List Event → List ByteEntry
+  entriesTo before = map bytesOf (log R (whole.first image table words state runs calls) before)
+
+  abbrev pub entriesFrom : Machine → List Event → List ByteEntry
+  entriesFrom s after = map bytesOf (log R s after)
+
+  -- after these events a step of thread t was answered 4 with the lock of block c, and changed nothing; the second order is that of the
+  -- other events, and it reads as the calls do
+  pub record Waited (c : ℕ) (before after : List Event) (t : ℕ) : Type 0 where
+    pub list : eventList runs
+        ≡ entriesTo before ++ record { event = eventBytes (step t); answer = 4 ∷ rowAt table c .lock ∷ [] }
+        ∷ entriesFrom (reached before) after
+    pub order : byteOrder (eventList runs) ≡ byteOrder (entriesTo before ++ entriesFrom (reached before) after)
+    pub reading : OneByOneCalls image table (freshState image table words state) runs
+
+  module _ (before after : List Event) (t : ℕ) (split : eventsOf (eventList runs) ≡ before ++ step t ∷ after) where
+    abbrev s : Machine
+    s = reached before
+
+    parted : whole.joint image table words state runs calls ≡ before ++ step t ∷ after
+    parted = sym (whole.listed image table words state runs calls) ∙ split
+
+    sound : Sound image table s
+    sound =
+        sound-final image table (whole.checked image table words state runs calls) _ before
+        (whole.first-good image table words state runs calls .sound)
+        (each-front (Accepted image) before (step t ∷ after)
+        (subst (Each (Accepted image)) parted (whole.all image table words state runs calls .each)))
+
+    -- the event list, with the reply to this event
+    entries : (r : Reply) → react R s (step t) ≡ r
+        → eventList runs
+        ≡ entriesTo before ++ record { event = eventBytes (step t); answer = answerBytes (r .answer) } ∷ entriesFrom (r .state) after
+    unfolding log final
+    entries r e =
+        whole.entries image table words state runs calls
+        ∙ ap (λ z. map bytesOf (log R (reached []) z)) parted
+        ∙ ap (map bytesOf) (log-append R (reached []) before (step t ∷ after))
+        ∙ map-append bytesOf (log R (reached []) before) _
+        ∙ ap (λ (z : Reply). entriesTo before
+        ++ record { event = eventBytes (step t); answer = answerBytes (z .answer) } ∷ entriesFrom (z .state) after) e
+
+    module _ (b c : ℕ) (group : rowAt table b .lock ≡ rowAt table c .lock) (m : Move) (wants : Wants R s t c m) where
+      -- A JOB THAT NEEDS ONE BLOCK OF A GROUP ENTERS ANOTHER WITHOUT WAITING, AND ITS LOCK SET STAYS AS IT IS
+      pub enters-own-group : (locks : ℕ) (j : Job) → t < threadCount → threadAt s t ≡ running locks j → Needs R j b
+          → (eventList runs ≡ entriesTo before ++ record { event = eventBytes (step t); answer = 6 ∷ 0 ∷ [] }
+          ∷ entriesFrom (applied R t m s) after) × (locksOf (threadAt (applied R t m s) t) ≡ locks)
+      unfolding answerBytes code detail
+      enters-own-group locks j inside busy needs =
+          let laws = checked-laws image table (whole.checked image table words state runs calls) in
+          let r = groups.enters-own-group R laws s (sound .invariant) t b c locks j m inside busy needs group wants in (
+            entries _ r,
+            ap (λ (z : Reply). locksOf (threadAt (z .state) t)) (sym r)
+                ∙ groups.lock-set-stays R laws s (sound .invariant) t b c locks j m inside busy needs group wants,
+          )
+
+      -- A THREAD THAT WANTS A BLOCK OF A GROUP WHILE ANOTHER'S JOB NEEDS ONE: IT WAITS, AND THE ONE-BY-ONE ORDER IS THE SAME
+      pub waits-for-the-group : (u : ℕ) (j : Job) → u ≢ t → jobOf (threadAt s u) ≡ some j → Needs R j b → Waited c before after t
+      unfolding answerBytes code detail byteOrder sortOfCode
+      waits-for-the-group u j n busy needs =
+          let laws = checked-laws image table (whole.checked image table words state runs calls) in
+          let r = groups.waits-for-the-group R laws s (sound .invariant) u t b c j m n busy needs group wants in
+          record {
+            list = entries _ r;
+            order = ap byteOrder (entries _ r) ∙ left-out _ _ (entriesTo before) (entriesFrom s after) _ refl;
+            reading = whole.calls-one-by-one image table words state runs calls;
+          }
