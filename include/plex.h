@@ -44,12 +44,13 @@ extern "C" {
 
 /* ---- Versions: of the library and its papers, and of the formats. The latter is raised by each
  * change of a format; no buffer holds it, so a host notes it beside the bytes that it keeps. */
-#define PLEX_VERSION "0.4.1"
-#define PLEX_FORMAT_VERSION 2
+#define PLEX_VERSION "0.5.0"
+#define PLEX_FORMAT_VERSION 3
 
 /* ---- Limits. */
 #define PLEX_THREADS 8       /* threads of a machine */
-#define PLEX_BLOCKS 16       /* blocks of a machine; lock b guards block b */
+#define PLEX_BLOCKS 16       /* blocks of a machine */
+#define PLEX_LOCKS 16        /* locks of a machine; a lock guards the blocks that name it */
 #define PLEX_BLOCK_WORDS 16  /* shared words of a block */
 #define PLEX_REGISTERS 25    /* registers of a thread; also data of a signal */
 #define PLEX_RETURNS_MAX 8   /* return labels of a thread */
@@ -63,8 +64,8 @@ extern "C" {
 /* ---- Sizes in bytes. */
 #define PLEX_RECORD_SIZE 84 /* a record of the image; its index is its label */
 #define PLEX_OPERAND_SIZE 3
-#define PLEX_ROW_SIZE 2      /* a record of the block table; its index is its block */
-#define PLEX_TABLE_SIZE 32   /* the block table: one record for each block */
+#define PLEX_ROW_SIZE 3      /* a record of the block table; its index is its block */
+#define PLEX_TABLE_SIZE 48   /* the block table: one record for each block */
 #define PLEX_WORDS_SIZE 512  /* the shared words: word w of block b is number 16 x b + w */
 #define PLEX_STATE_SIZE 9633 /* the state: words, threads, tree count, trees */
 #define PLEX_THREAD_SIZE 288
@@ -92,12 +93,12 @@ enum {
 enum { PLEX_OPERAND_KIND = 0, PLEX_OPERAND_VALUE = 1 };
 
 /* In a record of the block table. */
-enum { PLEX_ROW_THREAD = 0, PLEX_ROW_KIND = 1 };
+enum { PLEX_ROW_THREAD = 0, PLEX_ROW_KIND = 1, PLEX_ROW_LOCK = 2 };
 
 /* In the state. */
 enum { PLEX_STATE_WORDS = 0, PLEX_STATE_THREADS = 512, PLEX_STATE_TREE_COUNT = 2816, PLEX_STATE_TREES = 2817 };
 
-/* In a thread record: bit b of the lock set is lock b, bit r of presence is register r, and the
+/* In a thread record: bit k of the lock set is lock k, bit r of presence is register r, and the
  * oldest return label and the oldest held signal come first. A held signal was sent by
  * PLEX_SEND_TREE, and becomes a tree when its job ends by EXIT. */
 enum {
@@ -154,7 +155,7 @@ enum {
     PLEX_ARRIVED = 1,        /* arrival: a new tree at the list's end */
     PLEX_LIST_FULL = 2,      /* arrival: 16 trees live, no change */
     PLEX_NO_WORK = 3,        /* step: idle thread, empty queue, no change */
-    PLEX_WAITING = 4,        /* step: another thread holds the lock, no change; detail: the block */
+    PLEX_WAITING = 4,        /* step: another thread holds the lock, no change; detail: the lock */
     PLEX_STARTED = 5,        /* step: an idle thread took its first tree's oldest signal */
     PLEX_MOVED_ON = 6,       /* step: the job goes on */
     PLEX_EXITED = 7,         /* step: the job ended by EXIT; detail: the number of held signals lost */
@@ -176,7 +177,7 @@ enum {
 /* Refusal numbers. The place is 0 where none is named. */
 enum {
     PLEX_BAD_IMAGE_LENGTH = 1,   /* image length is not 84 x n, n 1 to 512 */
-    PLEX_BAD_TABLE_LENGTH = 2,   /* table is not 32 bytes */
+    PLEX_BAD_TABLE_LENGTH = 2,   /* table is not 48 bytes */
     PLEX_BAD_TABLE_FIELD = 3,    /* table field out of range; place: the first such block */
     PLEX_BAD_RECORD = 4,         /* record breaks a rule; place: the first such label */
     PLEX_BAD_STATE_LENGTH = 5,   /* state is not 9,633 bytes */

@@ -25,6 +25,20 @@ void put_statements(uint8_t *image, const struct statement *statements, uint32_t
         put_statement(image + PLEX_RECORD_SIZE * label, &statements[label]);
 }
 
+void put_row(uint8_t *table, uint32_t block, uint32_t thread, uint32_t kind, uint32_t lock)
+{
+    uint8_t *row = table + PLEX_ROW_SIZE * block;
+    row[PLEX_ROW_THREAD] = (uint8_t)thread;
+    row[PLEX_ROW_KIND] = (uint8_t)kind;
+    row[PLEX_ROW_LOCK] = (uint8_t)lock;
+}
+
+void put_lone_rows(uint8_t *table)
+{
+    for (uint32_t block = 0; block < PLEX_BLOCKS; block++)
+        put_row(table, block, 0, PLEX_FD, block);
+}
+
 void put_arrival(uint8_t *event, uint32_t label, const uint16_t *values, uint8_t count)
 {
     uint8_t *signal = event + PLEX_EVENT_SIGNAL;

@@ -26,6 +26,15 @@ static inline void put32(uint8_t *at, uint32_t value)
     put16(at + 2, value >> 16);
 }
 
+/* How many members a set of bits has. */
+static inline uint32_t count_bits(uint32_t bits)
+{
+    uint32_t count = 0;
+    for (; bits != 0; bits &= bits - 1)
+        count++;
+    return count;
+}
+
 /* A count byte, but no more than there is room for in the bytes that follow it. */
 static inline uint32_t at_most(uint8_t count, uint32_t limit)
 {
@@ -54,6 +63,12 @@ static inline const uint8_t *operand_at(const uint8_t *record, uint32_t index)
 static inline const uint8_t *row_at(const uint8_t *table, uint32_t block)
 {
     return table + PLEX_ROW_SIZE * block;
+}
+
+/* The lock that guards the block. */
+static inline uint32_t lock_of(const uint8_t *table, uint32_t block)
+{
+    return row_at(table, block)[PLEX_ROW_LOCK];
 }
 
 static inline const uint8_t *word_at(const uint8_t *state, uint32_t block, uint32_t word)

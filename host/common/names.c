@@ -40,7 +40,7 @@ static const char *const traps[] = {[PLEX_ABSENT_REGISTER] = "an absent register
                                     [PLEX_FOREIGN_FD_BLOCK] = "direct SEND or CALL to an FD block of another thread"};
 
 static const char *const refusals[] = {[PLEX_BAD_IMAGE_LENGTH] = "the image's length is not 84 x n, n 1 to 512",
-                                       [PLEX_BAD_TABLE_LENGTH] = "the table is not 32 bytes",
+                                       [PLEX_BAD_TABLE_LENGTH] = "the table is not 48 bytes",
                                        [PLEX_BAD_TABLE_FIELD] = "a field of the table is out of range",
                                        [PLEX_BAD_RECORD] = "a record breaks a rule",
                                        [PLEX_BAD_STATE_LENGTH] = "the state is not 9,633 bytes",

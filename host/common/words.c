@@ -146,36 +146,53 @@ void add_event(struct line *line, const uint8_t *event)
     }
 }
 
-void add_answer(struct line *line, const uint8_t *answer)
+/* As " 0 4", of 16 bits. */
+static void add_numbers(struct line *line, uint32_t bits)
+{
+    for (uint32_t number = 0; bits >> number != 0; number++)
+        if (bits >> number & 1)
+            add(line, " %u", number);
+}
+
+void add_blocks(struct line *line, uint32_t blocks)
+{
+    add(line, blocks == 0 ? "no block" : count_bits(blocks) == 1 ? "block" : "blocks");
+    add_numbers(line, blocks);
+}
+
+void add_lock(struct line *line, uint32_t lock, const struct groups *groups)
+{
+    add(line, "lock %u", lock);
+    if (groups == NULL || lock >= PLEX_LOCKS)
+        return;
+    add(line, " of ");
+    add_blocks(line, groups->blocks[lock]);
+}
+
+void add_answer(struct line *line, const uint8_t *answer, const struct groups *groups)
 {
     uint32_t code = answer[PLEX_ANSWER_CODE], detail = answer[PLEX_ANSWER_DETAIL];
     add(line, "%s", code_name(code));
-    if (code == PLEX_WAITING)
-        add(line, " for the lock of block %u", detail);
+    if (code == PLEX_WAITING) {
+        add(line, " for ");
+        add_lock(line, detail, groups);
+    }
     if (code == PLEX_TRAPPED)
         add(line, " %u, %s", detail, trap_name(detail));
     if (code == PLEX_EXITED && detail != 0)
         add(line, ", %u held %s lost", detail, detail == 1 ? "signal" : "signals");
 }
 
-static void add_locks(struct line *line, uint32_t locks)
-{
-    add(line, locks == 0 ? " none" : "");
-    for (uint32_t lock = 0; lock < PLEX_BLOCKS; lock++)
-        if (locks >> lock & 1)
-            add(line, " %u", lock);
-}
-
 void add_place(struct line *line, const uint8_t *thread)
 {
-    uint32_t label = get16(thread + PLEX_THREAD_LABEL);
+    uint32_t label = get16(thread + PLEX_THREAD_LABEL), locks = get16(thread + PLEX_THREAD_LOCKS);
     uint32_t returns = at_most(thread[PLEX_THREAD_RETURN_COUNT], PLEX_RETURNS_MAX);
     if (label == PLEX_IDLE)
         add(line, "idle");
     else
         add(line, "at label %u", label);
-    add(line, ", locks");
-    add_locks(line, get16(thread + PLEX_THREAD_LOCKS));
+    add(line, ", locks%s", locks == 0 ? " none" : "");
+    add_numbers(line, locks);
     add(line, ", return labels%s", returns == 0 ? " none" : "");
     for (uint32_t i = 0; i < returns; i++)
         add(line, " %u", get16(thread + PLEX_THREAD_RETURNS + 2 * i));

@@ -3,7 +3,7 @@
 #ifndef WORDS_H
 #define WORDS_H
 
-#include "fields.h"
+#include "groups.h"
 
 /* A line in the making; what does not fit is left off. */
 struct line {
@@ -22,8 +22,14 @@ void add_record(struct line *line, const uint8_t *image, uint32_t label);
 /* As "arrival at 0 WITH 25" or "step of thread 3". */
 void add_event(struct line *line, const uint8_t *event);
 
-/* As "waiting for the lock of block 3" or "EXIT, 2 held signals lost". */
-void add_answer(struct line *line, const uint8_t *answer);
+/* As "block 4", "blocks 0 4" or "no block"; bit b is block b. */
+void add_blocks(struct line *line, uint32_t blocks);
+
+/* As "lock 9 of blocks 1 2"; where the groups are not known, and NULL, as "lock 9". */
+void add_lock(struct line *line, uint32_t lock, const struct groups *groups);
+
+/* As "waiting for lock 9 of blocks 1 2" or "EXIT, 2 held signals lost". */
+void add_answer(struct line *line, const uint8_t *answer, const struct groups *groups);
 
 /* As "at label 3, locks 0 1, return labels 1"; an idle thread is "idle" in place of "at". */
 void add_place(struct line *line, const uint8_t *thread);
