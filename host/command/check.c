@@ -1,20 +1,17 @@
 /* plex check: the image check on files. */
 #include "command.h"
 
-static uint32_t count_blocks(const uint8_t *image, uint32_t records)
-{
-    uint32_t count = 0;
-    for (uint32_t named = named_blocks(image, records); named != 0; named &= named - 1)
-        count++;
-    return count;
-}
-
+/* The image, and its groups of blocks that have one lock. */
 static void print_accepted(const struct lent *lent)
 {
     uint32_t records = records_of(&lent->image);
-    uint32_t blocks = count_blocks(lent->image.bytes, records);
+    uint32_t blocks = count_bits(named_blocks(lent->image.bytes, records));
+    struct groups groups = groups_of(lent);
     print("%saccepted%s: %s, %u %s in %u %s, with %s\n", colour_on(stdout, GREEN), colour_off(stdout), lent->image.path,
           records, records == 1 ? "record" : "records", blocks, blocks == 1 ? "block" : "blocks", lent->table.path);
+    for (uint32_t lock = 0; lock < PLEX_LOCKS; lock++)
+        if (count_bits(groups.blocks[lock]) > 1)
+            print_guarded(lock, &groups);
 }
 
 int check_command(int argc, char **argv)

@@ -47,6 +47,10 @@ extern bool is_quiet;
 
 /* As printf; an error is kept for is_printed. */
 void print(const char *format, ...) __attribute__((format(printf, 1, 2)));
+
+/* As "lock 9 guards blocks 1 2". */
+void print_guarded(uint32_t lock, const struct groups *groups);
+
 void flush_printed(void);
 
 /* Whether everything printed has reached standard output; a sentence if not. */
@@ -75,6 +79,9 @@ void free_lent(struct lent *lent);
 
 /* How many whole records the image has. */
 uint32_t records_of(const struct file *image);
+
+/* The groups of the image and the table, which has its length. */
+struct groups groups_of(const struct lent *lent);
 
 /* Whether the file is as long as a state; a sentence if not. */
 bool is_state_long(const struct file *state);

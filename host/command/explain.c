@@ -39,6 +39,8 @@ void explain_row(struct line *why, const uint8_t *table, uint32_t block)
         add(why, "its thread is %u, and threads are 0 to %d", row[PLEX_ROW_THREAD], PLEX_THREADS - 1);
     else if (row[PLEX_ROW_KIND] > PLEX_CMX)
         add(why, "its kind is %u, and kinds are 0 (FD) and 1 (CMX)", row[PLEX_ROW_KIND]);
+    else if (row[PLEX_ROW_LOCK] >= PLEX_LOCKS)
+        add(why, "its lock is %u, and locks are 0 to %d", row[PLEX_ROW_LOCK], PLEX_LOCKS - 1);
 }
 
 static void explain_head(struct line *why, const uint8_t *record)

@@ -1,15 +1,6 @@
 /* The rules of two images that are to be linked, in words. */
 #include "explain.h"
 
-/* As "block 4" or "blocks 0 4", given at least one. */
-static void add_blocks(struct line *why, uint32_t blocks)
-{
-    add(why, (blocks & (blocks - 1)) == 0 ? "block" : "blocks");
-    for (uint32_t block = 0; block < PLEX_BLOCKS; block++)
-        if (blocks >> block & 1)
-            add(why, " %u", block);
-}
-
 void explain_link(struct line *why, const uint8_t *first, uint32_t first_records, const uint8_t *second,
                   uint32_t second_records)
 {

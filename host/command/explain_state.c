@@ -13,6 +13,11 @@ static bool is_running(const struct seen *seen, uint32_t thread)
     return get16(thread_at(seen->state, thread) + PLEX_THREAD_LABEL) != PLEX_IDLE;
 }
 
+static uint32_t locks_at(const struct seen *seen, uint32_t thread)
+{
+    return get16(thread_at(seen->state, thread) + PLEX_THREAD_LOCKS);
+}
+
 /* The label of a running thread or one of its return labels. */
 static void explain_label(struct line *why, const struct seen *seen, uint32_t thread, uint32_t label)
 {
@@ -20,10 +25,10 @@ static void explain_label(struct line *why, const struct seen *seen, uint32_t th
         add(why, "thread %u has label %u, and the image's labels are below %u", thread, label, seen->records);
         return;
     }
-    uint32_t block = record_at(seen->image, label)[PLEX_RECORD_BLOCK];
+    uint32_t block = record_at(seen->image, label)[PLEX_RECORD_BLOCK], lock = lock_of(seen->table, block);
     const uint8_t *row = row_at(seen->table, block);
-    if (!(get16(thread_at(seen->state, thread) + PLEX_THREAD_LOCKS) >> block & 1))
-        add(why, "thread %u has label %u without the lock of its block %u", thread, label, block);
+    if (!(locks_at(seen, thread) >> lock & 1))
+        add(why, "thread %u has label %u without lock %u of its block %u", thread, label, lock, block);
     else if (row[PLEX_ROW_KIND] != PLEX_CMX && row[PLEX_ROW_THREAD] != thread)
         add(why, "thread %u has label %u, in FD block %u of thread %u", thread, label, block, row[PLEX_ROW_THREAD]);
 }
@@ -116,17 +121,26 @@ static void explain_idle(struct line *why, const uint8_t *bytes, uint32_t thread
         add(why, "thread %u is idle, and its held signals are not all 0", thread);
 }
 
+/* The lowest lock that both threads hold, or PLEX_LOCKS. */
+static uint32_t common_lock(const struct seen *seen, uint32_t thread, uint32_t other)
+{
+    uint32_t both = locks_at(seen, thread) & locks_at(seen, other), lock = 0;
+    while (lock < PLEX_LOCKS && !(both >> lock & 1))
+        lock++;
+    return lock;
+}
+
 static void explain_thread(struct line *why, const struct seen *seen, uint32_t thread)
 {
-    const uint8_t *bytes = thread_at(seen->state, thread);
-    uint32_t locks = get16(bytes + PLEX_THREAD_LOCKS);
     if (is_running(seen, thread))
         explain_running(why, seen, thread);
     else
-        explain_idle(why, bytes, thread);
-    for (uint32_t other = 0; other < thread && why->length == 0; other++)
-        if (locks & get16(thread_at(seen->state, other) + PLEX_THREAD_LOCKS))
-            add(why, "threads %u and %u hold the same lock", other, thread);
+        explain_idle(why, thread_at(seen->state, thread), thread);
+    for (uint32_t other = 0; other < thread && why->length == 0; other++) {
+        uint32_t lock = common_lock(seen, thread, other);
+        if (lock < PLEX_LOCKS)
+            add(why, "threads %u and %u both hold lock %u", other, thread, lock);
+    }
 }
 
 /* A tree by itself. */

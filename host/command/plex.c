@@ -15,8 +15,8 @@ static const struct part {
     const char *help;
 } parts[] = {
     {"check", check_command, "IMAGE TABLE",
-     "Checks an image and its block table. If they are refused, says which record or block is at\n"
-     "fault and which rule it seems to break.\n"},
+     "Checks an image and its block table, and names the groups of blocks that have one lock. If they\n"
+     "are refused, says which record or block is at fault and which rule it seems to break.\n"},
     {"show", show_command, "IMAGE",
      "Lists an image as statements, block by block: label, entry, statement. r0 is register 0 and\n"
      "w0 shared word 0 of the record's block.\n"},
@@ -41,10 +41,11 @@ static const struct part {
      "carried out and the summary printed, both or none.\n"},
     {"state", state_command, "[IMAGE TABLE] STATE",
      "Shows a state: threads with their held signals, locks held, queues, trees with their pending\n"
-     "signals, and the shared words that are not 0. With its image and table, says whether it is\n"
-     "well formed.\n"},
+     "signals, and the shared words that are not 0. With its image and table, says which blocks the\n"
+     "locks guard, and whether it is well formed.\n"},
     {"waits", waits_command, "IMAGE TABLE STATE [--dot|--svg FILE]",
-     "Says which thread waits for which, and where a ring closes; the status is then 3.\n"
+     "Says which thread waits for which lock and thread, which blocks these locks guard, and where a\n"
+     "ring closes; the status is then 3.\n"
      "\n"
      "  --dot       print the waits as a Graphviz graph instead\n"
      "  --svg FILE  draw a picture of the waits instead\n"},
@@ -55,7 +56,7 @@ static const char common[] =
     "The file - is standard input. --out=FILE is --out FILE, and so for each option; after -- come\n"
     "files alone. --quiet prints nothing but what goes wrong.\n"
     "\n"
-    "An image is 84 bytes a record, 1 to 512 records; a block table 32 bytes; initial words 512\n"
+    "An image is 84 bytes a record, 1 to 512 records; a block table 48 bytes; initial words 512\n"
     "bytes; a state 9,633 bytes; an event 55 bytes; an answer 2 bytes.\n";
 
 static void print_help(void)

@@ -25,6 +25,13 @@ void print(const char *format, ...)
     va_end(arguments);
 }
 
+void print_guarded(uint32_t lock, const struct groups *groups)
+{
+    struct line line = {0};
+    add_blocks(&line, groups->blocks[lock]);
+    print("lock %u guards %s\n", lock, line.text);
+}
+
 void flush_printed(void)
 {
     note_error(fflush(stdout) != 0);

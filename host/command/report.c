@@ -77,13 +77,18 @@ static void report_row(const struct lent *lent, uint32_t block)
     struct line line = {0}, why = {0};
     explain_row(&why, lent->table.bytes, block);
     add_cause(&line, &why);
-    complain("%s: block %u (thread %u, kind %u) has a field out of range%s", lent->table.path, block,
-             row[PLEX_ROW_THREAD], row[PLEX_ROW_KIND], line.text);
+    complain("%s: block %u (thread %u, kind %u, lock %u) has a field out of range%s", lent->table.path, block,
+             row[PLEX_ROW_THREAD], row[PLEX_ROW_KIND], row[PLEX_ROW_LOCK], line.text);
 }
 
 uint32_t records_of(const struct file *image)
 {
     return (uint32_t)(image->size / PLEX_RECORD_SIZE);
+}
+
+struct groups groups_of(const struct lent *lent)
+{
+    return find_groups(lent->image.bytes, records_of(&lent->image), lent->table.bytes);
 }
 
 static void report_record(const struct lent *lent, uint32_t label)
@@ -131,7 +136,7 @@ static void report(const struct lent *lent, uint32_t number, uint32_t place)
         report_length(&lent->image, LONGEST_IMAGE, "an image is 84 bytes a record, 1 to 512 records");
         break;
     case PLEX_BAD_TABLE_LENGTH:
-        report_length(&lent->table, PLEX_TABLE_SIZE, "a block table is 32 bytes");
+        report_length(&lent->table, PLEX_TABLE_SIZE, "a block table is 48 bytes: thread, kind and lock of 16 blocks");
         break;
     case PLEX_BAD_TABLE_FIELD:
         report_row(lent, place);

@@ -81,8 +81,10 @@ static bool trace(struct run *run, size_t count, uint8_t *answers)
         memcpy(before, run->lent.state.bytes, sizeof before);
         if (!carry_out(run, i, 1, answer))
             return false;
-        print_traced(run->tally.events - 1, run->lent.image.bytes, run->lent.events.bytes + PLEX_EVENT_SIZE * i, answer,
-                     before, run->lent.state.bytes);
+        struct traced traced = {run->tally.events - 1, run->lent.events.bytes + PLEX_EVENT_SIZE * i, answer, before,
+                                run->lent.state.bytes};
+        struct groups groups = groups_of(&run->lent);
+        print_traced(&traced, run->lent.image.bytes, &groups);
     }
     return true;
 }

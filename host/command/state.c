@@ -35,14 +35,16 @@ static void print_threads(const uint8_t *state)
     }
 }
 
-static void print_locks(const uint8_t *state)
+static void print_locks(const uint8_t *state, const struct groups *groups)
 {
     bool any = false;
     print_heading("locks");
-    for (uint32_t lock = 0; lock < PLEX_BLOCKS; lock++)
+    for (uint32_t lock = 0; lock < PLEX_LOCKS; lock++)
         for (uint32_t thread = 0; thread < PLEX_THREADS; thread++)
             if (get16(thread_at(state, thread) + PLEX_THREAD_LOCKS) >> lock & 1) {
-                print("  lock %u is held by thread %u\n", lock, thread);
+                struct line line = {0};
+                add_lock(&line, lock, groups);
+                print("  %s is held by thread %u\n", line.text, thread);
                 any = true;
             }
     if (!any)
@@ -97,10 +99,11 @@ static void print_words(const uint8_t *state)
         print("  none\n");
 }
 
-static void print_state(const uint8_t *state)
+/* The groups are NULL if they are not known. */
+static void print_state(const uint8_t *state, const struct groups *groups)
 {
     print_threads(state);
-    print_locks(state);
+    print_locks(state, groups);
     print_heading("queues");
     for (uint32_t thread = 0; thread < PLEX_THREADS; thread++)
         print_queue(state, thread);
@@ -127,8 +130,10 @@ static bool show_state(const struct lent *lent, bool has_image)
 {
     if (!has_image && !is_state_long(&lent->state))
         return false;
+    bool has_table = lent->table.size == PLEX_TABLE_SIZE;
+    struct groups groups = has_table ? groups_of(lent) : (struct groups){{0}};
     if (lent->state.size == PLEX_STATE_SIZE)
-        print_state(lent->state.bytes);
+        print_state(lent->state.bytes, has_table ? &groups : NULL);
     return !has_image || is_well_formed(lent);
 }
 

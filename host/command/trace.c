@@ -42,19 +42,18 @@ static void add_carried_out(struct line *line, const uint8_t *image, const uint8
     add_statement(line, record_at(image, label));
 }
 
-void print_traced(uint64_t index, const uint8_t *image, const uint8_t *event, const uint8_t *answer,
-                  const uint8_t *before, const uint8_t *after)
+void print_traced(const struct traced *traced, const uint8_t *image, const struct groups *groups)
 {
-    uint32_t thread = event[PLEX_EVENT_THREAD];
+    uint32_t thread = traced->event[PLEX_EVENT_THREAD];
     struct line what = {0}, said = {0}, where = {0};
-    add_event(&what, event);
-    add_answer(&said, answer);
-    if (event[PLEX_EVENT_KIND] != PLEX_ARRIVAL) {
-        add_carried_out(&what, image, thread_at(before, thread));
-        add_thread(&where, thread_at(after, thread));
+    add_event(&what, traced->event);
+    add_answer(&said, traced->answer, groups);
+    if (traced->event[PLEX_EVENT_KIND] != PLEX_ARRIVAL) {
+        add_carried_out(&what, image, thread_at(traced->before, thread));
+        add_thread(&where, thread_at(traced->after, thread));
     }
-    print("%8" PRIu64 "  %-64s  %s%s%s", index, what.text, colour_on(stdout, colour_of(answer)), said.text,
-          colour_off(stdout));
+    print("%8" PRIu64 "  %-64s  %s%s%s", traced->index, what.text, colour_on(stdout, colour_of(traced->answer)),
+          said.text, colour_off(stdout));
     print(where.length == 0 ? "\n" : "; %s\n", where.text);
 }
 

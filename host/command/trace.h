@@ -2,7 +2,7 @@
 #ifndef TRACE_H
 #define TRACE_H
 
-#include "fields.h"
+#include "groups.h"
 
 /* How often each code and each trap was answered, and how many held signals EXIT has lost. */
 struct tally {
@@ -11,9 +11,14 @@ struct tally {
 
 void count_answer(struct tally *tally, const uint8_t *answer);
 
-/* The line of an event, given the states around it. */
-void print_traced(uint64_t index, const uint8_t *image, const uint8_t *event, const uint8_t *answer,
-                  const uint8_t *before, const uint8_t *after);
+/* An event with its answer, and the states around it. */
+struct traced {
+    uint64_t index;
+    const uint8_t *event, *answer, *before, *after;
+};
+
+/* The line of an event. */
+void print_traced(const struct traced *traced, const uint8_t *image, const struct groups *groups);
 
 void print_summary(const struct tally *tally, const uint8_t *state);
 

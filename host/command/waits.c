@@ -29,7 +29,7 @@ static bool walk_from_all(const struct lent *lent, struct walk *walks)
                                  lent->state.bytes, lent->state.size, thread, walk->met, sizeof walk->met);
         if (!was_accepted(lent, walk->result) || !try_step(lent, thread, answer))
             return false;
-        walk->block = answer[PLEX_ANSWER_DETAIL];
+        walk->lock = answer[PLEX_ANSWER_DETAIL];
     }
     return true;
 }
@@ -41,24 +41,28 @@ static void print_walk(const struct walk *walks, const struct walk *walk)
     uint32_t count = walk->result & ~PLEX_RING, last = walk->met[count - 1];
     print("%sthread %u", colour_on(stdout, ring ? RED : YELLOW), walk->met[0]);
     for (uint32_t i = 1; i < count; i++)
-        print(" --lock %u--> thread %u", walks[walk->met[i - 1]].block, walk->met[i]);
+        print(" --lock %u--> thread %u", walks[walk->met[i - 1]].lock, walk->met[i]);
     if (ring)
-        print(" --lock %u--> thread %u again: a ring", walks[last].block, walks[last].met[1]);
+        print(" --lock %u--> thread %u again: a ring", walks[last].lock, walks[last].met[1]);
     else
         print(", which does not wait");
     print("%s\n", colour_off(stdout));
 }
 
-static void print_walks(const struct walk *walks)
+/* The walks of the threads that wait, and then which blocks each lock guards that is waited for. */
+static void print_walks(const struct walk *walks, const struct groups *groups)
 {
-    bool any = false;
+    uint32_t wanted = 0;
     for (uint32_t thread = 0; thread < PLEX_THREADS; thread++)
         if (does_wait(&walks[thread])) {
             print_walk(walks, &walks[thread]);
-            any = true;
+            wanted |= 1u << walks[thread].lock;
         }
-    if (!any)
+    if (wanted == 0)
         print("no thread waits\n");
+    for (uint32_t lock = 0; lock < PLEX_LOCKS; lock++)
+        if (wanted >> lock & 1)
+            print_guarded(lock, groups);
 }
 
 /* The graph grows down the page, and is made smaller if it does not fit. */
@@ -75,7 +79,7 @@ static void print_graph(const uint8_t *state, const struct walk *walks)
     }
     for (uint32_t thread = 0; thread < PLEX_THREADS; thread++)
         if (does_wait(&walks[thread]))
-            print("  t%u -> t%u [label=\"lock %u\"%s];\n", thread, walks[thread].met[1], walks[thread].block,
+            print("  t%u -> t%u [label=\"lock %u\"%s];\n", thread, walks[thread].met[1], walks[thread].lock,
                   is_on_ring(walks, thread) ? ", color=red" : "");
     print("}\n");
 }
@@ -117,10 +121,11 @@ static int show_waits(const struct lent *lent, bool as_graph, const char *pictur
     struct walk walks[PLEX_THREADS];
     if (!walk_from_all(lent, walks))
         return TURNED_BACK;
+    struct groups groups = groups_of(lent);
     if (as_graph)
         print_graph(lent->state.bytes, walks);
     else if (picture == NULL)
-        print_walks(walks);
+        print_walks(walks, &groups);
     if (!is_printed() || (picture != NULL && !write_picture(picture, lent->state.bytes, walks)))
         return TURNED_BACK;
     return has_ring(walks) ? RING_FOUND : DONE;

@@ -11,7 +11,7 @@
 struct walk {
     uint8_t met[PLEX_MET_SIZE];
     uint32_t result;
-    uint32_t block; /* whose lock it waits for, if it waits */
+    uint32_t lock; /* that it waits for, if it waits */
 };
 
 bool does_wait(const struct walk *walk);

@@ -26,9 +26,7 @@ bool is_in_waits(const struct walk *walks, uint32_t thread)
 void write_box(char lines[BOX_LINES][BOX_LINE_SIZE], const uint8_t *state, const struct walk *walks, uint32_t thread)
 {
     const uint8_t *bytes = thread_at(state, thread);
-    uint32_t label = get16(bytes + PLEX_THREAD_LABEL), count = 0;
-    for (uint32_t locks = get16(bytes + PLEX_THREAD_LOCKS); locks != 0; locks &= locks - 1)
-        count++;
+    uint32_t label = get16(bytes + PLEX_THREAD_LABEL), count = count_bits(get16(bytes + PLEX_THREAD_LOCKS));
     snprintf(lines[0], BOX_LINE_SIZE, "thread %u", thread);
     if (label == PLEX_IDLE)
         snprintf(lines[1], BOX_LINE_SIZE, "idle");
@@ -36,7 +34,7 @@ void write_box(char lines[BOX_LINES][BOX_LINE_SIZE], const uint8_t *state, const
         snprintf(lines[1], BOX_LINE_SIZE, "at label %u", label);
     snprintf(lines[2], BOX_LINE_SIZE, "holds %u %s", count, count == 1 ? "lock" : "locks");
     if (does_wait(&walks[thread]))
-        snprintf(lines[3], BOX_LINE_SIZE, "waits for lock %u", walks[thread].block);
+        snprintf(lines[3], BOX_LINE_SIZE, "waits for lock %u", walks[thread].lock);
     else
         snprintf(lines[3], BOX_LINE_SIZE, "does not wait");
 }
