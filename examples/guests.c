@@ -30,18 +30,24 @@ static const struct statement second_program[SECOND_RECORDS] = {
     {LEDGER, PLEX_BUFFERED, PLEX_EXIT, 0, 0, 0, 0, {NUMBER(0)}},
 };
 
-static const uint8_t table[PLEX_TABLE_SIZE] = {[PLEX_ROW_SIZE * DESK + PLEX_ROW_THREAD] = 1,
-                                               [PLEX_ROW_SIZE * DESK + PLEX_ROW_KIND] = PLEX_CMX,
-                                               [PLEX_ROW_SIZE * LEDGER + PLEX_ROW_THREAD] = 2,
-                                               [PLEX_ROW_SIZE * LEDGER + PLEX_ROW_KIND] = PLEX_CMX};
 static const uint8_t words[PLEX_WORDS_SIZE];
 static uint8_t first[FIRST_RECORDS * PLEX_RECORD_SIZE], second[SECOND_RECORDS * PLEX_RECORD_SIZE];
-static uint8_t linked[sizeof first + sizeof second];
+static uint8_t table[PLEX_TABLE_SIZE], linked[sizeof first + sizeof second];
 
 /* Events, and what they give on an image. */
 struct run {
     uint8_t events[EVENTS * PLEX_EVENT_SIZE], answers[EVENTS * PLEX_ANSWER_SIZE], state[PLEX_STATE_SIZE];
 };
+
+/* Every block has a lock of its own. */
+static void make_guests(void)
+{
+    put_statements(first, first_program, FIRST_RECORDS);
+    put_statements(second, second_program, SECOND_RECORDS);
+    put_lone_rows(table);
+    put_row(table, DESK, 1, PLEX_CMX, DESK);
+    put_row(table, LEDGER, 2, PLEX_CMX, LEDGER);
+}
 
 static void make_first_events(uint8_t *event)
 {
@@ -119,12 +125,13 @@ static int carry_out(struct run *run, const char *where, const uint8_t *image, s
 
 static void print_events(const struct run *alone, const struct run *both)
 {
+    struct groups groups = find_groups(linked, LINKED_RECORDS, table);
     for (uint32_t i = 0; i < EVENTS; i++) {
         const uint8_t *answer = both->answers + PLEX_ANSWER_SIZE * i;
         struct line event = {0}, moved = {0}, answered = {0};
         add_event(&event, alone->events + PLEX_EVENT_SIZE * i);
         add_event(&moved, both->events + PLEX_EVENT_SIZE * i);
-        add_answer(&answered, answer);
+        add_answer(&answered, answer, &groups);
         printf("%4u  %-20s  %-20s  %02x %02x  %s\n", i, event.text, moved.text, answer[PLEX_ANSWER_CODE],
                answer[PLEX_ANSWER_DETAIL], answered.text);
     }
@@ -179,8 +186,7 @@ static int try_guest(const char *name, const uint8_t *image, size_t size, void (
 
 int main(void)
 {
-    put_statements(first, first_program, FIRST_RECORDS);
-    put_statements(second, second_program, SECOND_RECORDS);
+    make_guests();
     if (!is_accepted("link", "both guests",
                      plex_link(first, sizeof first, second, sizeof second, table, sizeof table, linked, sizeof linked)))
         return 1;

@@ -1,30 +1,32 @@
-/* The one-by-one reading, worked on two threads: an event list is carried out, the second order is
- * made from its events and answers, and the second order is carried out on a fresh machine. Both
- * have to leave the same state bytes, and each event to get the same answer. */
+/* The one-by-one reading, worked on two threads and a group of two blocks that have one lock: an event
+ * list is carried out, the second order is made from its events and answers, and the second order is
+ * carried out on a fresh machine. Both have to leave the same state bytes, and each event to get the
+ * same answer. */
 #include "build.h"
+#include "names.h"
 #include "words.h"
 
 #include <stdio.h>
 #include <string.h>
 
-enum { RECORDS = 6, EVENTS = 16, COUNTER = 4, ASKER = 5 };
+enum { RECORDS = 8, EVENTS = 19, COUNTER = 4, ASKER = 5, DISPLAY = 6, GROUP_LOCK = 9 };
 
-/* Block 4, thread 0: adds what it is sent to its word; tells its word to a caller. Block 5, thread
- * 1: asks block 4 and keeps what it is told. */
+/* Block 4, thread 0: adds what it is sent to its word, and goes on in block 6, which shows that word in
+ * its own and tells it to a caller. With one lock for both, nobody is told a sum that is out of date.
+ * Block 5, thread 1: asks block 6 and keeps what it is told. */
 static const struct statement program[RECORDS] = {
     {COUNTER, PLEX_EXTERNAL, PLEX_ASSIGN, PLEX_ADD, 1, 0, 3, {WORD(0), WORD(0), REGISTER(0)}},
-    {COUNTER, PLEX_NO_ENTRY, PLEX_EXIT, 0, 0, 0, 0, {NUMBER(0)}},
-    {COUNTER, PLEX_DIRECT, PLEX_RETURN, 0, 0, 0, 1, {WORD(0)}},
-    {ASKER, PLEX_EXTERNAL, PLEX_CALL, 0, 2, 4, 0, {NUMBER(0)}},
-    {ASKER, PLEX_NO_ENTRY, PLEX_ASSIGN, PLEX_COPY, 5, 0, 2, {WORD(0), REGISTER(0)}},
+    {COUNTER, PLEX_NO_ENTRY, PLEX_SEND_DIRECT, 0, 2, 0, 1, {WORD(0)}},
+    {DISPLAY, PLEX_DIRECT, PLEX_ASSIGN, PLEX_COPY, 3, 0, 2, {WORD(0), REGISTER(0)}},
+    {DISPLAY, PLEX_NO_ENTRY, PLEX_EXIT, 0, 0, 0, 0, {NUMBER(0)}},
+    {DISPLAY, PLEX_DIRECT, PLEX_RETURN, 0, 0, 0, 1, {WORD(0)}},
+    {ASKER, PLEX_EXTERNAL, PLEX_CALL, 0, 4, 6, 0, {NUMBER(0)}},
+    {ASKER, PLEX_NO_ENTRY, PLEX_ASSIGN, PLEX_COPY, 7, 0, 2, {WORD(0), REGISTER(0)}},
     {ASKER, PLEX_NO_ENTRY, PLEX_EXIT, 0, 0, 0, 0, {NUMBER(0)}},
 };
 
-static const uint8_t table[PLEX_TABLE_SIZE] = {[PLEX_ROW_SIZE * COUNTER + PLEX_ROW_KIND] = PLEX_CMX,
-                                               [PLEX_ROW_SIZE * ASKER + PLEX_ROW_THREAD] = 1,
-                                               [PLEX_ROW_SIZE * ASKER + PLEX_ROW_KIND] = PLEX_CMX};
 static const uint8_t words[PLEX_WORDS_SIZE];
-static uint8_t image[RECORDS * PLEX_RECORD_SIZE];
+static uint8_t image[RECORDS * PLEX_RECORD_SIZE], table[PLEX_TABLE_SIZE];
 
 /* An event list with its answers, and the number that each event has in the first order. */
 struct list {
@@ -32,26 +34,48 @@ struct list {
     uint32_t numbers[EVENTS], count;
 };
 
-static void print_image(void)
+static void make_machine(void)
 {
+    put_statements(image, program, RECORDS);
+    put_lone_rows(table);
+    put_row(table, COUNTER, 0, PLEX_CMX, GROUP_LOCK);
+    put_row(table, ASKER, 1, PLEX_CMX, ASKER);
+    put_row(table, DISPLAY, 0, PLEX_CMX, GROUP_LOCK);
+}
+
+static void print_bytes(const struct line *line, const uint8_t *bytes, uint32_t size)
+{
+    printf("%-48s", line->text);
+    for (uint32_t i = 0; i < size; i++)
+        printf(" %02x", bytes[i]);
+    printf("\n");
+}
+
+/* The rows of the blocks that have records, and the records. */
+static void print_machine(void)
+{
+    for (uint32_t block = COUNTER; block <= DISPLAY; block++) {
+        const uint8_t *row = row_at(table, block);
+        struct line line = {0};
+        add(&line, "block %u: thread %u, %s, lock %u", block, row[PLEX_ROW_THREAD], block_kind_name(row[PLEX_ROW_KIND]),
+            row[PLEX_ROW_LOCK]);
+        print_bytes(&line, row, PLEX_ROW_SIZE);
+    }
     for (uint32_t label = 0; label < RECORDS; label++) {
         struct line line = {0};
+        add(&line, "label %u, block %u: ", label, program[label].block);
         add_statement(&line, record_at(image, label));
-        printf("label %u, block %u: %-30s", label, program[label].block, line.text);
-        uint32_t size = PLEX_RECORD_OPERANDS + PLEX_OPERAND_SIZE * program[label].count;
-        for (uint32_t i = 0; i < size; i++)
-            printf(" %02x", record_at(image, label)[i]);
-        printf("\n");
+        print_bytes(&line, record_at(image, label), PLEX_RECORD_OPERANDS + PLEX_OPERAND_SIZE * program[label].count);
     }
 }
 
 static void make_events(struct list *list)
 {
     static const uint16_t five = 5, nine = 9;
-    static const uint8_t stepped[] = {1, 0, 1, 0, 0, 1, 1, 0};
+    static const uint8_t stepped[] = {1, 0, 1, 0, 0, 1, 0, 0, 1, 1, 0};
     uint8_t *event = list->events;
     put_arrival(event, 0, &five, 1);
-    put_arrival(event += PLEX_EVENT_SIZE, 3, NULL, 0);
+    put_arrival(event += PLEX_EVENT_SIZE, 5, NULL, 0);
     for (size_t i = 0; i < sizeof stepped; i++)
         put_step(event += PLEX_EVENT_SIZE, stepped[i]);
     put_arrival(event += PLEX_EVENT_SIZE, 0, &nine, 1);
@@ -73,12 +97,13 @@ static int carry_out(struct list *list, uint8_t *state)
 
 static void print_list(const char *name, const struct list *list)
 {
+    struct groups groups = find_groups(image, RECORDS, table);
     printf("%s\n", name);
     for (uint32_t i = 0; i < list->count; i++) {
         struct line event = {0}, answer = {0};
         const uint8_t *answered = list->answers + PLEX_ANSWER_SIZE * i;
         add_event(&event, list->events + PLEX_EVENT_SIZE * i);
-        add_answer(&answer, answered);
+        add_answer(&answer, answered, &groups);
         printf("%4u  %-20s %02x %02x  %s\n", list->numbers[i], event.text, answered[PLEX_ANSWER_CODE],
                answered[PLEX_ANSWER_DETAIL], answer.text);
     }
@@ -137,8 +162,8 @@ int main(void)
 {
     static struct list first, second;
     static uint8_t left[PLEX_STATE_SIZE], left_again[PLEX_STATE_SIZE];
-    put_statements(image, program, RECORDS);
-    print_image();
+    make_machine();
+    print_machine();
     make_events(&first);
     if (!carry_out(&first, left))
         return 1;
@@ -150,7 +175,7 @@ int main(void)
     int same_state = memcmp(left, left_again, sizeof left) == 0, answered = same_answers(&first, &second);
     printf("the state bytes are %s, the answers are %s\n", same_state ? "the same" : "OTHERS",
            answered ? "the same" : "OTHERS");
-    printf("word 0 of block %d is %u, word 0 of block %d is %u\n", COUNTER, get16(word_at(left, COUNTER, 0)), ASKER,
-           get16(word_at(left, ASKER, 0)));
+    for (uint32_t block = COUNTER; block <= DISPLAY; block++)
+        printf("word 0 of block %u is %u\n", block, get16(word_at(left, block, 0)));
     return !same_state || !answered;
 }

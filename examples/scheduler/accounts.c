@@ -80,15 +80,12 @@ static void put_nuisance(uint8_t *image, uint32_t t)
 
 void make_accounts(uint8_t *image, uint8_t *table, uint8_t *words)
 {
-    memset(table, 0, PLEX_TABLE_SIZE);
     memset(words, 0, PLEX_WORDS_SIZE);
     for (uint32_t t = 0; t < ACCOUNTS; t++) {
         put_account(image, t);
         put_nuisance(image, t);
-        uint8_t *row = table + PLEX_ROW_SIZE * t, *nuisance_row = row + PLEX_ROW_SIZE * ACCOUNTS;
-        row[PLEX_ROW_THREAD] = nuisance_row[PLEX_ROW_THREAD] = (uint8_t)t;
-        row[PLEX_ROW_KIND] = PLEX_CMX;
-        nuisance_row[PLEX_ROW_KIND] = PLEX_FD;
+        put_row(table, t, t, PLEX_CMX, t);
+        put_row(table, ACCOUNTS + t, t, PLEX_FD, ACCOUNTS + t);
         put16(words + 2 * PLEX_BLOCK_WORDS * t, FIRST_BALANCE);
     }
 }

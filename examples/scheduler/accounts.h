@@ -11,7 +11,8 @@ enum { RECORDS = ACCOUNTS * (ACCOUNT_LABELS + NUISANCE_LABELS) };
  * leaves a signal in its tree for the next one, for ever. */
 enum order { TRANSFER, LOOP, REFILL };
 
-/* The image, the block table and the initial words; every account begins with the same balance. */
+/* The image, the block table and the initial words; every block has a lock of its own, and every account
+ * begins with the same balance. */
 void make_accounts(uint8_t *image, uint8_t *table, uint8_t *words);
 
 /* The arrival that brings thread t an order. */

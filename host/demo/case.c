@@ -3,9 +3,10 @@
 
 #include <string.h>
 
-/* North's guest calls North's charging, which calls the tariffs. Those want the price of a pulse
- * in register 1, and nobody has sent it. South's guest does RETURN, and nobody has called it. The
- * audit calls North's charging to read the charge. */
+/* North's guest calls North's charging, which calls the tariffs; these two blocks have one lock, so the
+ * second call takes no other. The tariffs want the price of a pulse in register 1, and nobody has sent
+ * it. South's guest does RETURN, and nobody has called it. The audit calls North's charging to read the
+ * charge. */
 static const struct statement program[CASE_RECORDS] = {
     {NORTH_GUEST, PLEX_EXTERNAL, PLEX_CALL, 0, 3, 1, 1, {REGISTER(0)}},
     {NORTH_GUEST, PLEX_NO_ENTRY, PLEX_ASSIGN, PLEX_ADD, 2, 0, 3, {WORD(0), WORD(0), NUMBER(1)}},
@@ -33,13 +34,16 @@ static const struct statement east_program[EAST_RECORDS] = {
 
 static const struct {
     const char *name;
-    uint8_t thread;
+    uint8_t thread, lock;
     uint16_t first_word;
 } blocks[CASE_BLOCKS] = {
-    [NORTH_GUEST] = {"North's guest", 0, 0}, [NORTH_CHARGING] = {"North's charging", 0, 120},
-    [TARIFFS] = {"the tariffs", 0, 0},       [SOUTH_GUEST] = {"South's guest", 0, 75},
-    [AUDIT] = {"the audit", 1, 0},           [EAST_GUEST] = {"East's guest", 2, 0},
-    [EAST_LEDGER] = {"East's ledger", 3, 0},
+    [NORTH_GUEST] = {"North's guest", 0, NORTH_GUEST, 0},
+    [NORTH_CHARGING] = {"North's charging", 0, FAMILY_LOCK, 120},
+    [TARIFFS] = {"the tariffs", 0, FAMILY_LOCK, 0},
+    [SOUTH_GUEST] = {"South's guest", 0, SOUTH_GUEST, 75},
+    [AUDIT] = {"the audit", 1, AUDIT, 0},
+    [EAST_GUEST] = {"East's guest", 2, EAST_GUEST, 0},
+    [EAST_LEDGER] = {"East's ledger", 3, EAST_LEDGER, 0},
 };
 
 /* The thread of each step after the case's three arrivals. */
@@ -53,6 +57,7 @@ static const char *const notes[LINKED_EVENTS] = {
     [1] = "South's guest",
     [2] = "the audit",
     [6] = "the audit calls North's charging, where North's job is",
+    [7] = "the tariffs have the lock of North's charging, so no other is taken",
     [8] = "North's job inside its second nested call, with no price of a pulse",
     [9] = "the audit once more",
     [10] = "South's guest on the thread that North's job had",
@@ -91,10 +96,9 @@ void make_case(struct field_case *made)
     memset(made, 0, sizeof *made);
     put_statements(made->image, program, CASE_RECORDS);
     put_statements(made->east_image, east_program, EAST_RECORDS);
+    put_lone_rows(made->table);
     for (uint32_t block = 0; block < CASE_BLOCKS; block++) {
-        uint8_t *row = made->table + PLEX_ROW_SIZE * block;
-        row[PLEX_ROW_THREAD] = blocks[block].thread;
-        row[PLEX_ROW_KIND] = PLEX_CMX;
+        put_row(made->table, block, blocks[block].thread, PLEX_CMX, blocks[block].lock);
         put16(made->words + 2 * PLEX_BLOCK_WORDS * block, blocks[block].first_word);
     }
     make_events(made->events);

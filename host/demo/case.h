@@ -5,8 +5,10 @@
 
 #include "plex.h"
 
-/* The blocks, each with the lock of its number. */
+/* The blocks. North's charging and the tariffs are a family with one lock; each of the others has the
+ * lock of its own number. */
 enum { NORTH_GUEST, NORTH_CHARGING, TARIFFS, SOUTH_GUEST, AUDIT, EAST_GUEST, EAST_LEDGER, CASE_BLOCKS };
+enum { FAMILY_LOCK = 9 };
 
 enum { CASE_RECORDS = 13, EAST_RECORDS = 5, LINKED_RECORDS = CASE_RECORDS + EAST_RECORDS };
 enum { CASE_EVENTS = 15, EAST_EVENTS = 8, LINKED_EVENTS = CASE_EVENTS + EAST_EVENTS };

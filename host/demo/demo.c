@@ -1,5 +1,6 @@
 /* The case from the field, replayed: a guest's job traps inside its second nested call, and the
- * next guest on the same thread does RETURN. An engine that kept the return labels of the ended
+ * next guest on the same thread does RETURN. The two blocks that the job calls have one lock, for
+ * which an audit on another thread waits. An engine that kept the return labels of the ended
  * job would let South's RETURN go on at label 4 and charge North for it; one that kept its locks
  * would let the audit wait for ever. East's guest and its ledger, which come as an image of their
  * own, are linked behind the case first, and run after it: the guest's job founds a tree for the
@@ -19,6 +20,7 @@
 static struct field_case field;
 static uint8_t linked[LINKED_RECORDS * PLEX_RECORD_SIZE];
 static uint8_t state[PLEX_STATE_SIZE];
+static struct groups groups;
 
 /* Whether a call was accepted; says so if not. */
 static int accepted(const char *call, uint32_t result)
@@ -33,8 +35,8 @@ static void print_program(void)
 {
     for (uint32_t block = 0; block < CASE_BLOCKS; block++) {
         const uint8_t *row = row_at(field.table, block);
-        printf("block %u, %s: %s, thread %u\n", block, case_block_name(block), block_kind_name(row[PLEX_ROW_KIND]),
-               row[PLEX_ROW_THREAD]);
+        printf("block %u, %s: %s, thread %u, lock %u\n", block, case_block_name(block),
+               block_kind_name(row[PLEX_ROW_KIND]), row[PLEX_ROW_THREAD], row[PLEX_ROW_LOCK]);
         for (uint32_t label = 0; label < LINKED_RECORDS; label++)
             if (record_at(linked, label)[PLEX_RECORD_BLOCK] == block) {
                 struct line line = {0};
@@ -85,7 +87,7 @@ static void print_statement(uint32_t thread)
 static void print_answer(const uint8_t *answer)
 {
     struct line line = {0};
-    add_answer(&line, answer);
+    add_answer(&line, answer, &groups);
     printf("    answer    code %u, detail %u: %s\n", answer[PLEX_ANSWER_CODE], answer[PLEX_ANSWER_DETAIL], line.text);
 }
 
@@ -132,6 +134,7 @@ static int begin(void)
                                          field.table, sizeof field.table, linked, sizeof linked)))
         return 0;
     printf("The image of East's guest is linked behind the case; its labels are now %d higher.\n\n", CASE_RECORDS);
+    groups = find_groups(linked, LINKED_RECORDS, field.table);
     print_program();
     if (!accepted("plex_check", plex_check(linked, sizeof linked, field.table, sizeof field.table)) ||
         !accepted("plex_fresh", plex_fresh(linked, sizeof linked, field.table, sizeof field.table, field.words,
