@@ -107,7 +107,8 @@ altered() {
 
 # the files that more than one subject uses: 4,500 events; the case after them; the case after its
 # eighth event, where the audit waits for North's job; East's guest alone with a value of 25, a step
-# before its job ends, where it holds a signal; and files that are to stay as they are
+# before its job ends, where it holds a signal; the case's table as format 2 had it, without locks, and
+# widened again, each block with the lock of its own number; and files that are to stay as they are
 : >empty
 repeated "$events" 300 many
 head -c 440 "$events" >eight
@@ -115,6 +116,15 @@ head -c 55 "$events" >arrival
 tail -c +166 "$events" | head -c 55 >step
 byte step 1 2 step-2
 cat arrival step-2 step-2 step-2 >to-holding
+: >former-table
+: >lone-table
+block=0
+while [ "$block" -lt 16 ]; do
+    dd if="$table" bs=3 skip="$block" count=1 2>/dev/null | head -c 2 >row
+    cat row >>former-table
+    printf '%b' "\\0$(printf %o "$block")" | cat row - >>lone-table
+    block=$((block + 1))
+done
 printf 'old' >old
 cp old kept
 "$plex" run "$image" "$table" "$words" many --summary --out left >said || exit 1
@@ -123,7 +133,7 @@ cp old kept
 head -c 9632 left >short-state
 cat left empty "$table" >long-state
 
-for subject in arguments check show link run refused outputs streams signals state waits terminal; do
+for subject in arguments check show link run refused outputs streams signals state waits locks terminal; do
     . "$tests/$subject.sh"
 done
 

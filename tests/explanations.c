@@ -22,6 +22,35 @@ static void expect(const char *what, const struct line *why, int is_refused)
     printf("explanations: a %s is%s refused: '%s'\n", what, is_refused ? "" : " not", why->text);
 }
 
+/* What is returned for a part at fault, 0 if it is accepted, and what is said of it. */
+static void expect_said(uint32_t refusal, uint32_t expected, const struct line *why, const char *words)
+{
+    if (refusal == expected && strcmp(why->text, words) == 0)
+        return;
+    failures++;
+    printf("explanations: number %u, place %u, '%s', expected %u, %u, '%s'\n", PLEX_NUMBER(refusal),
+           PLEX_PLACE(refusal), why->text, PLEX_NUMBER(expected), PLEX_PLACE(expected), words);
+}
+
+static uint32_t refused_with(uint32_t number, uint32_t place)
+{
+    return 65536 * number + place;
+}
+
+/* A lock above the last, in the row of each block. */
+static void try_locks(void)
+{
+    for (uint32_t block = 0; block < PLEX_BLOCKS; block++) {
+        uint8_t tried[PLEX_TABLE_SIZE];
+        struct line why = {0};
+        memcpy(tried, table, sizeof tried);
+        tried[PLEX_ROW_SIZE * block + PLEX_ROW_LOCK] = PLEX_LOCKS;
+        explain_row(&why, tried, block);
+        expect_said(plex_check(image, sizeof image, tried, sizeof tried), refused_with(PLEX_BAD_TABLE_FIELD, block),
+                    &why, "its lock is 16, and locks are 0 to 15");
+    }
+}
+
 static void try_image(void)
 {
     uint8_t tried[sizeof image], tried_table[PLEX_TABLE_SIZE];
@@ -143,7 +172,8 @@ static const struct {
     uint32_t place;
     uint8_t byte;
     const char *words;
-} held_faults[] = {
+} faults[] = {
+    {HOLDING + PLEX_THREAD_LOCKS + 1, 0, "thread 0 has label 3 without lock 15 of its block 0"},
     {HOLDING + PLEX_THREAD_HELD_COUNT, 5, "thread 0 holds 5 signals, and a thread holds at most 4"},
     {HOLDING + PLEX_THREAD_HELD_COUNT, 1, "a byte after the last held signal of thread 0 is not 0"},
     {HOLDING + PLEX_THREAD_HELD_COUNT, 3,
@@ -162,21 +192,18 @@ static const struct {
 };
 
 /* What the library returns for a state of the holder, and what is said of it. */
-static void expect_held(const uint8_t *holding, const uint8_t *tried, uint32_t number, const char *words)
+static void expect_state(const uint8_t *holding, const uint8_t *tried, uint32_t number, const char *words)
 {
     uint8_t met[PLEX_MET_SIZE];
     struct line why = {0};
     uint32_t result = plex_walk(holding, HOLDER_RECORDS * PLEX_RECORD_SIZE, table, sizeof table, tried, PLEX_STATE_SIZE,
                                 0, met, sizeof met);
     explain_state(&why, holding, HOLDER_RECORDS, table, tried);
-    if (PLEX_NUMBER(result) == number && strcmp(why.text, words) == 0)
-        return;
-    failures++;
-    printf("explanations: number %u, '%s', expected %u, '%s'\n", PLEX_NUMBER(result), why.text, number, words);
+    expect_said(PLEX_NUMBER(result) == 0 ? 0 : result, refused_with(number, 0), &why, words);
 }
 
-/* Each rule of held signals by itself. */
-static void try_held(void)
+/* The lock of a job's block, and each rule of held signals, by itself. */
+static void try_holder(void)
 {
     static const uint16_t value = 7;
     static const uint8_t words[PLEX_WORDS_SIZE];
@@ -190,24 +217,23 @@ static void try_held(void)
         plex_run(holding, sizeof holding, table, sizeof table, held, sizeof held, events, sizeof events, answers,
                  sizeof answers) != 0)
         failures++;
-    expect_held(holding, held, 0, "");
-    for (size_t i = 0; i < sizeof held_faults / sizeof held_faults[0]; i++) {
+    expect_state(holding, held, 0, "");
+    for (size_t i = 0; i < sizeof faults / sizeof faults[0]; i++) {
         memcpy(tried, held, sizeof tried);
-        tried[held_faults[i].place] = held_faults[i].byte;
-        expect_held(holding, tried, PLEX_BAD_STATE, held_faults[i].words);
+        tried[faults[i].place] = faults[i].byte;
+        expect_state(holding, tried, PLEX_BAD_STATE, faults[i].words);
     }
 }
 
-/* Each block on a thread of its own as far as they go, every third block FD. */
+/* Each block on a thread of its own as far as they go, every third block FD, and one lock for blocks 0
+ * and 1, one for 2 and 3, and so on. */
 static void begin(void)
 {
     static const uint8_t words[PLEX_WORDS_SIZE];
     bench_mixed_image(image, RECORDS);
     make_tree_sends(image, RECORDS);
-    for (uint32_t block = 0; block < PLEX_BLOCKS; block++) {
-        table[PLEX_ROW_SIZE * block + PLEX_ROW_THREAD] = (uint8_t)(block % PLEX_THREADS);
-        table[PLEX_ROW_SIZE * block + PLEX_ROW_KIND] = block % 3 == 0 ? PLEX_FD : PLEX_CMX;
-    }
+    for (uint32_t block = 0; block < PLEX_BLOCKS; block++)
+        put_row(table, block, block % PLEX_THREADS, block % 3 == 0 ? PLEX_FD : PLEX_CMX, PLEX_LOCKS - 1 - block / 2);
     if (plex_fresh(image, sizeof image, table, sizeof table, words, sizeof words, state, sizeof state) != 0)
         failures++;
 }
@@ -215,7 +241,8 @@ static void begin(void)
 int main(void)
 {
     begin();
-    try_held();
+    try_locks();
+    try_holder();
     for (uint32_t trial = 0; trial < TRIALS; trial++) {
         try_event();
         if (trial % 16 == 0)

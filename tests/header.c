@@ -1,5 +1,6 @@
-/* The header by itself, in the part of the language that C and C++ share: its numbers fit
- * together, and the five calls carry out the whole-list trial, found trees and link two guests. */
+/* The header by itself, in the part of the language that C and C++ share: its numbers fit together, and
+ * the five calls carry out the whole-list trial, found trees, wait for a lock of two blocks and link two
+ * guests. */
 #include "plex.h"
 
 #include <stdio.h>
@@ -13,6 +14,8 @@
 
 HOLDS(PLEX_RECORD_OPERANDS + PLEX_OPERAND_SIZE * PLEX_REGISTERS == PLEX_RECORD_SIZE);
 HOLDS(PLEX_ROW_SIZE *PLEX_BLOCKS == PLEX_TABLE_SIZE);
+HOLDS(PLEX_ROW_LOCK + 1 == PLEX_ROW_SIZE);
+HOLDS(PLEX_THREAD_LOCKS + PLEX_LOCKS / 8 == PLEX_THREAD_RETURN_COUNT);
 HOLDS(2 * PLEX_BLOCKS * PLEX_BLOCK_WORDS == PLEX_WORDS_SIZE);
 HOLDS(PLEX_STATE_WORDS + PLEX_WORDS_SIZE == PLEX_STATE_THREADS);
 HOLDS(PLEX_STATE_THREADS + PLEX_THREADS * PLEX_THREAD_SIZE == PLEX_STATE_TREE_COUNT);
@@ -26,9 +29,10 @@ HOLDS(PLEX_TREE_SIGNALS + PLEX_PENDING_MAX * PLEX_SIGNAL_SIZE == PLEX_TREE_SIZE)
 HOLDS(PLEX_SIGNAL_VALUES + 2 * PLEX_REGISTERS == PLEX_SIGNAL_SIZE);
 HOLDS(PLEX_EVENT_SIGNAL + PLEX_SIGNAL_SIZE == PLEX_EVENT_SIZE);
 
-/* Version 2 of the formats: whoever changes one of them raises the version. */
-HOLDS(PLEX_FORMAT_VERSION == 2);
-HOLDS(PLEX_RECORD_SIZE == 84 && PLEX_TABLE_SIZE == 32 && PLEX_WORDS_SIZE == 512);
+/* Version 3 of the formats: whoever changes one of them raises the version. */
+HOLDS(PLEX_FORMAT_VERSION == 3);
+HOLDS(PLEX_RECORD_SIZE == 84 && PLEX_TABLE_SIZE == 48 && PLEX_WORDS_SIZE == 512);
+HOLDS(PLEX_ROW_THREAD == 0 && PLEX_ROW_KIND == 1 && PLEX_ROW_LOCK == 2 && PLEX_LOCKS == 16);
 HOLDS(PLEX_STATE_SIZE == 9633 && PLEX_EVENT_SIZE == 55 && PLEX_ANSWER_SIZE == 2);
 HOLDS(PLEX_THREAD_SIZE == 288 && PLEX_HELD_MAX == 4 && PLEX_STATE_TREE_COUNT == 2816);
 HOLDS(PLEX_EXIT == 10 && PLEX_SEND_TREE == 11 && PLEX_CUT == 3 && PLEX_NOTHING_TO_CUT == 10);
@@ -130,6 +134,64 @@ static void hold_signals(void)
     expect("dropped", state[PLEX_STATE_TREE_COUNT] == 0 && thread[PLEX_THREAD_HELD_COUNT] == 0);
 }
 
+/* Blocks 0 and 1 are CMX and have one lock; the one is thread 0's, the other thread 1's. Label 0: block 0,
+ * entry external, SEND direct to 1. Label 1: block 1, entry direct, EXIT. Label 2: block 1, entry
+ * external, EXIT. */
+enum { SHARED_LOCK = 9 };
+static uint8_t grouped[3 * PLEX_RECORD_SIZE], group_table[PLEX_TABLE_SIZE];
+
+static void fill_group(void)
+{
+    grouped[PLEX_RECORD_OPCODE] = PLEX_SEND_DIRECT;
+    grouped[PLEX_RECORD_ENTRY] = PLEX_EXTERNAL;
+    grouped[PLEX_RECORD_A] = 1;
+    for (int label = 1; label <= 2; label++) {
+        grouped[label * PLEX_RECORD_SIZE + PLEX_RECORD_OPCODE] = PLEX_EXIT;
+        grouped[label * PLEX_RECORD_SIZE + PLEX_RECORD_BLOCK] = 1;
+        grouped[label * PLEX_RECORD_SIZE + PLEX_RECORD_ENTRY] = label == 1 ? PLEX_DIRECT : PLEX_EXTERNAL;
+    }
+    for (int block = 0; block <= 1; block++) {
+        group_table[block * PLEX_ROW_SIZE + PLEX_ROW_THREAD] = (uint8_t)block;
+        group_table[block * PLEX_ROW_SIZE + PLEX_ROW_KIND] = PLEX_CMX;
+        group_table[block * PLEX_ROW_SIZE + PLEX_ROW_LOCK] = SHARED_LOCK;
+    }
+}
+
+/* One event, and what it is answered. */
+static void run_grouped(uint8_t kind, uint8_t thread, uint8_t label, uint8_t code, uint8_t detail)
+{
+    uint8_t event[PLEX_EVENT_SIZE] = {0}, answer[PLEX_ANSWER_SIZE];
+    event[PLEX_EVENT_KIND] = kind;
+    event[PLEX_EVENT_THREAD] = thread;
+    event[PLEX_EVENT_SIGNAL + PLEX_SIGNAL_LABEL] = label;
+    expect("run of a group", plex_run(grouped, sizeof grouped, group_table, sizeof group_table, state, sizeof state,
+                                      event, sizeof event, answer, sizeof answer) == 0);
+    expect("answer in a group", answer[PLEX_ANSWER_CODE] == code && answer[PLEX_ANSWER_DETAIL] == detail);
+}
+
+/* The job of thread 0 goes from the one block into the other, and thread 1, which wants the other, waits
+ * for the lock until that job has ended. */
+static void share_lock(void)
+{
+    const uint8_t *thread = state + PLEX_STATE_THREADS;
+    fill_group();
+    expect("fresh of a group", plex_fresh(grouped, sizeof grouped, group_table, sizeof group_table, words, sizeof words,
+                                          state, sizeof state) == 0);
+    run_grouped(PLEX_ARRIVAL, 0, 0, PLEX_ARRIVED, 0);
+    run_grouped(PLEX_ARRIVAL, 0, 2, PLEX_ARRIVED, 0);
+    run_grouped(PLEX_STEP, 0, 0, PLEX_STARTED, 0);
+    run_grouped(PLEX_STEP, 1, 0, PLEX_WAITING, SHARED_LOCK);
+    run_grouped(PLEX_STEP, 0, 0, PLEX_MOVED_ON, 0);
+    expect("one lock for two blocks", thread[PLEX_THREAD_LABEL] == 1 && thread[PLEX_THREAD_LOCKS] == 0 &&
+                                          thread[PLEX_THREAD_LOCKS + 1] == 1 << (SHARED_LOCK - 8));
+    run_grouped(PLEX_STEP, 1, 0, PLEX_WAITING, SHARED_LOCK);
+    expect("walk to the holder", plex_walk(grouped, sizeof grouped, group_table, sizeof group_table, state,
+                                           sizeof state, 1, met, sizeof met) == 2 &&
+                                     met[0] == 1 && met[1] == 0);
+    run_grouped(PLEX_STEP, 0, 0, PLEX_EXITED, 0);
+    run_grouped(PLEX_STEP, 1, 0, PLEX_STARTED, 0);
+}
+
 static uint32_t link_behind(const uint8_t *behind, size_t size, size_t out_len)
 {
     return plex_link(image, sizeof image, behind, size, table, sizeof table, linked, out_len);
@@ -168,6 +230,15 @@ static void refuse(void)
     result = plex_check(image, sizeof image, table, sizeof table);
     expect("number", PLEX_NUMBER(result) == PLEX_BAD_TABLE_FIELD);
     expect("place", PLEX_PLACE(result) == 5);
+    table[PLEX_ROW_SIZE * 5 + PLEX_ROW_THREAD] = 0;
+    table[PLEX_ROW_SIZE * 15 + PLEX_ROW_LOCK] = PLEX_LOCKS;
+    result = plex_check(image, sizeof image, table, sizeof table);
+    expect("number of a lock", PLEX_NUMBER(result) == PLEX_BAD_TABLE_FIELD);
+    expect("place of a lock", PLEX_PLACE(result) == 15);
+    table[PLEX_ROW_SIZE * 15 + PLEX_ROW_LOCK] = PLEX_LOCKS - 1;
+    expect("the highest lock", plex_check(image, sizeof image, table, sizeof table) == 0);
+    result = plex_check(image, sizeof image, table, sizeof table - 1);
+    expect("short table", PLEX_NUMBER(result) == PLEX_BAD_TABLE_LENGTH);
     result = plex_check(NULL, 0, table, sizeof table);
     expect("empty image", PLEX_NUMBER(result) == PLEX_BAD_IMAGE_LENGTH);
 }
@@ -185,6 +256,7 @@ int main(void)
     fill();
     carry_out();
     hold_signals();
+    share_lock();
     link_guests();
     refuse();
     return failed;

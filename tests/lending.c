@@ -207,6 +207,25 @@ static void try_refused_links(uint8_t *room, uint8_t *nowhere)
     protect(room, PROT_READ | PROT_WRITE);
 }
 
+/* A host of format 2 lends a table of 32 bytes: every call refuses, and touches no byte behind it. */
+static void try_former_table(uint8_t *rooms[PARTS])
+{
+    enum { FORMER_SIZE = 32 };
+    const uint8_t *image = trial.image, *table = placed(rooms[0], ROOM, trial.table, FORMER_SIZE);
+    size_t size = trial.image_len, all = PLEX_STATE_SIZE;
+    uint8_t *state = rooms[4], *out = rooms[5];
+    protect_first(rooms, PARTS, PROT_READ);
+    uint32_t results[] = {
+        plex_check(image, size, table, FORMER_SIZE),
+        plex_fresh(image, size, table, FORMER_SIZE, trial.words, PLEX_WORDS_SIZE, state, all),
+        plex_run(image, size, table, FORMER_SIZE, state, all, trial.events, trial.events_len, out, trial.answers_len),
+        plex_walk(image, size, table, FORMER_SIZE, state, all, 0, out, PLEX_MET_SIZE),
+        plex_link(image, size, image, size, table, FORMER_SIZE, out, size)};
+    for (size_t i = 0; i < sizeof results / sizeof results[0]; i++)
+        expect("table of 32 bytes", PLEX_NUMBER(results[i]) == PLEX_BAD_TABLE_LENGTH && PLEX_PLACE(results[i]) == 0);
+    protect_first(rooms, PARTS, PROT_READ | PROT_WRITE);
+}
+
 static void *side_by_side(void *wrong)
 {
     uint8_t state[PLEX_STATE_SIZE], answers[sizeof trial.answers];
@@ -259,6 +278,7 @@ int main(int count, char **names)
         load_trial(&trial, names[i]);
         linked += has_guest(&trial);
         try_places(rooms);
+        try_former_table(rooms);
         for (int at_edge = 0; at_edge <= 1; at_edge++) {
             uint8_t *nowhere = at_edge ? rooms[0] - 1 : NULL;
             try_empty(rooms[4], nowhere);

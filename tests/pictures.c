@@ -128,7 +128,7 @@ static void make_walks(struct walk *walks, const uint8_t *holders)
             met |= 1u << next;
         }
         walks[thread].result = count | (next == PLEX_UNMET ? 0 : PLEX_RING);
-        walks[thread].block = 15;
+        walks[thread].lock = 15;
     }
 }
 

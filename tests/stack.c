@@ -80,15 +80,16 @@ static size_t used(void *(*work)(void *))
     return sizeof stack - first;
 }
 
-/* Block t is thread t's, and its guest calls block t + 1: once all have started, all wait. */
+/* Block t is thread t's and has a lock of its own, and its guest calls block t + 1: once all have
+ * started, all wait. */
 static void make_ring(void)
 {
     memset(&trial, 0, sizeof trial);
+    put_lone_rows(trial.table);
     for (uint32_t t = 0; t < PLEX_THREADS; t++) {
         uint32_t first = CALLER_RECORDS * t, next = CALLER_RECORDS * ((t + 1) % PLEX_THREADS);
         put_caller(trial.image + PLEX_RECORD_SIZE * first, t, first, next + CALLED);
-        trial.table[PLEX_ROW_SIZE * t + PLEX_ROW_THREAD] = (uint8_t)t;
-        trial.table[PLEX_ROW_SIZE * t + PLEX_ROW_KIND] = PLEX_CMX;
+        put_row(trial.table, t, t, PLEX_CMX, t);
         put_arrival(trial.events + PLEX_EVENT_SIZE * t, first, NULL, 0);
         put_step(trial.events + PLEX_EVENT_SIZE * (PLEX_THREADS + t), t);
         put_step(trial.events + PLEX_EVENT_SIZE * (2 * PLEX_THREADS + t), t);

@@ -1,4 +1,4 @@
-/* Statements, events, answers, threads and names in words, one of each sort. */
+/* Statements, events, answers, locks, threads and names in words, one of each sort. */
 #include "build.h"
 #include "names.h"
 #include "words.h"
@@ -38,7 +38,10 @@ static const struct {
     {{PLEX_ARRIVED, 0}, "arrived"},
     {{PLEX_LIST_FULL, 0}, "turned away, the list is full"},
     {{PLEX_NO_WORK, 0}, "no work"},
-    {{PLEX_WAITING, 3}, "waiting for the lock of block 3"},
+    {{PLEX_WAITING, 9}, "waiting for lock 9 of blocks 1 2 15"},
+    {{PLEX_WAITING, 2}, "waiting for lock 2 of block 0"},
+    {{PLEX_WAITING, 0}, "waiting for lock 0 of no block"},
+    {{PLEX_WAITING, PLEX_LOCKS}, "waiting for lock 16"},
     {{PLEX_STARTED, 0}, "started"},
     {{PLEX_MOVED_ON, 0}, "moved on"},
     {{PLEX_EXITED, 0}, "EXIT"},
@@ -50,6 +53,9 @@ static const struct {
     {{PLEX_NOTHING_TO_CUT, 0}, "nothing to cut"},
     {{11, 0}, "unknown"},
 };
+
+/* Lock 9 guards three blocks, lock 2 one. */
+static const struct groups groups = {.blocks = {[9] = 1u << 1 | 1u << 2 | 1u << 15, [2] = 1u << 0}};
 
 static int failed;
 
@@ -94,6 +100,27 @@ static void try_threads(void)
     expect(&too_many, "at label 3, locks 0 2, return labels none, held labels 7 511 0 0");
 }
 
+/* Two blocks with one lock; a third whose lock is none, as is the block of a record; and no groups. */
+static void try_groups(void)
+{
+    uint8_t image[4 * PLEX_RECORD_SIZE] = {0}, table[PLEX_TABLE_SIZE];
+    struct line shared = {0}, alone = {0}, unknown = {0};
+    static const uint8_t blocks[] = {3, 12, 5, PLEX_BLOCKS};
+    put_lone_rows(table);
+    put_row(table, 3, 0, PLEX_CMX, 7);
+    put_row(table, 12, 1, PLEX_FD, 7);
+    put_row(table, 5, 0, PLEX_CMX, PLEX_LOCKS);
+    for (uint32_t label = 0; label < 4; label++)
+        image[PLEX_RECORD_SIZE * label + PLEX_RECORD_BLOCK] = blocks[label];
+    struct groups found = find_groups(image, 4, table);
+    add_lock(&shared, 7, &found);
+    expect(&shared, "lock 7 of blocks 3 12");
+    add_lock(&alone, 5, &found);
+    expect(&alone, "lock 5 of no block");
+    add_lock(&unknown, 7, NULL);
+    expect(&unknown, "lock 7");
+}
+
 /* The numbers from 1 to the last have a name, and no others. */
 static void try_names(const char *what, const char *(*name_of)(uint32_t), uint32_t last)
 {
@@ -134,11 +161,12 @@ int main(void)
     }
     for (size_t i = 0; i < sizeof answers / sizeof answers[0]; i++) {
         struct line line = {0};
-        add_answer(&line, answers[i].answer);
+        add_answer(&line, answers[i].answer, &groups);
         expect(&line, answers[i].words);
     }
     try_events();
     try_threads();
+    try_groups();
     try_names("opcode", opcode_name, PLEX_SEND_TREE);
     try_names("trap", trap_name, PLEX_HELD_FULL);
     try_names("refusal", refusal_name, PLEX_BAD_OUTPUT_LENGTH);

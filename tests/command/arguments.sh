@@ -47,7 +47,7 @@ same 'the answers of a quiet run' answered answered-2
 "$plex" check "$table" "$table" --quiet >printed 2>said
 holds 'a quiet refusal: status' [ $? = 1 ]
 holds 'a quiet refusal prints' [ ! -s printed ]
-holds 'a quiet refusal does not say why' grep -q 'case.table: 32 bytes; an image is' said
+holds 'a quiet refusal does not say why' grep -q 'case.table: 48 bytes; an image is' said
 
 # ---- standard input
 "$plex" check - "$table" <"$image" >said 2>&1

@@ -1,5 +1,11 @@
 # plex check: bad files, and bad bytes in files of the right length.
 tried 'good image' 0 'accepted: good/case.image, 13 records in 5 blocks' check "$image" "$table"
+tried 'a group' 0 '^lock 9 guards blocks 1 2$' check "$image" "$table"
+holds 'one group' [ "$(wc -l <said)" = 2 ]
+tried 'no group' 0 'accepted' check "$image" lone-table
+holds 'no group: a line more' [ "$(wc -l <said)" = 1 ]
+head -c 48 /dev/zero >one-group
+tried 'one group of all' 0 '^lock 0 guards blocks 0 1 2 3 4$' check "$image" one-group
 tried 'a folder' 1 'good: cannot be read: Is a directory' check good "$table"
 tried 'empty image' 1 'empty: 0 bytes; an image is 84 bytes a record' check empty "$table"
 head -c 1091 "$image" >short
@@ -8,16 +14,24 @@ head -c 84 "$image" >one
 repeated one 513 long
 tried 'long image' 1 'long: more than 43008 bytes; an image is' check long "$table"
 tried 'its number' 1 'refused with number 1, place 0' check long "$table"
-head -c 31 "$table" >short
-tried 'short table' 1 'short: 31 bytes; a block table is 32' check "$image" short
-head -c 33 "$image" >long
-tried 'long table' 1 'long: more than 32 bytes; a block table is 32' check "$image" long
+head -c 47 "$table" >short
+tried 'short table' 1 'short: 47 bytes; a block table is 48' check "$image" short
+head -c 49 "$image" >long
+tried 'long table' 1 'long: more than 48 bytes; a block table is 48' check "$image" long
+tried 'a table of format 2' 1 'former-table: 32 bytes; a block table is 48 bytes: thread, kind and lock of' \
+    check "$image" former-table
+tried 'its number' 1 'refused with number 2, place 0' check "$image" former-table
 
-byte "$table" 10 10 bad
-tried 'thread' 1 'bad: block 5 (thread 8, kind 1) has a field out of range' check "$image" bad
+byte "$table" 15 10 bad
+tried 'thread' 1 'bad: block 5 (thread 8, kind 1, lock 5) has a field out of range' check "$image" bad
 tried 'why' 1 'its thread is 8, and threads are 0 to 7' check "$image" bad
-byte "$table" 13 2 bad
+byte "$table" 19 2 bad
 tried 'kind' 1 'block 6 .*' check "$image" bad
+tried 'why' 1 'its kind is 2, and kinds are 0 (FD) and 1 (CMX)' check "$image" bad
+byte "$table" 47 20 bad
+tried 'lock' 1 'bad: block 15 (thread 0, kind 0, lock 16) has a field out of range' check "$image" bad
+tried 'why' 1 'its lock is 16, and locks are 0 to 15' check "$image" bad
+tried 'its number' 1 'refused with number 3, place 15' check "$image" bad
 faulty() {
     byte "$image" "$1" "$2" bad
     tried "image byte $1 set to octal $2" 1 "$3" check bad "$table"

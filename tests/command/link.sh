@@ -54,7 +54,7 @@ repeated exit 513 long
 repeated exit 500 many-exits
 byte "$image" 508 143 bad
 byte "$east" 84 14 bad-east
-byte "$table" 13 2 bad-table
+byte "$table" 19 2 bad-table
 look_around
 unlinked 'no such file' 'nowhere: cannot be read: No such file' "$image" nowhere "$table"
 unlinked 'short first' '^plex: short: 100 bytes; an image is' short "$east" "$table"
@@ -64,8 +64,8 @@ unlinked 'both of a wrong length' '^plex: short: 100 bytes' short long "$table"
 unlinked 'a length before a record' '^plex: short: 100 bytes' bad short "$table"
 unlinked 'a length before the table' '^plex: short: 100 bytes' "$image" short empty
 unlinked 'its number' 'refused with number 1, place 0' "$image" short "$table"
-unlinked 'short table' '^plex: empty: 0 bytes; a block table is 32' bad "$east" empty
-unlinked 'a bad table before a record' 'bad-table: block 6 (thread 3, kind 2) has a field' bad "$east" bad-table
+unlinked 'short table' '^plex: empty: 0 bytes; a block table is 48' bad "$east" empty
+unlinked 'a bad table before a record' 'bad-table: block 6 (thread 3, kind 2, lock 6) has a field' bad "$east" bad-table
 unlinked 'a record of the first' '^plex: bad: the record at label 6 (block 2) breaks a rule' bad "$east" "$table"
 unlinked 'a record of the second' '^plex: bad-east: the record at label 1 (block 5) breaks a rule' \
     "$image" bad-east "$table"

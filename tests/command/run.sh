@@ -1,9 +1,11 @@
 # plex run: traces, summaries, states and answers.
 tried 'a trap' 0 '11  step of thread 0, label 8: RETURN WITH r0 *trap 2, RETURN with no return' \
     run "$image" "$table" "$words" "$events" --out left --answers answers
-printf '\001\000\001\000\001\000\005\000\006\000\005\000\004\001\006\000' >expected
+printf '\001\000\001\000\001\000\005\000\006\000\005\000\004\011\006\000' >expected
 printf '\010\001\006\000\005\000\010\002\006\000\006\000\007\000' >>expected
 same 'answers' answers expected
+tried 'a wait' 0 '6  step of thread 1, label 9: CALL to 12, .* waiting for lock 9 of blocks 1 2; at label 9, locks 4,' \
+    run "$image" "$table" "$words" "$events"
 tried 'a summary' 0 '^15 events in 1 call$' \
     run "$image" "$table" "$words" "$events" --summary --out left-2 --answers answers-2
 same 'state of a summary' left left-2

@@ -7,4 +7,4 @@ tried 'unknown opcode' 1 '^    0  external  unknown opcode 99$' show bad
 tried 'said too' 1 'bad: the record at label 0 (block 0) breaks a rule' show bad
 byte "$image" 1 143 bad
 tried 'unknown block' 1 '^no block$' show bad
-tried 'show a short file' 1 'case.table: 32 bytes; an image is' show "$table"
+tried 'show a short file' 1 'case.table: 48 bytes; an image is' show "$table"

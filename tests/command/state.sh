@@ -1,8 +1,8 @@
 # plex state.
 tried 'eight events' 0 'threads running: 0 1' \
     run "$image" "$table" "$words" eight --summary
-tried 'a thread' 0 '  0  at label 6, locks 0 1 2, return labels 1 4, registers r0=25' state waiting
-tried 'a lock' 0 '  lock 2 is held by thread 0' state waiting
+tried 'a thread' 0 '  0  at label 6, locks 0 9, return labels 1 4, registers r0=25' state waiting
+tried 'a lock' 0 '^  lock 9 is held by thread 0$' state waiting
 tried 'a queue' 0 '  thread 0: tree 0 (its job runs), tree 1' state waiting
 tried 'a signal' 0 '    label 8 WITH 999' state waiting
 tried 'a word' 0 '  block 1: w0=120' state waiting
@@ -17,10 +17,11 @@ tried 'a long state' 1 'long-state: more than 9633 bytes' state long-state
 # ---- with its image and table
 tried 'a well-formed state' 0 '^well formed with good/case.image and good/case.table$' \
     state "$image" "$table" waiting
-tried 'and it is shown' 0 '  lock 2 is held by thread 0' state "$image" "$table" waiting
+tried 'and it is shown' 0 '^  lock 0 of block 0 is held by thread 0$' state "$image" "$table" waiting
+tried 'with the blocks of a group' 0 '^  lock 9 of blocks 1 2 is held by thread 0$' state "$image" "$table" waiting
 byte waiting 512 143 bad
-tried 'a bad state is shown without an image' 0 '  0  at label 99, locks 0 1 2' state bad
-tried 'a bad state is shown with its image' 1 '  0  at label 99, locks 0 1 2' \
+tried 'a bad state is shown without an image' 0 '  0  at label 99, locks 0 9' state bad
+tried 'a bad state is shown with its image' 1 '  0  at label 99, locks 0 9' \
     state "$image" "$table" bad
 tried 'and refused' 1 'bad: not well formed with good/case.image and good/case.table' \
     state "$image" "$table" bad
@@ -34,5 +35,10 @@ byte waiting 512 143 bad
 tried 'with its number' 1 'refused with number 6, place 0' state "$image" "$table" bad
 tried 'a short state with its image' 1 'short-state: 9632 bytes; a state is 9,633 bytes' \
     state "$image" "$table" short-state
-tried 'a state with a bad image' 1 'case.table: 32 bytes; an image is' state "$table" "$table" waiting
+tried 'a state with a bad image' 1 'case.table: 48 bytes; an image is' state "$table" "$table" waiting
+byte "$image" 1 377 bad
+tried 'a state with a bad block' 1 '^  lock 9 of blocks 1 2 is held by thread 0$' state bad "$table" waiting
+byte "$table" 5 377 bad
+tried 'a state with a bad lock' 1 '^  lock 9 of block 2 is held by thread 0$' state "$image" bad waiting
+tried 'a state with a short table' 1 '^  lock 9 is held by thread 0$' state "$image" former-table waiting
 tried 'a state without its table' 2 'there are 2 files, and 3 are wanted' state "$image" waiting
