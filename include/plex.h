@@ -92,7 +92,7 @@ enum {
 /* In an operand; the value has 2 bytes. */
 enum { PLEX_OPERAND_KIND = 0, PLEX_OPERAND_VALUE = 1 };
 
-/* In a record of the block table. Several blocks may have the same lock. */
+/* In a record of the block table. */
 enum { PLEX_ROW_THREAD = 0, PLEX_ROW_KIND = 1, PLEX_ROW_LOCK = 2 };
 
 /* In the state. */
