@@ -70,14 +70,6 @@ void bench_founder_image(uint8_t *image, size_t records)
     put_routines(image, records, founder, sizeof founder / sizeof founder[0]);
 }
 
-void bench_job_table(uint8_t *table)
-{
-    for (uint32_t block = 0; block < PLEX_BLOCKS; block++) {
-        table[PLEX_ROW_SIZE * block + PLEX_ROW_THREAD] = (uint8_t)(block / 2);
-        table[PLEX_ROW_SIZE * block + PLEX_ROW_KIND] = PLEX_CMX;
-    }
-}
-
 void bench_job_events(uint8_t *events, size_t count, size_t records)
 {
     static const uint16_t values[] = {300, 7, 5};
@@ -91,12 +83,13 @@ void bench_job_events(uint8_t *events, size_t count, size_t records)
     }
 }
 
-void bench_send_image(uint8_t *image, size_t records, uint8_t values)
+void bench_send_image(uint8_t *image, size_t records, uint8_t blocks, uint8_t values)
 {
     struct statement send = {0, PLEX_EXTERNAL, PLEX_SEND_DIRECT, 0, 0, 0, values, {NUMBER(0)}};
     for (uint8_t i = 0; i < values; i++)
         send.operands[i] = (struct operand)REGISTER(i);
     for (size_t label = 0; label < records; label++) {
+        send.block = (uint8_t)(label % blocks);
         send.a = (uint16_t)(label + 1 < records ? label + 1 : 1);
         put_statement(image + PLEX_RECORD_SIZE * label, &send);
         send.entry = PLEX_DIRECT;
@@ -127,14 +120,6 @@ void bench_ring_image(uint8_t *image, size_t records)
             (uint8_t)thread, PLEX_EXTERNAL, PLEX_SEND_DIRECT, 0, (uint16_t)(PLEX_THREADS + next), 0, 0, {NUMBER(0)}};
         put_statement(image + PLEX_RECORD_SIZE * thread, &send);
         image[PLEX_RECORD_SIZE * (PLEX_THREADS + thread) + PLEX_RECORD_BLOCK] = (uint8_t)thread;
-    }
-}
-
-void bench_ring_table(uint8_t *table)
-{
-    for (uint32_t block = 0; block < PLEX_BLOCKS; block++) {
-        table[PLEX_ROW_SIZE * block + PLEX_ROW_THREAD] = (uint8_t)(block % PLEX_THREADS);
-        table[PLEX_ROW_SIZE * block + PLEX_ROW_KIND] = PLEX_CMX;
     }
 }
 

@@ -11,16 +11,14 @@ void bench_job_image(uint8_t *image, size_t records);
 /* As many: jobs that hold two signals at their EXIT, and the jobs of the trees that these found. */
 void bench_founder_image(uint8_t *image, size_t records);
 
-/* Two blocks a thread, all CMX. */
-void bench_job_table(uint8_t *table);
-
-/* For an image of either. In every 16 events a job arrives, does each opcode of its routine and ends,
- * as do the jobs of the signals that it sends; from a fresh machine they leave no thread running and
- * no tree, and the same words each time. A single event is a step without work. */
+/* For an image of either, with bench_job_table. In every 16 events a job arrives, does each opcode of
+ * its routine and ends, as do the jobs of the signals that it sends; from a fresh machine they leave no
+ * thread running and no tree, and the same words each time. A single event is a step without work. */
 void bench_job_events(uint8_t *events, size_t count, size_t records);
 
-/* 2 records or more: a job that does nothing but direct SENDs of so many values, without end. */
-void bench_send_image(uint8_t *image, size_t records, uint8_t values);
+/* 2 records or more: a job that does nothing but direct SENDs of so many values, without end, in so many
+ * blocks by turns. */
+void bench_send_image(uint8_t *image, size_t records, uint8_t blocks, uint8_t values);
 
 /* For an image of bench_send_image with as many values: 2 events that start its job on thread 0, and
  * so many that each do one SEND. */
@@ -31,10 +29,9 @@ void bench_send_events(uint8_t *events, size_t count);
 /* A multiple of 16 records, up to 512: each of 8 blocks sends to the next one's second record. */
 void bench_ring_image(uint8_t *image, size_t records);
 
-/* For an image of bench_ring_image and a table with one block a thread: 24 events that start a job
- * on each thread and have it wait for the next. */
+/* For an image of bench_ring_image, with bench_ring_table: 24 events that start a job on each thread and
+ * have it wait for the next. */
 enum { RING_EVENTS = 24 };
-void bench_ring_table(uint8_t *table);
 void bench_ring_events(uint8_t *events);
 
 #endif

@@ -1,6 +1,7 @@
 #include "bench_rows.h"
 #include "bench_image.h"
 #include "bench_jobs.h"
+#include "bench_table.h"
 #include "plain.h"
 #include "plex.h"
 
@@ -85,6 +86,7 @@ static uint32_t plain_link_call(void)
     return plain_link(IMAGE, SECOND_IMAGE, TABLE, LINKED(by_plain));
 }
 
+/* The table is for rows that do not make another. */
 static void begin(const struct bench_row *row)
 {
     memset(&work, 0, sizeof work);
@@ -92,6 +94,7 @@ static void begin(const struct bench_row *row)
     memset(&by_plain, 0, sizeof by_plain);
     work.image_len = PLEX_RECORD_SIZE * row->records;
     work.event_count = row->events;
+    bench_one_thread_table(work.table);
 }
 
 static void prepare_mixed(const struct bench_row *row)
@@ -159,12 +162,12 @@ static void prepare_ring(const struct bench_row *row)
     begin_after_events();
 }
 
-/* Each event is a direct SEND of so many values. */
-static void prepare_sends(const struct bench_row *row, uint8_t values)
+/* Each event is a direct SEND of so many values, within a block or from one to the other of a group. */
+static void prepare_sends(const struct bench_row *row, uint8_t blocks, uint8_t values)
 {
     begin(row);
-    bench_send_image(work.image, row->records, values);
-    bench_job_table(work.table);
+    bench_send_image(work.image, row->records, blocks, values);
+    bench_group_table(work.table);
     bench_send_start(work.events, values);
     work.event_count = SEND_START_EVENTS;
     begin_after_events();
@@ -174,17 +177,22 @@ static void prepare_sends(const struct bench_row *row, uint8_t values)
 
 static void prepare_sends_of_0(const struct bench_row *row)
 {
-    prepare_sends(row, 0);
+    prepare_sends(row, 1, 0);
 }
 
 static void prepare_sends_of_3(const struct bench_row *row)
 {
-    prepare_sends(row, 3);
+    prepare_sends(row, 1, 3);
 }
 
 static void prepare_sends_of_25(const struct bench_row *row)
 {
-    prepare_sends(row, PLEX_REGISTERS);
+    prepare_sends(row, 1, PLEX_REGISTERS);
+}
+
+static void prepare_sends_in_group(const struct bench_row *row)
+{
+    prepare_sends(row, 2, 3);
 }
 
 /* Two guests with every sort of statement, in blocks of their own. */
@@ -231,6 +239,7 @@ const struct bench_row bench_rows[] = {
     {"run, SEND of 0 values", 16, 1024, NO_PLOT, prepare_sends_of_0, plex_run_call, plain_run_call},
     {"run, SEND of 3 values", 16, 1024, NO_PLOT, prepare_sends_of_3, plex_run_call, plain_run_call},
     {"run, SEND of 25 values", 16, 1024, NO_PLOT, prepare_sends_of_25, plex_run_call, plain_run_call},
+    {"run, SEND in a group", 16, 1024, NO_PLOT, prepare_sends_in_group, plex_run_call, plain_run_call},
     {"run, new trees", 16, 1024, NO_PLOT, prepare_founders, plex_run_call, plain_run_call},
 };
 const size_t bench_row_count = sizeof bench_rows / sizeof bench_rows[0];

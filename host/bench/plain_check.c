@@ -6,8 +6,8 @@
 enum { BLOCK_BOUND = 0x00FF, ENTRY_BOUND = 0xFF00 };
 enum { AT_DIRECT = PLEX_DIRECT << 8, AT_BUFFERED = PLEX_BUFFERED << 8 };
 
-/* A block is below 16 and an entry below 4; an operator, where used, below 8. */
-enum { USED = 0, UNUSED = 0xFF, BELOW_8 = 0xF8, BELOW_16 = 0xF0, BELOW_4 = 0xFC };
+/* The bits that are zero in a field. A block is below 16 and an entry below 4; an operator, where used, below 8. */
+enum { USED = 0, UNUSED = 0xFF, BELOW_2 = 0xFE, BELOW_4 = 0xFC, BELOW_8 = 0xF8, BELOW_16 = 0xF0 };
 #define ZERO_BITS(operator, a, b)                                                                                      \
     {                                                                                                                  \
         0, BELOW_16, BELOW_4, operator, a, a, b, b                                                                     \
@@ -38,25 +38,28 @@ const uint8_t plain_zeros[PLEX_TREES_MAX * PLEX_TREE_SIZE];
 static const int32_t value_limit[256] = {
     [PLEX_NUMBER_OPERAND] = 65536, [PLEX_REGISTER_OPERAND] = PLEX_REGISTERS, [PLEX_WORD_OPERAND] = PLEX_BLOCK_WORDS};
 
-/* The bits that are zero in the table, for four blocks: a thread is below 8 and
- * a kind below 2. */
-static const uint8_t zero_bits_of_blocks[8] = {0xF8, 0xFE, 0xF8, 0xFE, 0xF8, 0xFE, 0xF8, 0xFE};
+/* The bits that are zero in a row of the table (thread, kind and lock), and in eight rows. */
+#define ROW_ZERO_BITS BELOW_8, BELOW_2, BELOW_16
+enum { EIGHT_ROWS = 8 * PLEX_ROW_SIZE };
+static const uint8_t zero_bits_of_rows[EIGHT_ROWS] = {ROW_ZERO_BITS, ROW_ZERO_BITS, ROW_ZERO_BITS, ROW_ZERO_BITS,
+                                                      ROW_ZERO_BITS, ROW_ZERO_BITS, ROW_ZERO_BITS, ROW_ZERO_BITS};
 
+/* Eight rows are three times eight bytes; the last eight rows are laid over the first. */
 static inline bool table_holds(const uint8_t *table)
 {
-    uint64_t seen = 0;
-    for (size_t i = 0; i < PLEX_TABLE_SIZE; i += 8)
-        seen |= eight_bytes(table + i);
-    return (seen & eight_bytes(zero_bits_of_blocks)) == 0;
+    uint64_t amiss = 0;
+    for (size_t i = 0; i < EIGHT_ROWS; i += 8)
+        amiss |= (eight_bytes(table + i) | eight_bytes(table + EIGHT_ROWS + i)) & eight_bytes(zero_bits_of_rows + i);
+    return amiss == 0;
 }
 
 /* Given a table that does not hold. */
 static uint32_t first_bad_block(const uint8_t *table)
 {
-    uint32_t block = 0;
-    while (row_at(table, block)[PLEX_ROW_THREAD] < PLEX_THREADS && row_at(table, block)[PLEX_ROW_KIND] <= PLEX_CMX)
-        block++;
-    return block;
+    const uint8_t *row = table;
+    while (row[PLEX_ROW_THREAD] < PLEX_THREADS && row[PLEX_ROW_KIND] <= PLEX_CMX && row[PLEX_ROW_LOCK] < PLEX_LOCKS)
+        row += PLEX_ROW_SIZE;
+    return (uint32_t)(row - table) / PLEX_ROW_SIZE;
 }
 
 static inline bool header_holds(const uint8_t *record, const struct opcode_rule *rule)

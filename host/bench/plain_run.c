@@ -38,11 +38,11 @@ static uint32_t start(const struct job *job)
     uint8_t *tree = job->state + PLEX_STATE_TREES + PLEX_TREE_SIZE * index;
     uint8_t *oldest = tree + PLEX_TREE_SIGNALS;
     uint32_t label = get16(oldest + PLEX_SIGNAL_LABEL);
-    uint32_t block = block_of(job->program, label);
-    if (other_holder(job->state, block, job->thread) != NO_THREAD)
-        return answer(PLEX_WAITING, block);
+    uint32_t lock = guarding_lock(job->program, block_of(job->program, label));
+    if (holder_of(job->state, lock) != NO_THREAD)
+        return answer(PLEX_WAITING, lock);
     put16(job->bytes + PLEX_THREAD_LABEL, label);
-    put16(job->bytes + PLEX_THREAD_LOCKS, 1u << block);
+    put16(job->bytes + PLEX_THREAD_LOCKS, 1u << lock);
     set_registers(job, oldest + PLEX_SIGNAL_VALUES, oldest[PLEX_SIGNAL_COUNT]);
     uint32_t left = tree[PLEX_TREE_PENDING] - 1u;
     memmove(oldest, oldest + PLEX_SIGNAL_SIZE, PLEX_SIGNAL_SIZE * left);

@@ -24,13 +24,13 @@ static inline uint32_t first_tree(const uint8_t *state, uint32_t thread)
     return tree;
 }
 
-/* The thread other than this one that holds the lock, or NO_THREAD. */
-static inline uint32_t other_holder(const uint8_t *state, uint32_t lock, uint32_t thread)
+/* The only thread that holds the lock, or NO_THREAD. */
+static inline uint32_t holder_of(const uint8_t *state, uint32_t lock)
 {
-    for (uint32_t other = 0; other < PLEX_THREADS; other++)
-        if ((get16(thread_at(state, other) + PLEX_THREAD_LOCKS) >> lock & 1) && other != thread)
-            return other;
-    return NO_THREAD;
+    uint32_t thread = 0;
+    while (thread < PLEX_THREADS && !(get16(thread_at(state, thread) + PLEX_THREAD_LOCKS) >> lock & 1))
+        thread++;
+    return thread;
 }
 
 /* The value of an operand in a record of the block; a register read is added to

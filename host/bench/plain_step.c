@@ -101,7 +101,8 @@ static uint32_t branch(const struct job *job, const uint8_t *record)
     return move_on(job, get16(record + (holds ? PLEX_RECORD_A : PLEX_RECORD_B)));
 }
 
-/* Direct SEND and CALL: the only statements that take a lock. */
+/* Direct SEND and CALL: the only statements that take a lock. One that the job holds, through whatever block,
+ * nobody else holds. */
 static uint32_t send_direct_or_call(const struct job *job, const uint8_t *record)
 {
     uint8_t data[VALUES_SIZE] = {0};
@@ -112,13 +113,16 @@ static uint32_t send_direct_or_call(const struct job *job, const uint8_t *record
     uint32_t reason = trap_of_direct_or_call(job->program, job->bytes, job->thread, record, block);
     if (reason != NO_TRAP)
         return trap(job, reason);
-    if (other_holder(job->state, block, job->thread) != NO_THREAD)
-        return answer(PLEX_WAITING, block);
+    uint32_t lock = guarding_lock(job->program, block), locks = get16(job->bytes + PLEX_THREAD_LOCKS);
+    if (!(locks >> lock & 1)) {
+        if (holder_of(job->state, lock) != NO_THREAD)
+            return answer(PLEX_WAITING, lock);
+        put16(job->bytes + PLEX_THREAD_LOCKS, locks | 1u << lock);
+    }
     if (record[PLEX_RECORD_OPCODE] == PLEX_CALL) {
         uint32_t returns = job->bytes[PLEX_THREAD_RETURN_COUNT]++;
         put16(job->bytes + PLEX_THREAD_RETURNS + 2 * returns, get16(record + PLEX_RECORD_B));
     }
-    put16(job->bytes + PLEX_THREAD_LOCKS, get16(job->bytes + PLEX_THREAD_LOCKS) | 1u << block);
     set_registers(job, data, record[PLEX_RECORD_COUNT]);
     return move_on(job, label);
 }
