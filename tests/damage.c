@@ -27,6 +27,26 @@ void make_tree_sends(uint8_t *image, uint32_t records)
             record[PLEX_RECORD_OPCODE] = PLEX_SEND_TREE;
 }
 
+void make_table(uint8_t *table)
+{
+    uint32_t locks = 1 + below(PLEX_LOCKS), first_lock = below(PLEX_LOCKS - locks + 1);
+    for (uint8_t *row = table; row < table + PLEX_TABLE_SIZE; row += PLEX_ROW_SIZE) {
+        row[PLEX_ROW_THREAD] = (uint8_t)below(PLEX_THREADS);
+        row[PLEX_ROW_KIND] = below(4) == 0 ? PLEX_FD : PLEX_CMX;
+        row[PLEX_ROW_LOCK] = (uint8_t)(first_lock + below(locks));
+    }
+}
+
+void damage_table(uint8_t *table)
+{
+    static const uint8_t locks[] = {PLEX_LOCKS - 1, PLEX_LOCKS, 255};
+    uint32_t block = below(2) == 0 ? PLEX_BLOCKS - 1 : below(PLEX_BLOCKS);
+    if (below(2) == 0)
+        table[PLEX_ROW_SIZE * block + PLEX_ROW_LOCK] = locks[below(sizeof locks)];
+    else
+        damage(table, PLEX_TABLE_SIZE);
+}
+
 void damage_record(uint8_t *image, uint32_t records)
 {
     size_t width = below(2) ? PLEX_RECORD_SIZE : 16;

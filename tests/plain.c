@@ -1,5 +1,6 @@
 /* The plain engine of the benchmark does what the library does: on good and damaged bytes the calls of
- * both return the same, and leave the same bytes. Each number of check and link has to be met. */
+ * both return the same, and leave the same bytes. Each number of check and link has to be met, and the last
+ * byte of a table refused. */
 #include "plain_runs.h"
 #include "plain.h"
 #include "bench_image.h"
@@ -20,6 +21,7 @@ struct lent {
 static struct lent first, second, table;
 static uint8_t by_plex[2 * sizeof first.bytes + PLEX_RECORD_SIZE], by_plain[sizeof by_plex];
 static uint32_t failures, checks[PLEX_BAD_OUTPUT_LENGTH + 1], links[PLEX_BAD_OUTPUT_LENGTH + 1];
+static uint32_t refused_last_locks;
 
 static void expect(const char *what, uint32_t of_plex, uint32_t of_plain)
 {
@@ -41,10 +43,11 @@ static void make_guest(struct lent *image, uint32_t first_block)
         damage_record(image->bytes, records);
 }
 
+/* The last length is that of a table whose rows end before the lock. */
 static void damage_length(size_t *size)
 {
-    const size_t lengths[] = {0, *size - 1, *size + 1, *size + PLEX_RECORD_SIZE};
-    *size = lengths[below(4)];
+    const size_t lengths[] = {0, *size - 1, *size + 1, *size + PLEX_RECORD_SIZE, PLEX_ROW_LOCK * PLEX_BLOCKS};
+    *size = lengths[below(sizeof lengths / sizeof lengths[0])];
 }
 
 /* The blocks of the second guest begin after the first's, or before their end. */
@@ -52,10 +55,10 @@ static void make_pair(void)
 {
     make_guest(&first, 0);
     make_guest(&second, GUEST_BLOCKS - (below(4) == 0 ? below(GUEST_BLOCKS + 1) : 0));
-    memset(table.bytes, 0, sizeof table.bytes);
+    make_table(table.bytes);
     table.size = PLEX_TABLE_SIZE;
     if (below(8) == 0)
-        damage(table.bytes, PLEX_TABLE_SIZE);
+        damage_table(table.bytes);
 }
 
 static void try_pair(void)
@@ -69,6 +72,7 @@ static void try_pair(void)
         damage_length(&size);
     uint32_t result = plex_check(first.bytes, first.size, table.bytes, table.size);
     checks[PLEX_NUMBER(result)]++;
+    refused_last_locks += PLEX_NUMBER(result) == PLEX_BAD_TABLE_FIELD && table.bytes[PLEX_TABLE_SIZE - 1] >= PLEX_LOCKS;
     expect("check", result, plain_check(first.bytes, first.size, table.bytes, table.size));
     memset(by_plex, 7, sizeof by_plex);
     memset(by_plain, 7, sizeof by_plain);
@@ -94,7 +98,7 @@ int main(void)
         try_pair();
     int all_met = were_met(checks, PLEX_BAD_IMAGE_LENGTH, PLEX_BAD_RECORD) &&
                   were_met(links, PLEX_BAD_IMAGE_LENGTH, PLEX_BAD_RECORD) &&
-                  were_met(links, PLEX_SHARED_BLOCK, PLEX_BAD_OUTPUT_LENGTH);
+                  were_met(links, PLEX_SHARED_BLOCK, PLEX_BAD_OUTPUT_LENGTH) && refused_last_locks != 0;
     printf("plain: %u checks and links, %u and %u of them accepted%s; %u failures\n", TRIALS, checks[0], links[0],
            all_met ? ", refused by every number" : ", NOT refused by every number", failures);
     return !do_runs_agree() || failures != 0 || !all_met;

@@ -3,6 +3,7 @@
 #include "bench_image.h"
 #include "build.h"
 #include "damage.h"
+#include "plain_states.h"
 
 #include <stdio.h>
 #include <string.h>
@@ -20,11 +21,13 @@ struct altered {
 };
 static struct altered by_plex, by_plain;
 
-static uint32_t failures, codes[256], reasons[256], losing_exits;
+static const struct machine machine = {image, table};
+
+static uint32_t failures, codes[256], reasons[256], losing_exits, group_jobs;
 static uint32_t refusals[PLEX_BAD_OUTPUT_LENGTH + 1];
 
-/* Walks over states that only held signals were changed in. */
-static uint32_t refused_held, accepted_held;
+/* Walks over states that this part alone was changed in. */
+static uint32_t refused_parts[DAMAGED_PARTS], accepted_parts[DAMAGED_PARTS];
 
 static void expect(const char *call, uint32_t of_plex, uint32_t of_plain)
 {
@@ -59,10 +62,7 @@ static void make_machine(void)
     make_tree_sends(image, records);
     if (below(4) != 0)
         fill_registers(records);
-    for (uint32_t block = 0; block < PLEX_BLOCKS; block++) {
-        table[PLEX_ROW_SIZE * block + PLEX_ROW_THREAD] = (uint8_t)below(PLEX_THREADS);
-        table[PLEX_ROW_SIZE * block + PLEX_ROW_KIND] = below(4) == 0 ? PLEX_FD : PLEX_CMX;
-    }
+    make_table(table);
     for (uint32_t i = 0; i < PLEX_WORDS_SIZE; i++)
         words[i] = (uint8_t)below(256);
     memset(&by_plex, 7, sizeof by_plex);
@@ -121,38 +121,14 @@ static void try_run(void)
                      by_plain.answers, answers_len));
     if (result == 0)
         count_answers();
-}
-
-/* At times damages how many signals a thread holds, or the first one's label or value count; says
- * whether it did. */
-static bool damage_held(uint8_t *state)
-{
-    bool done = false;
-    for (uint32_t thread = 0; thread < PLEX_THREADS; thread++) {
-        uint8_t *held = state + PLEX_STATE_THREADS + PLEX_THREAD_SIZE * thread + PLEX_THREAD_HELD_COUNT;
-        if (*held == 0 || below(4) != 0)
-            continue;
-        damage(held, 1 + PLEX_SIGNAL_VALUES);
-        done = true;
-    }
-    return done;
-}
-
-/* At times damages a byte or two where threads and live trees are. */
-static void damage_state(uint8_t *state)
-{
-    size_t end = PLEX_STATE_TREES + PLEX_TREE_SIZE * (size_t)state[PLEX_STATE_TREE_COUNT];
-    for (uint32_t edits = below(3); edits > 0; edits--)
-        damage(state + PLEX_STATE_THREADS, end - PLEX_STATE_THREADS);
+    group_jobs += is_job_twice_in_group(&machine, by_plex.state);
 }
 
 /* The walk over the state that the run left, at times damaged. */
 static void try_walk(void)
 {
     struct altered before = by_plex;
-    bool only_held = damage_held(by_plex.state);
-    if (!only_held)
-        damage_state(by_plex.state);
+    enum damaged_part part = damage_state(&machine, by_plex.state);
     memcpy(by_plain.state, by_plex.state, PLEX_STATE_SIZE);
     uint32_t thread = below(PLEX_THREADS);
     uint32_t result = plex_walk(image, image_len, table, sizeof table, by_plex.state, PLEX_STATE_SIZE, thread,
@@ -160,9 +136,9 @@ static void try_walk(void)
     expect("walk", result,
            plain_walk(image, image_len, table, sizeof table, by_plain.state, PLEX_STATE_SIZE, thread, by_plain.met,
                       PLEX_MET_SIZE));
-    if (only_held && memcmp(by_plex.state, before.state, PLEX_STATE_SIZE) != 0) {
-        refused_held += PLEX_NUMBER(result) == PLEX_BAD_STATE;
-        accepted_held += PLEX_NUMBER(result) == 0;
+    if (memcmp(by_plex.state, before.state, PLEX_STATE_SIZE) != 0) {
+        refused_parts[part] += PLEX_NUMBER(result) == PLEX_BAD_STATE;
+        accepted_parts[part] += PLEX_NUMBER(result) == 0;
     }
     memcpy(by_plex.state, before.state, PLEX_STATE_SIZE);
     memcpy(by_plain.state, before.state, PLEX_STATE_SIZE);
@@ -178,7 +154,7 @@ static bool are_all_met(const uint32_t *counts, uint32_t first, uint32_t last)
 
 bool do_runs_agree(void)
 {
-    for (uint32_t machine = 0; machine < MACHINES; machine++) {
+    for (uint32_t i = 0; i < MACHINES; i++) {
         make_machine();
         for (uint32_t run = 0; run < RUNS; run++) {
             try_run();
@@ -186,9 +162,9 @@ bool do_runs_agree(void)
         }
     }
     bool all_met = are_all_met(codes, PLEX_ARRIVED, PLEX_NOTHING_TO_CUT) &&
-                   are_all_met(reasons, PLEX_ABSENT_REGISTER, PLEX_HELD_FULL) && losing_exits != 0 &&
-                   refusals[PLEX_BAD_STATE] != 0 && refusals[PLEX_BAD_EVENT] != 0 && refused_held != 0 &&
-                   accepted_held != 0;
+                   are_all_met(reasons, PLEX_ABSENT_REGISTER, PLEX_HELD_FULL) && losing_exits != 0 && group_jobs != 0 &&
+                   refusals[PLEX_BAD_EVENT] != 0 && are_all_met(refused_parts, HELD_SIGNALS, ANY_BYTES) &&
+                   are_all_met(accepted_parts, HELD_SIGNALS, ANY_BYTES);
     printf("plain: %d runs and walks%s; %u failures\n", MACHINES * RUNS,
            all_met ? ", with every answer" : ", NOT with every answer", failures);
     return failures == 0 && all_met;
