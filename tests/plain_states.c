@@ -9,7 +9,7 @@ static uint32_t block_of_label(const struct machine *machine, uint32_t label)
 
 static uint32_t lock_of_label(const struct machine *machine, uint32_t label)
 {
-    return row_at(machine->table, block_of_label(machine, label))[PLEX_ROW_LOCK];
+    return lock_of(machine->table, block_of_label(machine, label));
 }
 
 /* At times damages how many signals the thread holds, or the first one's label or value count; says

@@ -2,6 +2,7 @@
 #include "bench_image.h"
 #include "bench_jobs.h"
 #include "bench_table.h"
+#include "build.h"
 #include "plain.h"
 #include "plex.h"
 
@@ -94,7 +95,7 @@ static void begin(const struct bench_row *row)
     memset(&by_plain, 0, sizeof by_plain);
     work.image_len = PLEX_RECORD_SIZE * row->records;
     work.event_count = row->events;
-    bench_one_thread_table(work.table);
+    put_lone_rows(work.table);
 }
 
 static void prepare_mixed(const struct bench_row *row)

@@ -4,9 +4,6 @@
 
 #include <stdint.h>
 
-/* Every block FD, on thread 0, with a lock of its own. */
-void bench_one_thread_table(uint8_t *table);
-
 /* Every block CMX, with a lock of its own: two blocks side by side on each thread. */
 void bench_job_table(uint8_t *table);
 

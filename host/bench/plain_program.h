@@ -47,12 +47,6 @@ static inline uint32_t thread_of_block(const struct program *program, uint32_t b
     return row_at(program->table, block)[PLEX_ROW_THREAD];
 }
 
-/* The lock of the block, which other blocks may have too. */
-static inline uint32_t guarding_lock(const struct program *program, uint32_t block)
-{
-    return row_at(program->table, block)[PLEX_ROW_LOCK];
-}
-
 /* Whether jobs of the thread may be in the block. */
 static inline bool open_to(const struct program *program, uint32_t block, uint32_t thread)
 {

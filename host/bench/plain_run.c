@@ -38,7 +38,7 @@ static uint32_t start(const struct job *job)
     uint8_t *tree = job->state + PLEX_STATE_TREES + PLEX_TREE_SIZE * index;
     uint8_t *oldest = tree + PLEX_TREE_SIGNALS;
     uint32_t label = get16(oldest + PLEX_SIGNAL_LABEL);
-    uint32_t lock = guarding_lock(job->program, block_of(job->program, label));
+    uint32_t lock = lock_of(job->program->table, block_of(job->program, label));
     if (holder_of(job->state, lock) != NO_THREAD)
         return answer(PLEX_WAITING, lock);
     put16(job->bytes + PLEX_THREAD_LABEL, label);

@@ -13,7 +13,7 @@ static bool labels_well_formed(const struct program *program, const uint8_t *thr
         if (label >= program->records)
             return false;
         uint32_t block = block_of(program, label);
-        if (!(locks >> guarding_lock(program, block) & 1) || !open_to(program, block, thread))
+        if (!(locks >> lock_of(program->table, block) & 1) || !open_to(program, block, thread))
             return false;
         if (i == returns)
             return true;

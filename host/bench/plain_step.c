@@ -113,7 +113,7 @@ static uint32_t send_direct_or_call(const struct job *job, const uint8_t *record
     uint32_t reason = trap_of_direct_or_call(job->program, job->bytes, job->thread, record, block);
     if (reason != NO_TRAP)
         return trap(job, reason);
-    uint32_t lock = guarding_lock(job->program, block), locks = get16(job->bytes + PLEX_THREAD_LOCKS);
+    uint32_t lock = lock_of(job->program->table, block), locks = get16(job->bytes + PLEX_THREAD_LOCKS);
     if (!(locks >> lock & 1)) {
         if (holder_of(job->state, lock) != NO_THREAD)
             return answer(PLEX_WAITING, lock);

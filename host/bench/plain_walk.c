@@ -15,7 +15,7 @@ static uint32_t running_waits_for(const struct program *program, const uint8_t *
     if (!read_data(state, bytes, record, data) ||
         trap_of_direct_or_call(program, bytes, thread, record, block) != NO_TRAP)
         return NO_THREAD;
-    uint32_t holder = holder_of(state, guarding_lock(program, block));
+    uint32_t holder = holder_of(state, lock_of(program->table, block));
     return holder == thread ? NO_THREAD : holder;
 }
 
@@ -26,7 +26,7 @@ static uint32_t idle_waits_for(const struct program *program, const uint8_t *sta
     if (index == state[PLEX_STATE_TREE_COUNT])
         return NO_THREAD;
     uint32_t label = get16(tree_at(state, index) + PLEX_TREE_SIGNALS + PLEX_SIGNAL_LABEL);
-    return holder_of(state, guarding_lock(program, block_of(program, label)));
+    return holder_of(state, lock_of(program->table, block_of(program, label)));
 }
 
 static uint32_t waits_for(const struct program *program, const uint8_t *state, uint32_t thread)
