@@ -30,6 +30,24 @@ getD-set-idle [] t = refl
 getD-set-idle (x ∷ ts) zero = refl
 getD-set-idle (x ∷ ts) (suc t) = getD-set-idle ts t
 
+-- who holds a lock
+pub held-false : (l : ℕ) (ts : List ThreadState) → held l ts ≡ false → (k : ℕ) → has l (locksOf (getD ts k idle)) ≡ false
+unfolding held
+held-false l [] h k = has-none l
+held-false l (x ∷ ts) h zero = or-false (has l (locksOf x)) (held l ts) h .0
+held-false l (x ∷ ts) h (suc k) = held-false l ts (or-false (has l (locksOf x)) (held l ts) h .1) k
+
+pub held-of : (l : ℕ) (ts : List ThreadState) → ((k : ℕ) → has l (locksOf (getD ts k idle)) ≡ false) → held l ts ≡ false
+unfolding held
+held-of l [] h = refl
+held-of l (x ∷ ts) h = or-intro _ _ (h zero) (held-of l ts (λ k. h (suc k)))
+
+held-there : (l : ℕ) (ts : List ThreadState) (k : ℕ) → has l (locksOf (getD ts k idle)) ≡ true → held l ts ≡ true
+unfolding held
+held-there l [] k h = absurd (true≢false (sym h ∙ has-none l))
+held-there l (x ∷ ts) zero h = rw h
+held-there l (x ∷ ts) (suc k) h = rw (held-there l ts k h) (or-true (has l (locksOf x)))
+
 module _ (R : Rules) where
   pub grant-keeps : (w : Option ℕ) (l k : ℕ) → has l k ≡ true → has l (grant R w k) ≡ true
   grant-keeps none l k h = h
@@ -49,17 +67,6 @@ module _ (R : Rules) where
       go : Dec (l ≡ R .lock b) → (has l k ≡ true) ⊎ ((c : ℕ) × (some b ≡ some c) × (l ≡ R .lock c))
       go (yes e) = inr (b, refl, e)
       go (no n) = inl (sym (has-other l (R .lock b) k n) ∙ h)
-
-  pub held-false : (l : ℕ) (ts : List ThreadState) → held l ts ≡ false → (k : ℕ) → has l (locksOf (getD ts k idle)) ≡ false
-  unfolding held
-  held-false l [] h k = has-none l
-  held-false l (x ∷ ts) h zero = or-false (has l (locksOf x)) (held l ts) h .0
-  held-false l (x ∷ ts) h (suc k) = held-false l ts (or-false (has l (locksOf x)) (held l ts) h .1) k
-
-  pub held-of : (l : ℕ) (ts : List ThreadState) → ((k : ℕ) → has l (locksOf (getD ts k idle)) ≡ false) → held l ts ≡ false
-  unfolding held
-  held-of l [] h = refl
-  held-of l (x ∷ ts) h = or-intro _ _ (h zero) (held-of l ts (λ k. h (suc k)))
 
   -- the lock that is wanted is held by no thread other than t
   abbrev pub Clear : List ThreadState → ℕ → Option ℕ → Type 0
@@ -89,12 +96,6 @@ module _ (R : Rules) where
   -- a lock that a thread holds already is not taken twice
   pub grant-again : (b k : ℕ) → has (R .lock b) k ≡ true → grant R (some b) k ≡ k
   grant-again b k h = has-again (R .lock b) k h
-
-  held-there : (l : ℕ) (ts : List ThreadState) (k : ℕ) → has l (locksOf (getD ts k idle)) ≡ true → held l ts ≡ true
-  unfolding held
-  held-there l [] k h = absurd (true≢false (sym h ∙ has-none l))
-  held-there l (x ∷ ts) zero h = rw h
-  held-there l (x ∷ ts) (suc k) h = rw (held-there l ts k h) (or-true (has l (locksOf x)))
 
   -- a thread is hindered by another that holds the lock
   pub blocked-by : (ts : List ThreadState) (t k b : ℕ) → k ≢ t → has (R .lock b) (locksOf (getD ts k idle)) ≡ true

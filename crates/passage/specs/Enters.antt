@@ -1,5 +1,5 @@
 -- What a direct SEND and a CALL come to, by their passage.
-use mathlib.Core.Path.{_≡_, refl, sym, _∙_}
+use mathlib.Core.Path.{_≡_, refl, sym, ap, _∙_}
 use mathlib.Core.Bool.{Bool, true, false, cond}
 use mathlib.Core.Option.{some}
 use mathlib.Core.List.{List, [], _∷_, _++_}
@@ -13,10 +13,11 @@ use borrow.Author.Tests.{ne-eqb}
 use Rattle.rules.specs.Sorts.{lock, thread}
 use Rattle.rules.specs.Sizes.{lockCount, threadCount, returnCount, operandCount}
 use Rattle.rules.specs.Codes.{returnsFullCode, foreignFdBlockCode}
+use Rattle.rules.specs.Bytes.{has}
 use Rattle.rules.specs.Image.{labels, recordAt, labelA, labelB, operands, Row, rowAt}
 use Rattle.rules.specs.Statements.{statementOf, dataOf}
 use Rattle.rules.specs.Effects.{readAll}
-use Rattle.rules.specs.Machine.{Signal, Job, Machine, idle, running, threadAt, first, fill, job}
+use Rattle.rules.specs.Machine.{Signal, Job, Machine, idle, running, threadAt, locksOf, first, fill, job}
 use Rattle.rules.specs.Encoding.{machineFrom}
 use Rattle.rules.specs.Events.{step}
 use Rattle.rules.specs.Steps.{Reply, rulesBy, blockAt, alien, held, finished, react}
@@ -35,7 +36,7 @@ use Rattle.operands.specs.Readings.{Reads}
 use Rattle.operands.specs.Cells.{cellsOf}
 use Rattle.operands.specs.Gathered.{zeros-stay}
 use Rattle.step_ready.specs.At.{At, tree, label-A, depth-is, jobAt}
-use Rattle.passage.specs.Passages.{callTrap, otherHolder, byLock, passageTo, go-clear, call-clear}
+use Rattle.passage.specs.Passages.{Alone, callTrap, otherHolder, byLock, passageTo, go-clear, call-clear}
 use Rattle.passage.specs.declared.Passage.{Passage}
 use Rattle.passage.specs.declared.Passage.the-variants.{Trap, Wait, Go}
 
@@ -142,6 +143,15 @@ module _ {image table b : List ℕ} {t : ℕ} {w : ThreadState} {r : List ℕ} (
 
   lock-inside : (q : List ℕ) → labelA q < labels image → rowAt table (blockAt image (labelA q)) .lock < lockCount
   lock-inside q l = lock-below image table (passed image table [] (h .ready .checked) .0) (labelA q) l
+
+  -- the locks that the thread holds are its own
+  pub alone : Alone (machineFrom b) t (w .locks)
+  alone =
+      let own : locksOf (threadAt (machineFrom b) t) ≡ w .locks = ap locksOf (h .runs) in
+      record {
+        locks = own;
+        others = λ u l n e. h .ready .sound .invariant .apart t u l (λ q. n (sym q)) (ap (has l) own ∙ e);
+      }
 
   eight : length (machineFrom b .threads) ≡ threadCount
   eight = h .ready .canonical .sized .threads

@@ -4,6 +4,7 @@ use block_table::lock_at;
 use block_table::thread_at;
 use image::record_fields::label_a;
 use image::records::block_at;
+use lock_sets::held::holds;
 use operands::read_data;
 use rules::codes::FD;
 use rules::codes::FOREIGN_FD_BLOCK;
@@ -14,13 +15,13 @@ use rules::sorts::Lock;
 use rules::sorts::Thread;
 use rules::sorts::same_thread;
 use rules::sorts::thread_of;
-use state::locks::other_holder;
+use state::locks::holder_of;
 use threads::thread::ThreadState;
 ghost use mathlib.Core.Path.{_≡_};
 ghost use mathlib.Core.List.{[], _∷_, _++_};
 ghost use Prim.Native.Nat.{_<_};
 ghost use lib.ListN.{length, replicate};
-ghost use Rattle.rules.specs.Sizes.{blockCount, registerCount, tableSize};
+ghost use Rattle.rules.specs.Sizes.{blockCount, lockCount, registerCount, tableSize};
 ghost use Rattle.rules.specs.Image.{labels, labelB, rowAt};
 ghost use Rattle.rules.specs.Statements.{statementOf};
 ghost use Rattle.rules.specs.declared.statement.Statement.the-variants.{SendDirect, Call};
@@ -30,7 +31,7 @@ ghost use Rattle.rules.specs.Steps.{alien, blockAt};
 ghost use Rattle.encoding.specs.Encoded.{Canonical};
 ghost use Rattle.threads.specs.Threads.{returnsOf};
 ghost use Rattle.step_ready.specs.At.{At};
-ghost use Rattle.passage.specs.Passages.{passageTo, callTrap};
+ghost use Rattle.passage.specs.Passages.{hindering, Alone, passageTo, callTrap};
 ghost use Rattle.passage.specs.Enters.{Enters};
 
 // A trap with its reason, a lock with the other thread that holds it, or a lock that the step takes.
@@ -61,17 +62,31 @@ fn is_alien(table: &[u8], t: Thread, block: Block) -> bool
     (kind_at(table, block) == FD) & !same_thread(thread_at(table, block), t)
 }
 
-// The passage of thread t into the block of a label, where no earlier test made a trap (0): an FD block of another thread is a trap
+// The thread that keeps one with these locks from taking another, by its number; the number of threads where there is none. A lock that
+// the thread holds, through whatever block of a group, nobody else holds.
+fn hinderer(state: &[u8], lock: Lock, own: u16) -> usize
+    requires { ⌜ Canonical (now state) × (lock .0 < lockCount) ⌝ }
+    ensures { λ r. ⌜ r ≡ hindering (machineFrom (now (state .entry))) own (lock .0) ⌝ }
+{
+    if holds(own, lock) {
+        return Thread::COUNT;
+    }
+    holder_of(state, lock)
+}
+
+// The passage of thread t, which holds these locks, into the block of a label, where no earlier test made a trap (0): an FD block of another thread is a trap
 // whoever holds its lock.
 fn passage_to(
     image: &[u8],
     table: &[u8],
     state: &[u8],
     t: Thread,
+    own: u16,
     to: Label,
     earlier: u8,
 ) -> Passage
-    requires { ⌜ Checked (now image) (now table) × Canonical (now state) × (to .0 < labels (now image)) ⌝ }
+    requires { ⌜ Checked (now image) (now table) × Canonical (now state) × (to .0 < labels (now image))
+        × Alone (machineFrom (now state)) (t .0) own ⌝ }
     ensures { λ p. ⌜ p ≡ passageTo (machineFrom (now (state .entry)))
         (rowAt (now (table .entry)) (blockAt (now (image .entry)) (to .0))) (t .0) earlier ⌝ }
 {
@@ -80,7 +95,7 @@ fn passage_to(
     }
     let block = block_at(image, to);
     let lock = lock_at(table, block);
-    let holder = other_holder(state, lock, t);
+    let holder = hinderer(state, lock, own);
     if is_alien(table, t, block) {
         return Passage::Trap(FOREIGN_FD_BLOCK);
     }
@@ -106,7 +121,7 @@ pub fn send_passage(
         (returnsOf w) (now (values .exit)) p ⌝ }
 {
     let trap = read_data(state, w, r, values);
-    passage_to(image, table, state, t, label_a(r), trap)
+    passage_to(image, table, state, t, w.locks, label_a(r), trap)
 }
 
 // The same of a CALL, which needs room for its return label.
@@ -125,5 +140,5 @@ pub fn call_passage(
         (returnsOf w ++ (labelB (now (r .entry)) ∷ [])) (now (values .exit)) p ⌝ }
 {
     let trap = call_trap(read_data(state, w, r, values), w.depth);
-    passage_to(image, table, state, t, label_a(r), trap)
+    passage_to(image, table, state, t, w.locks, label_a(r), trap)
 }

@@ -8,6 +8,7 @@ use fields::read::get8;
 use fields::read::get16;
 use image::records::block_at;
 use image::records::index_of;
+use lock_sets::held::holds;
 use lock_sets::held::number_held;
 use register_check::running_tidy;
 use rules::codes::CMX;
@@ -21,7 +22,6 @@ use rules::sorts::Label;
 use rules::sorts::Lock;
 use rules::sorts::Thread;
 use rules::sorts::label_of;
-use rules::sorts::lock_number;
 use rules::sorts::same_thread;
 use rules::sorts::thread_of;
 use signal_check::signals_good;
@@ -34,14 +34,6 @@ ghost use Rattle.rules.specs.Image.{labels};
 ghost use Rattle.rules.specs.WellFormed.{placeOk};
 ghost use Rattle.laws.specs.Passed.{Passed};
 ghost use Rattle.thread_check.specs.Places.{placesOk, threadGood, threadAtGood};
-
-// Whether a lock is in a set.
-pub fn holds(locks: u16, l: Lock) -> bool
-    requires { ⌜ l .0 < blockCount ⌝ }
-    ensures { λ r. ⌜ r ≡ has (l .0) locks ⌝ }
-{
-    (locks >> lock_number(l)) % 2 == 1
-}
 
 pub fn place_ok(image: &[u8], n: usize, table: &[u8], t: Thread, locks: u16, l: Label) -> bool
     requires { ⌜ Passed (now image) (now table) × (n ≡ labels (now image)) ⌝ }

@@ -12,7 +12,7 @@ use Rattle.rules.specs.Encoding.{machineFrom}
 use Rattle.rules.specs.Steps.{blockAt, alien}
 use Rattle.laws.specs.Passed.{passed}
 use Rattle.soundness.specs.Destinations.{block-below, lock-below}
-use Rattle.passage.specs.Passages.{otherHolder, passageTo, passage-on}
+use Rattle.passage.specs.Passages.{hindering-other, otherHolder, passageTo, passage-on}
 use Rattle.passage.proofs.passage_to.Statement.{statement}
 use Rattle.passage.proofs.passage_to.Tie as tie
 
@@ -25,13 +25,16 @@ block c =
     (rw (c .block-at .ensures) (block-below (s .args .image .now) (s .args .table .now) k (s .args .to .0) (s .pre .2)), k .wholeTable)
 
 -- who else holds the lock of its row
-finds : (c : tie.After-other-holder)
-    → c .other-holder .result ≡ otherHolder (machineFrom (c .before .before .before .before .before .before .before .args .state .now))
+finds : (c : tie.After-hinderer)
+    → c .hinderer .result ≡ otherHolder (machineFrom (c .before .before .before .before .before .before .before .args .state .now))
     (rowAt (c .before .before .before .before .before .before .before .args .table .now)
     (blockAt (c .before .before .before .before .before .before .before .args .image .now)
     (c .before .before .before .before .before .before .before .args .to .0)))
     (c .before .before .before .before .before .before .before .args .t .0)
-finds c = rw (c .before .lock-at .ensures, c .before .before .block-at .ensures) at (c .other-holder .ensures)
+finds c =
+    let s = c .before .before .before .before .before .before .before in
+    rw (c .before .lock-at .ensures, c .before .before .block-at .ensures) at (c .hinderer .ensures)
+    ∙ hindering-other (machineFrom (s .args .state .now)) (s .args .t .0) (s .args .own) _ (s .pre .1 .sized .threads) (s .pre .3)
 
 returns : tie.Need-returns
 unfolding passageTo
@@ -40,8 +43,8 @@ returns c = rw (ne-eqb (c .before .before .before .before .args .earlier) 0 (c .
 lock-at-requires : tie.Need-lock-at-requires
 lock-at-requires c κs = block c
 
-other-holder-requires : tie.Need-other-holder-requires
-other-holder-requires c κs =
+hinderer-requires : tie.Need-hinderer-requires
+hinderer-requires c κs =
     let s = c .before .before .before .before .before .before in
     let k = passed (s .args .image .now) (s .args .table .now) [] (s .pre .0) .0 in (
       s .pre .1,
@@ -99,7 +102,7 @@ passage-to-spec =
     returns
     (λ c κs. search needs)
     lock-at-requires
-    other-holder-requires
+    hinderer-requires
     is-alien-requires
     returns-2
     (λ c. omega arith)

@@ -1,7 +1,7 @@
 use mathlib.Core.Path.{ap}
 use borrow.Author.Needs.{needs}
 use lib.ListN.{length}
-use Rattle.passage.specs.Enters.{send-below, send-enters-as}
+use Rattle.passage.specs.Enters.{alone, send-below, send-enters-as}
 use Rattle.passage.proofs.send_passage.Statement.{statement}
 use Rattle.passage.proofs.send_passage.Tie as tie
 
@@ -13,7 +13,7 @@ read-data-requires c κs =
 passage-to-requires : tie.Need-passage-to-requires
 passage-to-requires c κs =
     let s = c .before .before .before .before .before .before .before in
-    (s .pre .0 .ready .checked, s .pre .0 .ready .canonical, rw (c .label-a .ensures) (send-below (s .pre .0) (s .pre .1)))
+    (s .pre .0 .ready .checked, s .pre .0 .ready .canonical, rw (c .label-a .ensures) (send-below (s .pre .0) (s .pre .1)), alone (s .pre .0))
 
 returns : tie.Need-returns
 returns c =

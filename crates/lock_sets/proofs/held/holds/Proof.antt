@@ -1,6 +1,6 @@
 use borrow.Author.Needs.{needs}
-use Rattle.thread_check.proofs.holds.Statement.{statement}
-use Rattle.thread_check.proofs.holds.Tie as tie
+use Rattle.lock_sets.proofs.held.holds.Statement.{statement}
+use Rattle.lock_sets.proofs.held.holds.Tie as tie
 
 returns : tie.Need-returns
 returns c = rw (c .lock-number .ensures)
