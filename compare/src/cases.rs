@@ -1,8 +1,9 @@
 //! What is compared for a seed.
 
 use crate::both::{both, Call};
+use crate::groups::{locks_of_two, only_locks_changed};
 use crate::seen::Seen;
-use crate::sizes::{ANSWER, EVENT, RECORD, THREADS};
+use crate::sizes::{ANSWER, BLOCKS, EVENT, LOCKS, RECORD, ROW, THREADS};
 use second::generate::{damage, events, lent, only_held_changed, Lent, Random};
 use second::second_order;
 
@@ -52,18 +53,25 @@ fn damaged_calls(seen: &mut Seen, random: &mut Random, good: &Lent) -> Result<()
         damage(random, &mut damaged);
         for call in Call::ALL {
             let returned = both(seen, call, &mut damaged.clone())?;
-            if matches!(call, Call::Walk) && held_alone(good, &damaged) {
-                seen.note_damaged_held(returned);
+            if matches!(call, Call::Walk) {
+                note_damaged(seen, returned, good, &damaged);
             }
         }
     }
     Ok(())
 }
 
-/// Whether a walk is lent other held signals than this good one, and nothing
-/// else that is different.
-fn held_alone(good: &Lent, damaged: &Lent) -> bool {
-    good.thread == damaged.thread && good.met == damaged.met && only_held_changed(good, damaged)
+/// What a walk returned, if it was lent other held signals or other lock sets
+/// than this good one, and nothing else that is different.
+fn note_damaged(seen: &mut Seen, returned: u32, good: &Lent, damaged: &Lent) {
+    if (good.thread, &good.met) != (damaged.thread, &damaged.met) {
+        return;
+    }
+    if only_held_changed(good, damaged) {
+        seen.note_damaged_held(returned);
+    } else if only_locks_changed(good, damaged) {
+        seen.note_damaged_locks(returned);
+    }
 }
 
 /// A long event list in many Runs, refused ones between them, and then its
@@ -73,12 +81,14 @@ pub fn long_case(seen: &mut Seen, seed: u64) -> Result<(), String> {
     let mut lent = lent(seed);
     both(seen, Call::Fresh, &mut lent)?;
     let begun = lent.state.clone();
-    let (mut list, mut answers) = (Vec::new(), Vec::new());
+    let (mut list, mut answers, mut group_waits) = (Vec::new(), Vec::new(), 0);
     while list.len() < EVENT * LONG {
         let more = events(random, &lent.image, &lent.table, &lent.state);
         hand_over(&mut lent, &more);
         refused_run(seen, random, &lent)?;
+        let locks: Vec<u8> = locks_of_two(&lent.image, &lent.table, &lent.state).collect();
         both(seen, Call::Run, &mut lent)?;
+        group_waits += first_waits(&lent.answers, &locks);
         list.extend_from_slice(&lent.events);
         answers.extend_from_slice(&lent.answers);
     }
@@ -91,8 +101,14 @@ pub fn long_case(seen: &mut Seen, seed: u64) -> Result<(), String> {
     if lent.state != left {
         return Err("the jobs one by one leave another state".into());
     }
-    seen.note_one_by_one(&expected);
+    seen.note_one_by_one(&expected, group_waits);
     Ok(())
+}
+
+/// The waits for these locks before any job has ended.
+fn first_waits(answers: &[u8], locks: &[u8]) -> usize {
+    let before = answers.chunks(ANSWER).take_while(|answer| !matches!(answer[0], 7..=9));
+    before.filter(|answer| answer[0] == 4 && locks.contains(&answer[1])).count()
 }
 
 /// A damaged Run; if it is refused, it counts no event, and if not, it is no
@@ -114,13 +130,14 @@ fn run_all(seen: &mut Seen, lent: &mut Lent, list: &[u8]) -> Result<Vec<u8>, Str
     Ok(answers)
 }
 
-/// Blocks that each send to the next one's, each on a thread of its own, so
-/// that the threads come to wait in long rows and at last in a ring.
+/// Groups of two blocks, each on a thread of its own: one block sends to the
+/// other of the next group, so that the threads come to wait in long rows and at
+/// last in a ring.
 pub fn waiting_case(seen: &mut Seen, seed: u64) -> Result<(), String> {
     let random = &mut Random::new(!seed);
     let mut lent = lent(seed);
     lent.image = (0..THREADS as u8).flat_map(sender).collect();
-    lent.table = (0..16).flat_map(|block| [block % THREADS as u8, 1]).collect();
+    lent.table = (0..BLOCKS).flat_map(row).collect();
     both(seen, Call::Fresh, &mut lent)?;
     for _ in 0..4 * THREADS {
         let thread = random.below(THREADS) as u8;
@@ -131,12 +148,19 @@ pub fn waiting_case(seen: &mut Seen, seed: u64) -> Result<(), String> {
     Ok(())
 }
 
-/// Two records of a block: SEND direct to the next block's second, entry
-/// external, and EXIT, entry direct.
-fn sender(block: u8) -> Vec<u8> {
-    let next = (block + 1) % THREADS as u8;
-    let send = [5, block, 3, 0, 2 * next + 1];
-    let exit = [10, block, 1];
+/// Blocks whose numbers differ by 8 are a group. Its lock has no number of theirs.
+fn row(block: usize) -> [u8; ROW] {
+    let thread = block % THREADS;
+    [thread as u8, 1, (LOCKS - 1 - thread) as u8]
+}
+
+/// A record of each block of a group: SEND direct to the next group's second,
+/// entry external, and EXIT, entry direct.
+fn sender(thread: u8) -> Vec<u8> {
+    let threads = THREADS as u8;
+    let next = (thread + 1) % threads;
+    let send = [5, thread, 3, 0, 2 * next + 1];
+    let exit = [10, threads + thread, 1];
     [filled(&send, RECORD), filled(&exit, RECORD)].concat()
 }
 

@@ -7,6 +7,7 @@
 
 mod both;
 mod cases;
+mod groups;
 mod held;
 mod library;
 mod links;
@@ -33,12 +34,13 @@ fn main() -> ExitCode {
         ["replay", seed] => number(seed).and_then(|seed| replay(&mut seen, seed)),
         _ => Err("use: compare | compare soak SECONDS | compare replay SEED".into()),
     };
-    let Seen { calls, events, rings, longest_walk, links, largest_link, .. } = seen;
+    let Seen { calls, events, in_two_blocks, rings, longest_walk, links, largest_link, .. } = seen;
     let lost = seen.lost();
     match compared {
         Ok(what) => {
             println!(
-                "compare: {what}, {calls} calls, {events} events, {lost} held signals lost, {rings} rings, \
+                "compare: {what}, {calls} calls, {events} events, {lost} held signals lost, \
+                 {in_two_blocks} threads in two blocks of a group, {rings} rings, \
                  walks of up to {longest_walk} threads, {links} links of up to {largest_link} records: \
                  no difference"
             );

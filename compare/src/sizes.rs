@@ -1,11 +1,25 @@
-//! The sizes of the formats in bytes, the place of the held signals, and how
-//! many there are of what is counted.
+//! The sizes of the formats in bytes, the places in their records that are read,
+//! and how many there are of what is counted.
 
 pub const RECORD: usize = 84;
 pub const RECORDS: usize = 512;
+/// Where in an image record its block is.
+pub const BLOCK: usize = 1;
+pub const BLOCKS: usize = 16;
+/// A block's row of the table.
+pub const ROW: usize = 3;
+/// Where in a row the block's lock is.
+pub const LOCK: usize = 2;
+pub const LOCKS: usize = 16;
 pub const WORDS: usize = 512;
 pub const THREAD: usize = 288;
 pub const THREADS: usize = 8;
+/// Where in a thread record the label is, the lock set, the count of return
+/// labels, and then they.
+pub const LABEL: usize = 0;
+pub const LOCK_SET: usize = 2;
+pub const RETURNS: usize = 4;
+pub const RETURN_LABELS: usize = 5;
 /// Where in a thread record the count of held signals is, and then they are.
 pub const HELD: usize = 75;
 pub const MOST_HELD: usize = 4;

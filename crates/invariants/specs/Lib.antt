@@ -1,10 +1,12 @@
--- What no event can do, proved of the rules. The main theorems: `every-end-is-clean` of Ends; `returns-are-open-calls` of OpenCalls;
+-- What no event can do, proved of the rules. The main theorems: `every-end-is-clean` of Ends; `enters-own-group`, `lock-set-stays` and
+-- `waits-for-the-group` of Groups; `run-leaves-unheld-blocks` of UnheldBlocks; `returns-are-open-calls` of OpenCalls;
 -- `return-leads-to-a-calling-block` of ReturnTargets. soundness/specs/Untouched and Places have what an event leaves as it was.
 
 -- ends of a job
 pub mod Ends
--- blocks that one lock guards
+-- blocks that one lock guards, and those whose lock a thread does not hold
 pub mod Groups
+pub mod UnheldBlocks
 -- return labels
 pub mod Paths
 pub mod Returns

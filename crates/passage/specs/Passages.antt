@@ -20,7 +20,7 @@ use Rattle.rules.specs.declared.sorts.Lock.{Lock}
 use Rattle.laws.specs.Logic.{never}
 use Rattle.laws.specs.Sets.{has-none}
 use Rattle.laws.specs.Locks.{getD-set-idle, held-of}
-use Rattle.state.specs.Locks.{holder-none, holder-but}
+use Rattle.state.specs.Locks.{holder-none}
 use Rattle.passage.specs.declared.Passage.{Passage}
 use Rattle.passage.specs.declared.Passage.the-variants.{Trap, Wait, Go}
 
@@ -37,25 +37,17 @@ pub record Alone (s : Machine) (t own : ℕ) : Type 0 where
   pub locks : locksOf (threadAt s t) ≡ own
   pub others : (u l : ℕ) → u ≢ t → has l own ≡ true → has l (locksOf (threadAt s u)) ≡ false
 
--- who keeps a thread with these locks from taking another, by its number: nobody, if the thread has it
-unfoldable pub hindering : Machine → ℕ → ℕ → ℕ
-hindering s own l = cond (has l own) threadCount (holder l (s .threads))
-
--- that is the other thread that holds the lock
-pub hindering-other : (s : Machine) (t own l : ℕ) → length (s .threads) ≡ threadCount → Alone s t own
-    → hindering s own l ≡ holder l (set (s .threads) t idle)
-unfolding hindering
-hindering-other s t own l size a = case (has l own) refl
+-- so the search for another holder of one of them finds nobody
+pub nobody-else : (s : Machine) (t own l : ℕ) → length (s .threads) ≡ threadCount → Alone s t own → has l own ≡ true
+    → threadCount ≡ holder l (set (s .threads) t idle)
+nobody-else s t own l size a h =
+    sym (holder-none l (set (s .threads) t idle) (held-of l (set (s .threads) t idle) (λ u. other u (ℕ-discrete u t)))
+    ∙ length-set (s .threads) t idle
+    ∙ size)
   where
-    others : has l own ≡ true → (u : ℕ) → Dec (u ≡ t) → has l (locksOf (getD (set (s .threads) t idle) u idle)) ≡ false
-    others h u (yes e) = rw (e, getD-set-idle (s .threads) t) (has-none l)
-    others h u (no n) = rw (getD-set-other (s .threads) t u idle idle n) (a .others u l n h)
-
-    case : (b : Bool) → has l own ≡ b → cond b threadCount (holder l (s .threads)) ≡ holder l (set (s .threads) t idle)
-    case true h =
-        sym (holder-none l (set (s .threads) t idle) (held-of l (set (s .threads) t idle) (λ u. others h u (ℕ-discrete u t)))
-        ∙ length-set (s .threads) t idle ∙ size)
-    case false h = holder-but l (s .threads) t (rw (a .locks) h)
+    other : (u : ℕ) → Dec (u ≡ t) → has l (locksOf (getD (set (s .threads) t idle) u idle)) ≡ false
+    other u (yes e) = rw (e, getD-set-idle (s .threads) t) (has-none l)
+    other u (no n) = rw (getD-set-other (s .threads) t u idle idle n) (a .others u l n h)
 
 -- by whether another thread, u, holds the lock
 abbrev pub byLock : Bool → Lock → ℕ → Passage

@@ -22,7 +22,8 @@ use Rattle.rules.specs.Machine.{first, put}
 use Rattle.rules.specs.Encoding.{threadRaw, threadBytes, encode, machineFrom}
 use Rattle.rules.specs.Answers.{code, detail, close, sort}
 use Rattle.rules.specs.Events.{Event, arrive, step, cut, threadOf, eventsFrom}
-use Rattle.rules.specs.Steps.{Rules, rulesBy, newest, older, alien, blockAt, held, blocked}
+use Rattle.rules.specs.Sorts
+use Rattle.rules.specs.Steps.{Rules, Move, move, rulesBy, newest, older, alien, blockAt, held, blocked}
 use Rattle.rules.specs.Steps.{planArrive, plan, exiting, carry, react, final, grown, founded, requeued, finished, admitted, lost}
 use Rattle.rules.specs.Walk.{walk, metCount}
 use Rattle.rules.specs.Calls.{stateLengthFault, stateFault, eventsLengthFault, eventFault, answersLengthFault, runReturn, runState}
@@ -30,7 +31,7 @@ use Rattle.rules.specs.declared.statement.Relation.the-variants.{Equal, 
 use Rattle.rules.specs.declared.statement.Condition.{Condition}
 use Rattle.rules.specs.declared.statement.Statement.the-variants.{If, SendDirect, SendBuffered, Call, Return, Transfer, Exit}
 use Rattle.rules.specs.declared.statement.Statement.the-variants.{SendTree}
-use Rattle.rules.specs.declared.answer.Answer.the-variants.{Taken, ListFull, Started, Exited, Trapped, WasCut}
+use Rattle.rules.specs.declared.answer.Answer.the-variants.{Taken, ListFull, Waiting, Started, Exited, Trapped, WasCut}
 use Rattle.rules.proofs.Running.{Runs, Answered, answered, MovesOn}
 use Rattle.rules.proofs.Opcodes as opcodes
 use Rattle.rules.proofs.Opcodes.{stepOf, Open, A, B, register}
@@ -223,6 +224,9 @@ pub record Trials (image table : List ℕ) (s : Machine) (t locks : ℕ) (j : Jo
   -- also: a lock hinders a thread only where another holds it
   pub own-lock : (R : Rules) (b : ℕ) (before after : List ThreadState) → held (R .lock b) before ≡ false → held (R .lock b) after ≡ false
       → blocked R (length before) (before ++ running locks j ∷ after) (some b) ≡ none
+  -- also: a wait has the lock of the wanted block as its detail
+  pub waits-for-the-lock : (R : Rules) (b : ℕ) (m : Move) → m .want ≡ some b → held (R .lock b) (set (s .threads) t idle) ≡ true
+      → Answered (carry R s (move t m)) 4 (R .lock b)
   -- also: two threads that wait for each other: the walk writes both once and reports the ring; one that does not wait is written alone
   pub walk-ring : (next : ℕ → Option ℕ) → next 1 ≡ some 0 → next 0 ≡ some 1
       → (walk next 8 1 .threads ≡ 1 ∷ 0 ∷ []) × (metCount (walk next 8 1) ≡ 258)
@@ -283,6 +287,7 @@ trials image table s t locks j values = record {
   buffered-keeps = opcodes.send image table;
   starts-nothing = λ R. starts-nothing R s t locks j;
   own-lock = λ R b. waits.own-lock R b locks j;
+  waits-for-the-lock = λ R b m e h. answered (carry R s (move t m)) (Waiting (Sorts.lock (R .lock b))) (rw (waits.waits R s t b m e h));
   walk-ring = λ next e f. rw (waits.ring next e f) (refl, refl);
   walk-alone = λ next e. rw (waits.alone next e) (refl, refl);
 }

@@ -10,9 +10,11 @@ use lib.ListN.{length, set}
 use lib.Pow.{pow-pos}
 use Rattle.rules.specs.Sizes.{threadCount}
 use Rattle.rules.specs.Bytes.{has}
-use Rattle.rules.specs.Machine.{Job, ThreadState, idle, running, locksOf}
-use Rattle.rules.specs.Steps.{Rules, held, blocked}
+use Rattle.rules.specs.Sorts
+use Rattle.rules.specs.Machine.{Job, ThreadState, idle, running, Machine, locksOf}
+use Rattle.rules.specs.Steps.{Rules, Move, move, held, blocked, attempt, carry}
 use Rattle.rules.specs.Walk.{mem?, walkOn, walk}
+use Rattle.rules.specs.declared.answer.Answer.the-variants.{Waiting}
 
 -- where no other thread holds a lock, nobody does once the thread between them is idle
 free : (l : ℕ) (before after : List ThreadState) (w : ThreadState) → held l before ≡ false → held l after ≡ false
@@ -31,6 +33,12 @@ pub own-lock : (R : Rules) (b locks : ℕ) (j : Job) (before after : List Thread
     → held (R .lock b) after ≡ false → blocked R (length before) (before ++ running locks j ∷ after) (some b) ≡ none
 unfolding blocked
 own-lock R b locks j before after h k = rw (free (R .lock b) before after (running locks j) h k)
+
+-- what another thread holds is waited for by its lock, whatever the block's number
+pub waits : (R : Rules) (s : Machine) (t b : ℕ) (m : Move) → m .want ≡ some b → held (R .lock b) (set (s .threads) t idle) ≡ true
+    → carry R s (move t m) ≡ record { state = s; answer = Waiting (Sorts.lock (R .lock b)) }
+unfolding blocked carry attempt
+waits R s t b m e h = rw (e, h)
 
 module _ (next : ℕ → Option ℕ) where
   pub ring : next 1 ≡ some 0 → next 0 ≡ some 1 → walk next threadCount 1 ≡ record { threads = 1 ∷ 0 ∷ []; ring = true }

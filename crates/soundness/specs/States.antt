@@ -117,13 +117,13 @@ fresh-leaves-ready image table words state h =
     rw h (encoded-ready image table (fresh (wordsFrom words)) (fresh-bytes-well-formed image table (checked-of image table _ h .0) words))
 
 -- what an accepted Run was given
-record Given (image table state events : List ℕ) : Type 0 where
-  checked : Checked image table
-  size : length state ≡ stateSize
-  formed : wellFormed image table state ≡ true
-  accepted : Each (Accepted image) (eventsFrom events)
+pub record Given (image table state events : List ℕ) : Type 0 where
+  pub checked : Checked image table
+  pub size : length state ≡ stateSize
+  pub formed : wellFormed image table state ≡ true
+  pub accepted : Each (Accepted image) (eventsFrom events)
 
-given-of : (image table state events space : List ℕ) → runReturn image table state events space ≡ 0 → Given image table state events
+pub given-of : (image table state events space : List ℕ) → runReturn image table state events space ≡ 0 → Given image table state events
 unfolding runReturn stateLengthFault stateFault eventsLengthFault eventFault
 given-of image table state events space h =
     let four = checked-of image table _ h in

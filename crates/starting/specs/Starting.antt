@@ -27,7 +27,6 @@ use Rattle.encoding.specs.Encoded.{Encodes, Canonical, encoded-machine, encoded
 use Rattle.encoding.specs.FirstTree.{firstTree, first-some}
 use Rattle.laws.specs.Passed.{passed}
 use Rattle.laws.specs.Logic.{never}
-use Rattle.laws.specs.Sets.{has-none}
 use Rattle.soundness.specs.Sound.{QueueIn}
 use Rattle.soundness.specs.Queues.{headPending, first-queue}
 use Rattle.soundness.specs.Destinations.{lock-below}
@@ -35,7 +34,7 @@ use Rattle.step_laws.specs.Events.{reply, no-tree, start-waits, start-runs}
 use Rattle.image.specs.Records.{labels-small}
 use Rattle.threads.specs.Threads.{Idle, Runs, withJob}
 use Rattle.threads.specs.declared.thread.ThreadState.{ThreadState}
-use Rattle.state.specs.Locks.{HeldBy, held-by-other, holder-but}
+use Rattle.state.specs.Locks.{HeldBy, held-by-other}
 use Rattle.pending_signals.specs.Canon.{pendingAt}
 use Rattle.pending_signals.specs.Changes.{taken}
 use Rattle.step_ready.specs.Ready.{Ready, Recorded, replyTo, Stepped, done, says}
@@ -124,20 +123,17 @@ module _ {image table b : List ℕ} (h : Ready image table b) (t : ℕ) (rests :
             rw f (lock-below image table (passed image table [] (h .checked) .0) _ (oldest-below h i k some));
       }
 
-  -- by the search for a thread that holds the lock: it finds u, or none. The thread itself is idle and holds none
-  module _ {i : ℕ} {l : Lock} (k : FirstIs image table s t i l) (x : ℕ) (found : x ≡ holder (l .0) (s .threads)) where
-    others : x ≡ holder (l .0) (set (s .threads) t idle)
-    others = found ∙ holder-but (l .0) (s .threads) t (rw rests (has-none (l .0)))
-
+  -- by the search for another thread that holds the lock: it finds u, or none
+  module _ {i : ℕ} {l : Lock} (k : FirstIs image table s t i l) (x : ℕ) (e : x ≡ holder (l .0) (set (s .threads) t idle)) where
     pub first-waits : (u : Thread) → x < threadCount → u ≡ Sorts.thread x → FirstOf image table s t (Wait l u)
     first-waits u z f = (
       i,
       k,
-      (held-by-other s (h .canonical .sized .threads) (l .0) t ∙ lt-ltb _ threadCount (rw others at z), f ∙ ap Sorts.thread others),
+      (held-by-other s (h .canonical .sized .threads) (l .0) t ∙ lt-ltb _ threadCount (rw e at z), f ∙ ap Sorts.thread e),
     )
 
     pub first-goes : threadCount ≤ x → FirstOf image table s t (Go i l)
-    first-goes z = (k, held-by-other s (h .canonical .sized .threads) (l .0) t ∙ le-ltb _ threadCount (rw others at z))
+    first-goes z = (k, held-by-other s (h .canonical .sized .threads) (l .0) t ∙ le-ltb _ threadCount (rw e at z))
 
   -- ---- what its step comes to
 

@@ -10,7 +10,7 @@ use rules::sorts::Lock;
 use rules::sorts::Thread;
 use rules::sorts::thread_of;
 use signal_records::Signal;
-use state::locks::holder_of;
+use state::locks::other_holder;
 use threads::thread::ThreadState;
 use trees::list::first_tree;
 use trees::list::tree_count;
@@ -43,7 +43,7 @@ pub fn first_signal(image: &[u8], table: &[u8], state: &[u8], t: Thread) -> Firs
         return First::Nothing;
     }
     let lock = lock_at(table, block_at(image, oldest_label(state, i)));
-    let holder = holder_of(state, lock);
+    let holder = other_holder(state, lock, t);
     if holder < Thread::COUNT {
         return First::Wait(lock, thread_of(holder as u8));
     }

@@ -2,7 +2,7 @@
 use mathlib.Core.Path.{_≡_, refl, sym, ap, _∙_}
 use mathlib.Core.Bool.{Bool, true, false, cond, not, _||_, true≢false}
 use mathlib.Core.List.{List, [], _∷_, _++_}
-use Prim.Native.Nat.{ℕ, zero, suc, _+_, _<_}
+use Prim.Native.Nat.{ℕ, suc, _+_, _<_}
 use native.Mathlib.Decide.{ℕ-discrete}
 use native.Mathlib.Omega.{arith}
 use lib.Dec.{eqb, ltb, leb·suc-suc}
@@ -23,9 +23,9 @@ use Rattle.threads.specs.Records.{threadPlace}
 use Rattle.encoding.specs.Encoded.{Encodes}
 use Rattle.rules.specs.declared.sorts.Thread as sorts
 
--- thread i does not hold the lock
-unfoldable pub without : List ℕ → ℕ → ℕ → Bool
-without b l i = not (has l (num16 (drop (threadPlace i + locksPlace) b)))
+-- thread i is the one left out, or does not hold the lock
+unfoldable pub passes : List ℕ → ℕ → ℕ → ℕ → Bool
+passes b l out i = eqb i out || not (has l (num16 (drop (threadPlace i + locksPlace) b)))
 
 -- a search whose test is that of the threads ws, from i on
 search : (l : ℕ) (ok : ℕ → Bool) (ws : List ThreadState) (i : ℕ)
@@ -52,14 +52,21 @@ module _ (b : List ℕ) (s : Machine) (z : Encodes b s) where
       let d = thread-on s i (threadPlace i) (z .sized .threads) h refl in
       ap num16 (sym (drop-drop locksPlace (threadPlace i) b)) ∙ rw (z .same, d .1) (locks-back (threadAt s i) (d .0))
 
-  -- the search of the bytes finds the first holder
-  pub holder-found : (l : ℕ) → firstBad (without b l) 0 threadCount ≡ holder l (s .threads)
-  unfolding without
-  holder-found l =
-      let f : firstBad (without b l) 0 (length (s .threads)) ≡ 0 + holder l (s .threads) =
-      search l (without b l) (s .threads) 0 (λ j h.
-      let e : 0 + j ≡ j = omega arith in rw (e, locks-are j (omega (arith, z .sized .threads)))) in
-      rw (z .sized .threads) at f ∙ omega arith
+  -- the search of the bytes finds the first holder but the one left out
+  pub holder-found : (l out : ℕ) → firstBad (passes b l out) 0 threadCount ≡ holder l (set (s .threads) out idle)
+  unfolding passes
+  holder-found l out =
+      let n : length (set (s .threads) out idle) ≡ threadCount = length-set (s .threads) out idle ∙ z .sized .threads in
+      let f : firstBad (passes b l out) 0 (length (set (s .threads) out idle)) ≡ 0 + holder l (set (s .threads) out idle) =
+      search l (passes b l out) (set (s .threads) out idle) 0 (λ j h. ap (passes b l out) (omega arith) ∙ go j (omega arith)
+      (ℕ-discrete j out)) in
+      rw n at f ∙ omega arith
+    where
+      go : (j : ℕ) → j < threadCount → Dec (j ≡ out)
+          → (eqb j out || not (has l (num16 (drop (threadPlace j + locksPlace) b)))) ≡ not
+          (has l (locksOf (getD (set (s .threads) out idle) j idle)))
+      go j h (yes e) = rw (eq-eqb j out e, e, getD-set-same (s .threads) out idle idle (omega (arith, z .sized .threads)), has-none l)
+      go j h (no e) = rw (ne-eqb j out e, locks-are j h, getD-set-other (s .threads) out j idle idle e)
 
 -- a lock is held where there is a holder
 held-is : (l : ℕ) (ws : List ThreadState) → held l ws ≡ ltb (holder l ws) (length ws)
@@ -92,11 +99,3 @@ holder-none l (w ∷ ws) h = go (has l (locksOf w)) h (holder-none l ws)
     go : (b : Bool) → b || held l ws ≡ false → (held l ws ≡ false → holder l ws ≡ length ws) → cond b 0 (suc (holder l ws)) ≡ suc (length ws)
     go true h f = absurd (true≢false h)
     go false h f = ap suc (f h)
-
--- a thread that does not hold a lock has no part in the search
-pub holder-but : (l : ℕ) (ws : List ThreadState) (t : ℕ) → has l (locksOf (getD ws t idle)) ≡ false
-    → holder l ws ≡ holder l (set ws t idle)
-unfolding holder
-holder-but l [] t h = refl
-holder-but l (w ∷ ws) zero h = rw (h, has-none l)
-holder-but l (w ∷ ws) (suc t) h = ap (λ n. cond (has l (locksOf w)) 0 (suc n)) (holder-but l ws t h)

@@ -7,22 +7,27 @@ use rules::layout::THREAD_SIZE;
 use rules::layout::THREADS_PLACE;
 use rules::sorts::Lock;
 use rules::sorts::Thread;
+use rules::sorts::same_thread;
 use rules::sorts::thread_number;
 use rules::sorts::thread_of;
 ghost use mathlib.Core.Path.{_≡_};
 ghost use Prim.Native.Nat.{_<_};
-ghost use lib.ListN.{length};
+ghost use lib.ListN.{length, set};
 ghost use Rattle.rules.specs.Sizes.{threadCount, lockCount, stateSize};
+ghost use Rattle.rules.specs.Machine.{idle};
 ghost use Rattle.rules.specs.Walk.{holder};
 ghost use Rattle.rules.specs.Encoding.{machineFrom};
 ghost use Rattle.encoding.specs.Encoded.{Canonical};
-ghost use Rattle.state.specs.Locks.{without};
+ghost use Rattle.state.specs.Locks.{passes};
 
-// Whether thread t is without a lock.
-fn lacks(state: &[u8], lock: Lock, t: Thread) -> bool
+// Whether the search for a holder passes thread t: it is the thread left out, or does not hold the lock.
+fn passed(state: &[u8], lock: Lock, out: Thread, t: Thread) -> bool
     requires { ⌜ (length (now state) ≡ stateSize) × (lock .0 < lockCount) × (t .0 < threadCount) ⌝ }
-    ensures { λ r. ⌜ r ≡ without (now (state .entry)) (lock .0) (t .0) ⌝ }
+    ensures { λ r. ⌜ r ≡ passes (now (state .entry)) (lock .0) (out .0) (t .0) ⌝ }
 {
+    if same_thread(t, out) {
+        return true;
+    }
     let locks = get16(
         state,
         THREADS_PLACE + THREAD_SIZE * wide(thread_number(t)) + LOCKS_PLACE,
@@ -30,14 +35,14 @@ fn lacks(state: &[u8], lock: Lock, t: Thread) -> bool
     !holds(locks, lock)
 }
 
-// The first thread that holds a lock, by its number; the number of threads where there is none.
-pub fn holder_of(state: &[u8], lock: Lock) -> usize
+// The first thread but t that holds a lock, by its number; the number of threads where there is none.
+pub fn other_holder(state: &[u8], lock: Lock, t: Thread) -> usize
     requires { ⌜ Canonical (now state) × (lock .0 < lockCount) ⌝ }
-    ensures { λ r. ⌜ r ≡ holder (lock .0) (machineFrom (now (state .entry)) .threads) ⌝ }
+    ensures { λ r. ⌜ r ≡ holder (lock .0) (set (machineFrom (now (state .entry)) .threads) (t .0) idle) ⌝ }
 {
     let mut i = 0;
     while i < Thread::COUNT {
-        if !lacks(state, lock, thread_of(i as u8)) {
+        if !passed(state, lock, t, thread_of(i as u8)) {
             return i;
         }
         i += 1;

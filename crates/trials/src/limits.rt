@@ -30,7 +30,7 @@ fn exits(memory: &mut Memory, buffer: usize, block: u8) {
     }
 }
 
-// Every image length from 0 to 43,176: 84 × n passes for n 1 to 512, and no other. The block table is one of zeros.
+// Every image length from 0 to 43,176: 84 × n passes for n 1 to 512, and no other.
 pub fn image_lengths(memory: &mut Memory, lengths: &mut Lengths) -> Tally {
     load(b"", b"limits", memory, lengths);
     exits(memory, IMAGE, 0);

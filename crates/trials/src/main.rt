@@ -17,12 +17,25 @@ use lines::try_file;
 use memory::Lengths;
 use memory::Memory;
 
-// The lines that name `call`, a call of a machine: of the limits, of the vectors, and of those of the base.
+// The lines that name `call`, a call of a machine: of the limits, and of the vectors of the base and of two requests.
 fn try_call(call: &[u8], memory: &mut Memory, lengths: &mut Lengths) {
     try_file(b"limits.txt", call, memory, lengths).print(call, b" lines of the limits agree\n");
-    try_file(b"damaged.txt", call, memory, lengths).print(call, b" lines of the vectors agree\n");
     let base = try_file(b"base/damaged.txt", call, memory, lengths);
     base.print(call, b" lines of the base's vectors agree\n");
+    let held = try_file(b"102/damaged.txt", call, memory, lengths);
+    held.print(call, b" lines of the vectors of held signals agree\n");
+    let groups = try_file(b"104/damaged.txt", call, memory, lengths);
+    groups.print(call, b" lines of the vectors of groups agree\n");
+}
+
+// The cases of a file, each with its walks.
+fn try_cases(path: &[u8], memory: &mut Memory, lengths: &mut Lengths, of: &[u8]) {
+    try_file(path, b"run=", memory, lengths).print(b"run", of);
+}
+
+// Walks from states near those of the cases.
+fn try_near(path: &[u8], memory: &mut Memory, lengths: &mut Lengths, of: &[u8]) {
+    try_file(path, b"walk", memory, lengths).print(b"walk", of);
 }
 
 fn main() {
@@ -33,14 +46,35 @@ fn main() {
     try_call(b"fresh", &mut memory, &mut lengths);
     try_call(b"run", &mut memory, &mut lengths);
     try_call(b"walk", &mut memory, &mut lengths);
-    let near = try_file(b"near.txt", b"walk", &mut memory, &mut lengths);
-    near.print(b"walk", b" lines near the cases' states agree\n");
-    let cases = try_file(b"index.txt", b"run=", &mut memory, &mut lengths);
-    cases.print(b"run", b" cases agree, with the walks of eight threads\n");
-    let base = try_file(b"base/index.txt", b"run=", &mut memory, &mut lengths);
-    base.print(
-        b"run",
+    try_near(
+        b"102/near.txt",
+        &mut memory,
+        &mut lengths,
+        b" lines near states with held signals agree\n",
+    );
+    try_near(
+        b"104/near.txt",
+        &mut memory,
+        &mut lengths,
+        b" lines near states with groups agree\n",
+    );
+    try_cases(
+        b"base/index.txt",
+        &mut memory,
+        &mut lengths,
         b" cases of the base agree, with the walks of eight threads\n",
+    );
+    try_cases(
+        b"102/index.txt",
+        &mut memory,
+        &mut lengths,
+        b" cases of held signals agree, with the walks of eight threads\n",
+    );
+    try_cases(
+        b"104/index.txt",
+        &mut memory,
+        &mut lengths,
+        b" cases of groups agree, with the walks of eight threads\n",
     );
     link_counts(&mut memory, &mut lengths).print(b"link", b" record counts agree\n");
     let limits = try_file(b"limits.txt", b"link", &mut memory, &mut lengths);

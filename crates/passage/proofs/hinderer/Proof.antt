@@ -1,24 +1,15 @@
-use mathlib.Core.Path.{_≡_, sym, _∙_}
-use mathlib.Core.Bool.{true, false}
+use mathlib.Core.Path.{sym, _∙_}
 use borrow.Author.Needs.{needs}
-use Rattle.rules.specs.Bytes.{has}
-use Rattle.passage.specs.Passages.{hindering}
+use Rattle.rules.specs.Encoding.{machineFrom}
+use Rattle.passage.specs.Passages.{nobody-else}
 use Rattle.passage.proofs.hinderer.Statement.{statement}
 use Rattle.passage.proofs.hinderer.Tie as tie
 
 returns : tie.Need-returns
-unfolding hindering
 returns c =
-    let a = c .before .before .before .args in
-    let e : has (a .lock .0) (a .own) ≡ true = sym (c .before .holds .ensures) ∙ c .if1 .taken in
-    rw e
-
-returns-2 : tie.Need-returns-2
-unfolding hindering
-returns-2 c =
-    let a = c .before .before .before .before .args in
-    let e : has (a .lock .0) (a .own) ≡ false = sym (c .before .before .holds .ensures) ∙ c .before .if1 .left in
-    rw e (c .holder-of .ensures)
+    let s = c .before .before .before in
+    nobody-else (machineFrom (s .args .state .now)) (s .args .t .0) (s .args .own) (s .args .lock .0) (s .pre .0 .sized .threads)
+    (s .pre .2) (sym (c .before .holds .ensures) ∙ c .if1 .taken)
 
 pub hinderer-spec : {M : Type 1} → statement M
-hinderer-spec = tie.close (tie.spec (λ c κs. search needs) returns (λ c κs. search needs) returns-2)
+hinderer-spec = tie.close (tie.spec (λ c κs. search needs) returns (λ c κs. search needs) (λ c. c .other-holder .ensures))

@@ -12,7 +12,7 @@ use Rattle.rules.specs.Encoding.{machineFrom}
 use Rattle.rules.specs.Steps.{blockAt, alien}
 use Rattle.laws.specs.Passed.{passed}
 use Rattle.soundness.specs.Destinations.{block-below, lock-below}
-use Rattle.passage.specs.Passages.{hindering-other, otherHolder, passageTo, passage-on}
+use Rattle.passage.specs.Passages.{otherHolder, passageTo, passage-on}
 use Rattle.passage.proofs.passage_to.Statement.{statement}
 use Rattle.passage.proofs.passage_to.Tie as tie
 
@@ -31,10 +31,7 @@ finds : (c : tie.After-hinderer)
     (blockAt (c .before .before .before .before .before .before .before .args .image .now)
     (c .before .before .before .before .before .before .before .args .to .0)))
     (c .before .before .before .before .before .before .before .args .t .0)
-finds c =
-    let s = c .before .before .before .before .before .before .before in
-    rw (c .before .lock-at .ensures, c .before .before .block-at .ensures) at (c .hinderer .ensures)
-    ∙ hindering-other (machineFrom (s .args .state .now)) (s .args .t .0) (s .args .own) _ (s .pre .1 .sized .threads) (s .pre .3)
+finds c = rw (c .before .lock-at .ensures, c .before .before .block-at .ensures) at (c .hinderer .ensures)
 
 returns : tie.Need-returns
 unfolding passageTo
@@ -50,6 +47,7 @@ hinderer-requires c κs =
       s .pre .1,
       rw (c .lock-at .ensures, c .before .block-at .ensures)
           (lock-below (s .args .image .now) (s .args .table .now) k (s .args .to .0) (s .pre .2)),
+      s .pre .3,
     )
 
 is-alien-requires : tie.Need-is-alien-requires

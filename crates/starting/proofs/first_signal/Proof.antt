@@ -62,8 +62,8 @@ lock-at-requires c κs = (
       (c .before .before .before .before .before .before .before .before .pre .0),
 )
 
-holder-of-requires : tie.Need-holder-of-requires
-holder-of-requires c κs = (
+other-holder-requires : tie.Need-other-holder-requires
+other-holder-requires c κs = (
   c .before .before .before .before .before .before .before .before .before .pre .0 .canonical,
   first c
       .small,
@@ -73,14 +73,14 @@ returns-2 : tie.Need-returns-2
 returns-2 c =
     let o = c .before .before in
     let s = o .before .before .before .before .before .before .before .before .before .before in
-    first-waits (s .pre .0) (s .args .t .0) (s .pre .1) (first (o .before)) (o .holder-of .result) (o .holder-of .ensures) _
+    first-waits (s .pre .0) (s .args .t .0) (s .pre .1) (first (o .before)) (o .other-holder .result) (o .other-holder .ensures) _
     (omega (arith, c .before .if2 .taken)) (c .thread-of .ensures)
 
 returns-3 : tie.Need-returns-3
 returns-3 c =
     let o = c .before in
     let s = o .before .before .before .before .before .before .before .before .before .before in
-    first-goes (s .pre .0) (s .args .t .0) (s .pre .1) (first (o .before)) (o .holder-of .result) (o .holder-of .ensures)
+    first-goes (s .pre .0) (s .args .t .0) (s .pre .1) (first (o .before)) (o .other-holder .result) (o .other-holder .ensures)
     (omega (arith, c .if2 .left))
 
 pub first-signal-spec : {M : Type 1} → statement M
@@ -93,7 +93,7 @@ first-signal-spec =
     oldest-label-requires
     block-at-requires
     lock-at-requires
-    holder-of-requires
+    other-holder-requires
     (λ c. omega arith)
     (λ c κs. search needs)
     returns-2
