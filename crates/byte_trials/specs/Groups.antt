@@ -73,7 +73,8 @@ pub record Groups : Type 0 where
   -- thread 1 waits as long as the job on thread 0 runs, whichever block of the group it is in; the detail is the lock; block 5, whose
   -- number is the lock's, is free
   pub answers : answersWith rows image 17 all
-      ≡ times 3 (1 ∷ 0 ∷ []) ++ 5 ∷ 0 ∷ 4 ∷ 5 ∷ 5 ∷ 0 ∷ 6 ∷ 0 ∷ 4 ∷ 5 ∷ 6 ∷ 0 ∷ 4 ∷ 5 ∷ 6 ∷ 0 ∷ 4 ∷ 5 ∷ 7 ∷ 0 ∷ 5 ∷ 0 ∷ 6 ∷ 0 ∷ 7 ∷ 0 ∷ 7 ∷ 0 ∷ []
+      ≡ times 3 (1 ∷ 0 ∷ []) ++ 5 ∷ 0 ∷ 4 ∷ 5 ∷ 5 ∷ 0 ∷ 6 ∷ 0 ∷ times 2 (4 ∷ 5 ∷ 6 ∷ 0 ∷ [])
+      ++ 4 ∷ 5 ∷ 7 ∷ 0 ∷ 5 ∷ 0 ∷ 6 ∷ 0 ∷ 7 ∷ 0 ∷ 7 ∷ 0 ∷ []
   -- shared word 0 of block 2 is then 5 × 3, the other bytes as Fresh left them
   pub state : stateWith rows image 17 all ≡ take 64 words ++ 15 ∷ drop 65 (freshWith rows image)
   -- in block 2, with a return label in block 1, the job holds lock 5 and no other: label, lock set and return count of thread 0
@@ -106,7 +107,8 @@ unfolding num16 num32 part isZeros allFrom firstBad blocks pad chunks every labe
     absentZero runningTidy threadTidy signalTidy signalAtTidy signalsTidy heldOk treeTidy threadAtTidy treeAtTidy stateTidy apart
     placeOk threadOk threadsOk pendingOk treeOk homed queuesOk machineOk wellFormed stateLengthFault stateFault eventsLengthFault
     eventFault answersLengthFault wordsLengthFault checkReturn freshReturn freshState runReturn runState runAnswers Option·elim mem?
-    walkOn walk holder awaits walkFrom metBytes metCount threadFault metLengthFault walkFault walkReturn walkMet flatten sortOfCode noteAs notesBy orderBy byteEntries byteOrder
+    walkOn walk holder awaits walkFrom metBytes metCount threadFault metLengthFault walkFault walkReturn walkMet flatten sortOfCode
+    noteAs notesBy orderBy byteEntries byteOrder
 groups = record {
   answers = refl;
   state = refl;

@@ -1,6 +1,6 @@
--- Blocks that one lock guards, in a list of calls. A job that needs one block of the group enters another: its step is answered 6, and its
--- lock set stays as it is, `enters-own-group`. Another thread that wants a block of the group meanwhile: it waits, answered 4 with the lock,
--- and the one-by-one order is the same as if it had not asked, `waits-for-the-group`.
+-- Blocks that one lock guards, in a list of calls. A job that needs one block of the group enters another: its step is answered 6, and
+-- its lock set stays as it is, `enters-own-group`. Another thread that wants a block of the group meanwhile: it waits, answered 4 with the
+-- lock, and the one-by-one order is the same as if it had not asked, `waits-for-the-group`.
 use mathlib.Core.Path.{_≡_, refl, sym, ap, _∙_, subst}
 use mathlib.Core.Logic.{_≢_}
 use mathlib.Core.Option.{some}

@@ -16,7 +16,8 @@ below-power j k x h = go (ltb x (2 ^ k)) refl (and-high x j k ∙ ap (λ y. y * 
     go : (t : Bool) → ltb x (2 ^ k) ≡ t → bitAnd x (2 ^ (j + k) - 2 ^ k) ≡ x / 2 ^ k * 2 ^ k → eqb (bitAnd x (2 ^ (j + k) - 2 ^ k)) 0 ≡ t
     go true l e = eq-eqb _ 0 (e ∙ rw (div-eq-of-lt (ltb-true x (2 ^ k) l), zero-mul))
     go false l e =
-        ne-eqb (bitAnd x (2 ^ (j + k) - 2 ^ k)) 0 (λ z. let m : x % 2 ^ k < 2 ^ k = mod-lt x (pow-pos k) in omega (arith, ltb-false x (2 ^ k) l, split x k))
+        let rest : x % 2 ^ k < 2 ^ k = mod-lt x (pow-pos k) in
+        ne-eqb (bitAnd x (2 ^ (j + k) - 2 ^ k)) 0 (λ z. omega (arith, ltb-false x (2 ^ k) l, split x k))
 
 pub all-bits : (x : ℕ) → x < 256 → eqb (bitAnd x 255) 0 ≡ eqb x 0
 all-bits x h = ap (λ y. eqb y 0) (and-mask x 8 ∙ mod-eq-of-lt h)

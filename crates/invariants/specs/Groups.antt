@@ -52,7 +52,8 @@ module _ (R : Rules) (L : Laws R) (s : Machine) (i : Invariant R s) where
         let answer : m .answer ≡ Moved = moved t (R .block (j .label)) (pendingOf (first t (s .trees))) (j .held) (effectOf R s t j) m
         (rw runs at (wants .planned)) in
         let free : blocked R t (s .threads) (some c) ≡ none =
-        clear-blocked R (s .threads) t (some c) (λ d e k n. let g : c ≡ d = cc in rw (← g) (i .apart t k (R .lock c) (λ f. n (sym f)) own)) in
+        clear-blocked R (s .threads) t (some c) (λ d e k n.
+        let g : c ≡ d = cc in rw (← g) (i .apart t k (R .lock c) (λ f. n (sym f)) own)) in
         rw (wants .planned, wants .block, free, answer) refl
 
     -- AND THE LOCK SET STAYS AS IT IS

@@ -18,6 +18,7 @@ use Rattle.rules.specs.Image.{labels, recordAt, labelA, labelB, operands, Row, 
 use Rattle.rules.specs.Statements.{statementOf, dataOf}
 use Rattle.rules.specs.Effects.{readAll}
 use Rattle.rules.specs.Machine.{Signal, Job, Machine, idle, running, threadAt, locksOf, first, fill, job}
+use Rattle.rules.specs.Machine as law
 use Rattle.rules.specs.Encoding.{machineFrom}
 use Rattle.rules.specs.Events.{step}
 use Rattle.rules.specs.Steps.{Reply, rulesBy, blockAt, alien, held, finished, react}
@@ -31,12 +32,12 @@ use Rattle.step_laws.specs.Events.{reply}
 use Rattle.step_laws.specs.Statements.{unread, send-alien, send-waits, send-enters, call-deep, call-alien, call-waits, call-enters}
 use Rattle.threads.specs.Threads.{returnsOf, ZerosAfter, withJob}
 use Rattle.threads.specs.declared.thread.ThreadState.{ThreadState}
-use Rattle.state.specs.Locks.{held-by-other}
+use Rattle.state.specs.Locks.{Alone, held-by-other}
 use Rattle.operands.specs.Readings.{Reads}
 use Rattle.operands.specs.Cells.{cellsOf}
 use Rattle.operands.specs.Gathered.{zeros-stay}
 use Rattle.step_ready.specs.At.{At, tree, label-A, depth-is, jobAt}
-use Rattle.passage.specs.Passages.{Alone, callTrap, otherHolder, byLock, passageTo, go-clear, call-clear}
+use Rattle.passage.specs.Passages.{callTrap, otherHolder, byLock, passageTo, go-clear, call-clear}
 use Rattle.passage.specs.declared.Passage.{Passage}
 use Rattle.passage.specs.declared.Passage.the-variants.{Trap, Wait, Go}
 
@@ -144,14 +145,10 @@ module _ {image table b : List ℕ} {t : ℕ} {w : ThreadState} {r : List ℕ} (
   lock-inside : (q : List ℕ) → labelA q < labels image → rowAt table (blockAt image (labelA q)) .lock < lockCount
   lock-inside q l = lock-below image table (passed image table [] (h .ready .checked) .0) (labelA q) l
 
-  -- the locks that the thread holds are its own
+  -- no other thread holds one of its locks
   pub alone : Alone (machineFrom b) t (w .locks)
-  alone =
-      let own : locksOf (threadAt (machineFrom b) t) ≡ w .locks = ap locksOf (h .runs) in
-      record {
-        locks = own;
-        others = λ u l n e. h .ready .sound .invariant .apart t u l (λ q. n (sym q)) (ap (has l) own ∙ e);
-      }
+  alone u l n e =
+      h .ready .sound .invariant .apart t u l (λ q. n (sym q)) (ap (λ (x : law.ThreadState). has l (locksOf x)) (h .runs) ∙ e)
 
   eight : length (machineFrom b .threads) ≡ threadCount
   eight = h .ready .canonical .sized .threads

@@ -1,26 +1,19 @@
 -- What a direct SEND or a CALL comes to: a trap, then its lock.
-use mathlib.Core.Path.{_≡_, refl, sym, _∙_}
-use mathlib.Core.Logic.{_≢_}
+use mathlib.Core.Path.{_≡_, refl}
 use mathlib.Core.Bool.{Bool, true, false, cond}
 use Prim.Native.Nat.{ℕ, _<_}
-use native.Mathlib.Decide.{ℕ-discrete}
 use lib.Dec.{eqb, leb, ltb}
-use lib.ListN.{length, getD, set, length-set}
-use lib.Seq.{getD-set-other}
+use lib.ListN.{set}
 use borrow.Author.Tests.{eqb-true, leb-false}
 use Rattle.rules.specs.Sorts.{lock, thread}
 use Rattle.rules.specs.Sizes.{threadCount, returnCount}
 use Rattle.rules.specs.Codes.{returnsFullCode, foreignFdBlockCode}
 use Rattle.rules.specs.Image.{Row}
-use Rattle.rules.specs.Bytes.{has}
-use Rattle.rules.specs.Machine.{Machine, idle, threadAt, locksOf}
+use Rattle.rules.specs.Machine.{Machine, idle}
 use Rattle.rules.specs.Steps.{alien}
 use Rattle.rules.specs.Walk.{holder}
 use Rattle.rules.specs.declared.sorts.Lock.{Lock}
 use Rattle.laws.specs.Logic.{never}
-use Rattle.laws.specs.Sets.{has-none}
-use Rattle.laws.specs.Locks.{getD-set-idle, held-of}
-use Rattle.state.specs.Locks.{holder-none}
 use Rattle.passage.specs.declared.Passage.{Passage}
 use Rattle.passage.specs.declared.Passage.the-variants.{Trap, Wait, Go}
 
@@ -31,23 +24,6 @@ callTrap unread depth = cond (eqb unread 0) (cond (leb returnCount depth) return
 -- the other thread that holds the lock of a row, by its number
 abbrev pub otherHolder : Machine → Row → ℕ → ℕ
 otherHolder s row t = holder (row .lock) (set (s .threads) t idle)
-
--- thread t holds these locks, and no other thread holds one of them
-pub record Alone (s : Machine) (t own : ℕ) : Type 0 where
-  pub locks : locksOf (threadAt s t) ≡ own
-  pub others : (u l : ℕ) → u ≢ t → has l own ≡ true → has l (locksOf (threadAt s u)) ≡ false
-
--- so the search for another holder of one of them finds nobody
-pub nobody-else : (s : Machine) (t own l : ℕ) → length (s .threads) ≡ threadCount → Alone s t own → has l own ≡ true
-    → threadCount ≡ holder l (set (s .threads) t idle)
-nobody-else s t own l size a h =
-    sym (holder-none l (set (s .threads) t idle) (held-of l (set (s .threads) t idle) (λ u. other u (ℕ-discrete u t)))
-    ∙ length-set (s .threads) t idle
-    ∙ size)
-  where
-    other : (u : ℕ) → Dec (u ≡ t) → has l (locksOf (getD (set (s .threads) t idle) u idle)) ≡ false
-    other u (yes e) = rw (e, getD-set-idle (s .threads) t) (has-none l)
-    other u (no n) = rw (getD-set-other (s .threads) t u idle idle n) (a .others u l n h)
 
 -- by whether another thread, u, holds the lock
 abbrev pub byLock : Bool → Lock → ℕ → Passage

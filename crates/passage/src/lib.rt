@@ -4,7 +4,6 @@ use block_table::lock_at;
 use block_table::thread_at;
 use image::record_fields::label_a;
 use image::records::block_at;
-use lock_sets::held::holds;
 use operands::read_data;
 use rules::codes::FD;
 use rules::codes::FOREIGN_FD_BLOCK;
@@ -20,20 +19,19 @@ use threads::thread::ThreadState;
 ghost use mathlib.Core.Path.{_≡_};
 ghost use mathlib.Core.List.{[], _∷_, _++_};
 ghost use Prim.Native.Nat.{_<_};
-ghost use lib.ListN.{length, set, replicate};
-ghost use Rattle.rules.specs.Sizes.{blockCount, lockCount, registerCount, tableSize};
+ghost use lib.ListN.{length, replicate};
+ghost use Rattle.rules.specs.Sizes.{blockCount, registerCount, tableSize};
 ghost use Rattle.rules.specs.Image.{labels, labelB, rowAt};
 ghost use Rattle.rules.specs.Statements.{statementOf};
 ghost use Rattle.rules.specs.declared.statement.Statement.the-variants.{SendDirect, Call};
 ghost use Rattle.rules.specs.Check.{Checked};
-ghost use Rattle.rules.specs.Machine.{idle};
 ghost use Rattle.rules.specs.Encoding.{machineFrom};
 ghost use Rattle.rules.specs.Steps.{alien, blockAt};
-ghost use Rattle.rules.specs.Walk.{holder};
 ghost use Rattle.encoding.specs.Encoded.{Canonical};
 ghost use Rattle.threads.specs.Threads.{returnsOf};
+ghost use Rattle.state.specs.Locks.{Alone};
 ghost use Rattle.step_ready.specs.At.{At};
-ghost use Rattle.passage.specs.Passages.{Alone, passageTo, callTrap};
+ghost use Rattle.passage.specs.Passages.{passageTo, callTrap};
 ghost use Rattle.passage.specs.Enters.{Enters};
 
 // A trap with its reason, a lock with the other thread that holds it, or a lock that the step takes.
@@ -64,20 +62,8 @@ fn is_alien(table: &[u8], t: Thread, block: Block) -> bool
     (kind_at(table, block) == FD) & !same_thread(thread_at(table, block), t)
 }
 
-// The other thread that holds a lock, by its number, for thread t, which has the locks `own`; the number of threads where there is none.
-// A lock that the thread has itself, through whatever block of a group, no other has, and nobody is asked.
-fn hinderer(state: &[u8], lock: Lock, t: Thread, own: u16) -> usize
-    requires { ⌜ Canonical (now state) × (lock .0 < lockCount) × Alone (machineFrom (now state)) (t .0) own ⌝ }
-    ensures { λ r. ⌜ r ≡ holder (lock .0) (set (machineFrom (now (state .entry)) .threads) (t .0) idle) ⌝ }
-{
-    if holds(own, lock) {
-        return Thread::COUNT;
-    }
-    other_holder(state, lock, t)
-}
-
-// The passage of thread t, which holds these locks, into the block of a label, where no earlier test made a trap (0): an FD block of another thread is a trap
-// whoever holds its lock.
+// The passage of thread t, which holds the locks `own`, into the block of a label, where no earlier test made a trap (0): an FD block of
+// another thread is a trap whoever holds its lock.
 fn passage_to(
     image: &[u8],
     table: &[u8],
@@ -97,7 +83,7 @@ fn passage_to(
     }
     let block = block_at(image, to);
     let lock = lock_at(table, block);
-    let holder = hinderer(state, lock, t, own);
+    let holder = other_holder(state, lock, t, own);
     if is_alien(table, t, block) {
         return Passage::Trap(FOREIGN_FD_BLOCK);
     }

@@ -1,5 +1,6 @@
 -- The search for the thread that holds a lock: what is read of each thread is its lock set.
 use mathlib.Core.Path.{_≡_, refl, sym, ap, _∙_}
+use mathlib.Core.Logic.{_≢_}
 use mathlib.Core.Bool.{Bool, true, false, cond, not, _||_, true≢false}
 use mathlib.Core.List.{List, [], _∷_, _++_}
 use Prim.Native.Nat.{ℕ, suc, _+_, _<_}
@@ -19,6 +20,7 @@ use Rattle.rules.specs.Walk.{holder}
 use Rattle.encoding.specs.Numbers.{num16-le16}
 use Rattle.encoding.specs.Layout.{thread-on}
 use Rattle.laws.specs.Sets.{has-none}
+use Rattle.laws.specs.Locks.{getD-set-idle, held-of}
 use Rattle.threads.specs.Records.{threadPlace}
 use Rattle.encoding.specs.Encoded.{Encodes}
 use Rattle.rules.specs.declared.sorts.Thread as sorts
@@ -90,12 +92,33 @@ module _ (s : Machine) (sized : length (s .threads) ≡ threadCount) (l t : ℕ)
   pub held-by-other : held l others ≡ ltb (holder l others) threadCount
   held-by-other = held-is l others ∙ ap (ltb (holder l others)) (length-set (s .threads) t idle ∙ sized)
 
+-- no thread but t holds one of these locks
+abbrev pub Alone : Machine → ℕ → ℕ → Type 0
+Alone s t own = (u l : ℕ) → u ≢ t → has l own ≡ true → has l (locksOf (threadAt s u)) ≡ false
+
+-- an idle thread has none
+pub none-own : (s : Machine) (t : ℕ) → Alone s t 0
+none-own s t u l n h = absurd (true≢false (sym h ∙ has-none l))
+
 -- where nobody holds a lock the search goes through all threads
-pub holder-none : (l : ℕ) (ws : List ThreadState) → held l ws ≡ false → holder l ws ≡ length ws
+holder-none : (l : ℕ) (ws : List ThreadState) → held l ws ≡ false → holder l ws ≡ length ws
 unfolding held holder
 holder-none l [] h = refl
 holder-none l (w ∷ ws) h = go (has l (locksOf w)) h (holder-none l ws)
   where
-    go : (b : Bool) → b || held l ws ≡ false → (held l ws ≡ false → holder l ws ≡ length ws) → cond b 0 (suc (holder l ws)) ≡ suc (length ws)
+    go : (b : Bool) → b || held l ws ≡ false → (held l ws ≡ false → holder l ws ≡ length ws)
+        → cond b 0 (suc (holder l ws)) ≡ suc (length ws)
     go true h f = absurd (true≢false h)
     go false h f = ap suc (f h)
+
+-- of a lock that thread t has itself the search would find no other holder
+pub nobody-else : (s : Machine) (t own l : ℕ) → length (s .threads) ≡ threadCount → Alone s t own → has l own ≡ true
+    → threadCount ≡ holder l (set (s .threads) t idle)
+nobody-else s t own l size alone h =
+    sym (holder-none l (set (s .threads) t idle) (held-of l (set (s .threads) t idle) (λ u. other u (ℕ-discrete u t)))
+    ∙ length-set (s .threads) t idle
+    ∙ size)
+  where
+    other : (u : ℕ) → Dec (u ≡ t) → has l (locksOf (getD (set (s .threads) t idle) u idle)) ≡ false
+    other u (yes e) = rw (e, getD-set-idle (s .threads) t) (has-none l)
+    other u (no n) = rw (getD-set-other (s .threads) t u idle idle n) (alone u l n h)

@@ -11,8 +11,8 @@ use crate::text::after;
 use crate::text::begins;
 use crate::text::next;
 
-// The bytes that a file may have: the longest has 92,438.
-const TEXT: usize = 98304;
+// The bytes that a file may have: the longest has 131,823.
+const TEXT: usize = 163840;
 
 // Whether the line is a trial of `call`, and no comment.
 fn is_of(line: &[u8], call: &[u8]) -> bool {

@@ -25,13 +25,13 @@ block c =
     (rw (c .block-at .ensures) (block-below (s .args .image .now) (s .args .table .now) k (s .args .to .0) (s .pre .2)), k .wholeTable)
 
 -- who else holds the lock of its row
-finds : (c : tie.After-hinderer)
-    → c .hinderer .result ≡ otherHolder (machineFrom (c .before .before .before .before .before .before .before .args .state .now))
+finds : (c : tie.After-other-holder)
+    → c .other-holder .result ≡ otherHolder (machineFrom (c .before .before .before .before .before .before .before .args .state .now))
     (rowAt (c .before .before .before .before .before .before .before .args .table .now)
     (blockAt (c .before .before .before .before .before .before .before .args .image .now)
     (c .before .before .before .before .before .before .before .args .to .0)))
     (c .before .before .before .before .before .before .before .args .t .0)
-finds c = rw (c .before .lock-at .ensures, c .before .before .block-at .ensures) at (c .hinderer .ensures)
+finds c = rw (c .before .lock-at .ensures, c .before .before .block-at .ensures) at (c .other-holder .ensures)
 
 returns : tie.Need-returns
 unfolding passageTo
@@ -40,8 +40,8 @@ returns c = rw (ne-eqb (c .before .before .before .before .args .earlier) 0 (c .
 lock-at-requires : tie.Need-lock-at-requires
 lock-at-requires c κs = block c
 
-hinderer-requires : tie.Need-hinderer-requires
-hinderer-requires c κs =
+other-holder-requires : tie.Need-other-holder-requires
+other-holder-requires c κs =
     let s = c .before .before .before .before .before .before in
     let k = passed (s .args .image .now) (s .args .table .now) [] (s .pre .0) .0 in (
       s .pre .1,
@@ -100,7 +100,7 @@ passage-to-spec =
     returns
     (λ c κs. search needs)
     lock-at-requires
-    hinderer-requires
+    other-holder-requires
     is-alien-requires
     returns-2
     (λ c. omega arith)
