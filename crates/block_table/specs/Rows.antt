@@ -1,5 +1,5 @@
 -- The rows of the block table, eight at a time: the bits that no field may have, tested in words of eight bytes.
-use mathlib.Core.Path.{_≡_, sym, ap, _∙_}
+use mathlib.Core.Path.{_≡_, refl, sym, ap, ap₂, _∙_}
 use mathlib.Core.Bool.{Bool, _&&_, and-true, and-assoc}
 use mathlib.Core.List.{List, [], _∷_}
 use Prim.Native.Nat.{ℕ, zero, suc, _+_, _*_, _-_, _%_, _<_, _≤_}
@@ -14,7 +14,7 @@ use Rattle.rules.specs.Check.{rowOk}
 use Rattle.fields.specs.Bits.{below-power}
 use Rattle.fields.specs.Marked.{clear, two, four, eight, eight-of, eight-clear}
 use Rattle.fields.specs.Numbers.{num64}
-use Rattle.fields.specs.Runs.{all-same, all-split, all-threes}
+use Rattle.fields.specs.Runs.{exchange, all-same, all-split, all-threes}
 use Rattle.fields.specs.Tests.{or-none}
 use Rattle.image.specs.Records.{getD-any}
 
@@ -78,20 +78,27 @@ module _ (table : List ℕ) (size : length table ≡ tableSize) (bytes : (i : �
       (eight-clear (λ j. getD table j 0) mark bytes mark-short (rowSize * b + i))
 
   -- eight rows are three words
-  pub eight-rows : (b x y z : ℕ) → b + 8 ≤ blockCount → x ≡ num64 (drop (rowSize * b) table)
-      → y ≡ num64 (drop (rowSize * b + 8) table)
+  eight-rows : (b x y z : ℕ) → b + 8 ≤ blockCount → x ≡ num64 (drop (rowSize * b + 0) table) → y ≡ num64 (drop (rowSize * b + 8) table)
       → z ≡ num64 (drop (rowSize * b + 16) table)
-      → eqb (bitOr (bitOr (bitAnd x (eight mark 0)) (bitAnd y (eight mark 8))) (bitAnd z (eight mark 16))) 0 ≡ allFrom (rowOk table) b 8
+      → (clear x (eight mark 0) && clear y (eight mark 8) && clear z (eight mark 16)) ≡ allFrom (rowOk table) b 8
   eight-rows b x y z h e f g =
-      rw (
-        or-none (bitOr (bitAnd x (eight mark 0)) (bitAnd y (eight mark 8))) (bitAnd z (eight mark 16)),
-        or-none (bitAnd x (eight mark 0)) (bitAnd y (eight mark 8)),
-        word-clear b 0 x (rw add-zero e),
-        word-clear b 8 y f,
-        word-clear b 16 z g,
-        add-zero (rowSize * b),
-      )
+      rw (word-clear b 0 x e, word-clear b 8 y f, word-clear b 16 z g, add-zero (rowSize * b))
       (sym (ap (λ w. w && allFrom byteOk (rowSize * b + 16) 8) (all-split byteOk (rowSize * b) 8 8))
       ∙ sym (all-split byteOk (rowSize * b) 16 8)
       ∙ all-threes byteOk b 8
       ∙ all-same _ (rowOk table) b 8 (λ k p q. row-bytes k (omega arith)))
+
+  -- word i of each eight rows has none of its marks
+  abbrev wordsClear : ℕ → Bool
+  wordsClear i = clear (num64 (drop i table)) (eight mark i) && clear (num64 (drop (8 * rowSize + i) table)) (eight mark i)
+
+  -- all rows are three words of the first eight and three of the last eight
+  pub all-rows : (x y z : ℕ) → eqb x 0 ≡ wordsClear 0 → eqb y 0 ≡ wordsClear 8 → eqb z 0 ≡ wordsClear 16
+      → eqb (bitOr (bitOr x y) z) 0 ≡ allFrom (rowOk table) 0 blockCount
+  all-rows x y z e f g =
+      let c : ℕ → Bool = λ i. clear (num64 (drop i table)) (eight mark i) in
+      let d : ℕ → Bool = λ i. clear (num64 (drop (8 * rowSize + i) table)) (eight mark i) in
+      or-none (bitOr x y) z
+      ∙ rw (or-none x y, e, f, g, exchange (c 0) (d 0) (c 8) (d 8), exchange (c 0 && c 8) (d 0 && d 8) (c 16) (d 16))
+      (ap₂ _&&_ (eight-rows 0 _ _ _ (omega arith) refl refl refl) (eight-rows 8 _ _ _ (omega arith) refl refl refl)
+      ∙ sym (all-split (rowOk table) 0 8 8))

@@ -13,14 +13,17 @@ use rules::sorts::block_of;
 use rules::sorts::lock_of;
 use rules::sorts::thread_of;
 ghost use mathlib.Core.Path.{_≡_};
+ghost use mathlib.Core.Bool.{_&&_};
 ghost use Prim.Native.Nat.{_+_, _*_, _<_, _≤_};
 ghost use lib.Dec.{eqb, ltb};
-ghost use lib.ListN.{length, getD};
+ghost use lib.ListN.{length, getD, drop};
 ghost use Rattle.rules.specs.Sizes.{blockCount, rowSize, tableSize};
 ghost use Rattle.rules.specs.Sorts.{thread, lock};
 ghost use Rattle.rules.specs.Bytes.{allFrom, firstBad};
 ghost use Rattle.rules.specs.Image.{rowAt};
 ghost use Rattle.rules.specs.Check.{rowOk};
+ghost use Rattle.fields.specs.Marked.{clear};
+ghost use Rattle.fields.specs.Numbers.{num64};
 
 // The field at a place of a block's row.
 pub fn field_at(table: &[u8], b: Block, place: usize) -> u8
@@ -89,15 +92,15 @@ const SECOND_MARKS: u64 = ROW_MARKS / 65536
 
 const THIRD_MARKS: u64 = ROW_MARKS / 256 + 65536 * ROW_MARKS + 1099511627776 * ROW_MARKS;
 
-// The marked bits that eight rows from block b on have.
-pub fn marked_bits(table: &[u8], b: usize) -> u64
-    requires { ⌜ (b + 8 ≤ blockCount) × (length (now table) ≡ tableSize) ⌝ }
-    ensures { λ r. ⌜ eqb r 0 ≡ allFrom (rowOk (now (table .entry))) b 8 ⌝ }
+const EIGHT_ROWS: usize = 8 * ROW_SIZE;
+
+// The marked bits of a word of the first eight rows, and of the word at the same place of the last eight.
+fn marked_bits(table: &[u8], at: usize, marks: u64) -> u64
+    requires { ⌜ (at + 8 ≤ 8 * rowSize) × (length (now table) ≡ tableSize) ⌝ }
+    ensures { λ r. ⌜ eqb r 0 ≡ (clear (num64 (drop at (now (table .entry)))) marks
+        && clear (num64 (drop (8 * rowSize + at) (now (table .entry)))) marks) ⌝ }
 {
-    let at = ROW_SIZE * b;
-    (get64(table, at) & FIRST_MARKS)
-        | (get64(table, at + 8) & SECOND_MARKS)
-        | (get64(table, at + 16) & THIRD_MARKS)
+    (get64(table, at) & marks) | (get64(table, EIGHT_ROWS + at) & marks)
 }
 
 // Every row is in range.
@@ -105,7 +108,8 @@ pub fn rows_ok(table: &[u8]) -> bool
     requires { ⌜ length (now table) ≡ tableSize ⌝ }
     ensures { λ r. ⌜ r ≡ allFrom (rowOk (now (table .entry))) 0 blockCount ⌝ }
 {
-    marked_bits(table, 0) | marked_bits(table, 8) == 0
+    let wrong = marked_bits(table, 0, FIRST_MARKS) | marked_bits(table, 8, SECOND_MARKS);
+    wrong | marked_bits(table, 16, THIRD_MARKS) == 0
 }
 
 // The first block whose row is out of range, or 16.
