@@ -34,10 +34,12 @@ struct list {
     uint32_t numbers[EVENTS], count;
 };
 
+/* Block 9 gets the lock that block 4 leaves, so that the group's lock guards no other block. */
 static void make_machine(void)
 {
     put_statements(image, program, RECORDS);
     put_lone_rows(table);
+    put_row(table, GROUP_LOCK, 0, PLEX_FD, COUNTER);
     put_row(table, COUNTER, 0, PLEX_CMX, GROUP_LOCK);
     put_row(table, ASKER, 1, PLEX_CMX, ASKER);
     put_row(table, DISPLAY, 0, PLEX_CMX, GROUP_LOCK);

@@ -50,7 +50,7 @@ extern "C" {
 /* ---- Limits. */
 #define PLEX_THREADS 8       /* threads of a machine */
 #define PLEX_BLOCKS 16       /* blocks of a machine */
-#define PLEX_LOCKS 16        /* locks of a machine; a lock guards the blocks that name it */
+#define PLEX_LOCKS 16        /* locks of a machine; a lock guards every block whose record has it */
 #define PLEX_BLOCK_WORDS 16  /* shared words of a block */
 #define PLEX_REGISTERS 25    /* registers of a thread; also data of a signal */
 #define PLEX_RETURNS_MAX 8   /* return labels of a thread */

@@ -40,7 +40,7 @@ static const struct {
     {{PLEX_NO_WORK, 0}, "no work"},
     {{PLEX_WAITING, 9}, "waiting for lock 9 of blocks 1 2 15"},
     {{PLEX_WAITING, 2}, "waiting for lock 2 of block 0"},
-    {{PLEX_WAITING, 0}, "waiting for lock 0 of no block"},
+    {{PLEX_WAITING, 0}, "waiting for lock 0 of no block of the image"},
     {{PLEX_WAITING, PLEX_LOCKS}, "waiting for lock 16"},
     {{PLEX_STARTED, 0}, "started"},
     {{PLEX_MOVED_ON, 0}, "moved on"},
@@ -100,7 +100,8 @@ static void try_threads(void)
     expect(&too_many, "at label 3, locks 0 2, return labels none, held labels 7 511 0 0");
 }
 
-/* Two blocks with one lock; a third whose lock is none, as is the block of a record; and no groups. */
+/* Two blocks of the image with one lock, which block 7 has too; a block with lock 16, a record with
+ * block 16, and no groups. */
 static void try_groups(void)
 {
     uint8_t image[4 * PLEX_RECORD_SIZE] = {0}, table[PLEX_TABLE_SIZE];
@@ -116,7 +117,7 @@ static void try_groups(void)
     add_lock(&shared, 7, &found);
     expect(&shared, "lock 7 of blocks 3 12");
     add_lock(&alone, 5, &found);
-    expect(&alone, "lock 5 of no block");
+    expect(&alone, "lock 5 of no block of the image");
     add_lock(&unknown, 7, NULL);
     expect(&unknown, "lock 7");
 }

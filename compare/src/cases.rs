@@ -1,10 +1,10 @@
 //! What is compared for a seed.
 
 use crate::both::{both, Call};
-use crate::groups::{locks_of_two, only_locks_changed};
+use crate::groups::locks_of_two;
 use crate::seen::Seen;
 use crate::sizes::{ANSWER, BLOCKS, EVENT, LOCKS, RECORD, ROW, THREADS};
-use second::generate::{damage, events, lent, only_held_changed, Lent, Random};
+use second::generate::{damage, events, lent, only_held_changed, only_locks_changed, Lent, Random};
 use second::second_order;
 
 /// Events of one Run.

@@ -1,9 +1,8 @@
 //! Blocks that share a lock, in the bytes of images, tables and states.
 
 use crate::sizes::{
-    BLOCK, LABEL, LOCK, LOCK_SET, RECORD, RETURNS, RETURN_LABELS, ROW, THREAD, THREADS, WORDS,
+    BLOCK, LABEL, LOCK, RECORD, RETURNS, RETURN_LABELS, ROW, THREAD, THREADS, WORDS,
 };
-use second::generate::Lent;
 use std::collections::BTreeSet;
 
 /// For each thread that is in two blocks of one group, its label's and a return
@@ -41,20 +40,4 @@ pub fn share_lock(table: &[u8], one: &[u8], other: &[u8]) -> bool {
         image.chunks(RECORD).map(|record| lock(table, record[BLOCK])).collect()
     };
     !locks(one).is_disjoint(&locks(other))
-}
-
-/// Whether the states differ, and in lock sets only, with one image and table.
-pub fn only_locks_changed(one: &Lent, other: &Lent) -> bool {
-    (&one.image, &one.table) == (&other.image, &other.table)
-        && one.state.len() == other.state.len()
-        && one.state != other.state
-        && without_locks(&one.state) == without_locks(&other.state)
-}
-
-/// The state with every lock set empty.
-fn without_locks(state: &[u8]) -> Vec<u8> {
-    let mut state = state.to_vec();
-    let threads = state[WORDS..].chunks_mut(THREAD).take(THREADS);
-    threads.for_each(|thread| thread[LOCK_SET..RETURNS].fill(0));
-    state
 }

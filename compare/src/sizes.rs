@@ -14,10 +14,9 @@ pub const LOCKS: usize = 16;
 pub const WORDS: usize = 512;
 pub const THREAD: usize = 288;
 pub const THREADS: usize = 8;
-/// Where in a thread record the label is, the lock set, the count of return
-/// labels, and then they.
+/// Where in a thread record the label is, the count of return labels, and then
+/// they are.
 pub const LABEL: usize = 0;
-pub const LOCK_SET: usize = 2;
 pub const RETURNS: usize = 4;
 pub const RETURN_LABELS: usize = 5;
 /// Where in a thread record the count of held signals is, and then they are.

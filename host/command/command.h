@@ -80,7 +80,7 @@ void free_lent(struct lent *lent);
 /* How many whole records the image has. */
 uint32_t records_of(const struct file *image);
 
-/* The groups of the image and the table, which has its length. */
+/* The groups of the image and the table; none if the table does not have its length. */
 struct groups groups_of(const struct lent *lent);
 
 /* Whether the file is as long as a state; a sentence if not. */

@@ -54,7 +54,8 @@ enum { PARTS = sizeof parts / sizeof parts[0] };
 
 static const char common[] =
     "The file - is standard input. --out=FILE is --out FILE, and so for each option; after -- come\n"
-    "files alone. --quiet prints nothing but what goes wrong.\n"
+    "files alone. --quiet prints nothing but what goes wrong. Of the blocks that a lock guards, those\n"
+    "are named that the image has records in.\n"
     "\n"
     "An image is 84 bytes a record, 1 to 512 records; a block table 48 bytes; initial words 512\n"
     "bytes; a state 9,633 bytes; an event 55 bytes; an answer 2 bytes.\n";

@@ -88,7 +88,8 @@ uint32_t records_of(const struct file *image)
 
 struct groups groups_of(const struct lent *lent)
 {
-    return find_groups(lent->image.bytes, records_of(&lent->image), lent->table.bytes);
+    uint32_t records = lent->table.size == PLEX_TABLE_SIZE ? records_of(&lent->image) : 0;
+    return find_groups(lent->image.bytes, records, lent->table.bytes);
 }
 
 static void report_record(const struct lent *lent, uint32_t label)

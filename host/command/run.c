@@ -76,6 +76,7 @@ static bool carry_out(struct run *run, size_t first, size_t count, uint8_t *answ
 static bool trace(struct run *run, size_t count, uint8_t *answers)
 {
     uint8_t before[PLEX_STATE_SIZE];
+    struct groups groups = groups_of(&run->lent);
     for (size_t i = 0; i < count; i++) {
         uint8_t *answer = answers + PLEX_ANSWER_SIZE * i;
         memcpy(before, run->lent.state.bytes, sizeof before);
@@ -83,7 +84,6 @@ static bool trace(struct run *run, size_t count, uint8_t *answers)
             return false;
         struct traced traced = {run->tally.events - 1, run->lent.events.bytes + PLEX_EVENT_SIZE * i, answer, before,
                                 run->lent.state.bytes};
-        struct groups groups = groups_of(&run->lent);
         print_traced(&traced, run->lent.image.bytes, &groups);
     }
     return true;

@@ -130,10 +130,9 @@ static bool show_state(const struct lent *lent, bool has_image)
 {
     if (!has_image && !is_state_long(&lent->state))
         return false;
-    bool has_table = lent->table.size == PLEX_TABLE_SIZE;
-    struct groups groups = has_table ? groups_of(lent) : (struct groups){{0}};
+    struct groups groups = groups_of(lent);
     if (lent->state.size == PLEX_STATE_SIZE)
-        print_state(lent->state.bytes, has_table ? &groups : NULL);
+        print_state(lent->state.bytes, lent->table.size == PLEX_TABLE_SIZE ? &groups : NULL);
     return !has_image || is_well_formed(lent);
 }
 

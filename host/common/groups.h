@@ -1,4 +1,4 @@
-/* Which lock guards which blocks. */
+/* Which lock guards which blocks of an image. */
 #ifndef GROUPS_H
 #define GROUPS_H
 

@@ -156,7 +156,7 @@ static void add_numbers(struct line *line, uint32_t bits)
 
 void add_blocks(struct line *line, uint32_t blocks)
 {
-    add(line, blocks == 0 ? "no block" : count_bits(blocks) == 1 ? "block" : "blocks");
+    add(line, blocks == 0 ? "no block of the image" : count_bits(blocks) == 1 ? "block" : "blocks");
     add_numbers(line, blocks);
 }
 

@@ -22,7 +22,7 @@ void add_record(struct line *line, const uint8_t *image, uint32_t label);
 /* As "arrival at 0 WITH 25" or "step of thread 3". */
 void add_event(struct line *line, const uint8_t *event);
 
-/* As "block 4", "blocks 0 4" or "no block"; bit b is block b. */
+/* As "block 4", "blocks 0 4" or "no block of the image"; bit b is block b. */
 void add_blocks(struct line *line, uint32_t blocks);
 
 /* As "lock 9 of blocks 1 2"; where the groups are not known, and NULL, as "lock 9". */

@@ -97,6 +97,8 @@ void make_case(struct field_case *made)
     put_statements(made->image, program, CASE_RECORDS);
     put_statements(made->east_image, east_program, EAST_RECORDS);
     put_lone_rows(made->table);
+    /* Block 9 gets the lock that the family leaves, so that the family's lock guards no other block. */
+    put_row(made->table, FAMILY_LOCK, 0, PLEX_FD, NORTH_CHARGING);
     for (uint32_t block = 0; block < CASE_BLOCKS; block++) {
         put_row(made->table, block, blocks[block].thread, PLEX_CMX, blocks[block].lock);
         put16(made->words + 2 * PLEX_BLOCK_WORDS * block, blocks[block].first_word);

@@ -5,6 +5,7 @@ use crate::image::Program;
 use crate::registers::Registers;
 use crate::sorts::{Label, Lock};
 use crate::tree::Signal;
+use std::ops::Range;
 
 #[derive(Clone, Copy, Debug, PartialEq, Eq)]
 pub struct LockSet(u16);
@@ -42,6 +43,8 @@ pub struct Job {
 impl Job {
     /// Bytes of a thread record.
     pub const WIDTH: usize = 288;
+    /// Where in a thread record the lock set stands.
+    pub const LOCKS: Range<usize> = 2..4;
     /// Return labels of one thread.
     pub const RETURNS: usize = 8;
     /// Held signals of one thread.

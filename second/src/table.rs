@@ -23,6 +23,8 @@ pub struct Table {
 impl Table {
     /// Bytes of one block's row.
     pub const ROW_WIDTH: usize = 3;
+    /// Where in a row the lock stands.
+    pub const LOCK_PLACE: usize = 2;
     pub const LENGTH: usize = Table::ROW_WIDTH * Block::COUNT;
 
     pub fn decode(bytes: &[u8]) -> Result<Table, Refusal> {

@@ -2,6 +2,7 @@
 tried 'good image' 0 'accepted: good/case.image, 13 records in 5 blocks' check "$image" "$table"
 tried 'a group' 0 '^lock 9 guards blocks 1 2$' check "$image" "$table"
 holds 'one group' [ "$(wc -l <said)" = 2 ]
+holds 'no other block with its lock' [ "$(od -An -v -tu1 -w3 "$table" | grep -c ' 9$')" = 2 ]
 tried 'no group' 0 'accepted' check "$image" lone-table
 holds 'no group: a line more' [ "$(wc -l <said)" = 1 ]
 head -c 48 /dev/zero >one-group

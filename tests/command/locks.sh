@@ -8,6 +8,8 @@ former run "$image" former-table "$words" "$events"
 former link "$image" "$east" former-table --out kept
 former state "$image" former-table waiting
 former waits "$image" former-table waiting
+tried 'a table of format 2, with a trace' 1 'former-table: 32 bytes; a block table is 48' \
+    run "$image" former-table "$events" --state waiting
 same 'a table of format 2: the file of --out' kept old
 
 # ---- widened, it is the same machine as before: a wait names the lock that has the block's number
@@ -35,7 +37,8 @@ tried 'a return label without its lock' 1 'thread 0 has label 1 without lock 0 o
 byte waiting 803 2 bad
 tried 'a lock of two threads' 1 'threads 0 and 1 both hold lock 9$' state "$image" "$table" bad
 byte waiting 515 202 bad
-tried 'a lock that no block has' 0 '^  lock 15 of no block is held by thread 0$' state "$image" "$table" bad
+tried 'a lock of no block of the image' 0 '^  lock 15 of no block of the image is held by thread 0$' \
+    state "$image" "$table" bad
 
 # ---- the audit calls the tariffs while North's job is in its charging: with one lock it waits, and the job
 # goes on into the tariffs; with two it is let in, and North's job has to wait half way

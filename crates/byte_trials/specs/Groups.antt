@@ -7,8 +7,7 @@ use mathlib.Core.List.{List, [], _∷_, _++_, map, flatten}
 use Prim.Native.Nat.{ℕ, _+_}
 use native.Mathlib.Decide.{ℕ-discrete}
 use lib.ListN.{replicate, take, drop}
-use Rattle.rules.specs.Sizes.{threadsPlace, presencePlace, heldCountPlace, treeSize}
-use Rattle.rules.specs.Sizes.{treeCountPlace, treesPlace}
+use Rattle.rules.specs.Sizes.{threadsPlace}
 use Rattle.rules.specs.Bytes.{num16, num32, part, isZeros, allFrom, firstBad, blocks, pad, chunks, every}
 use Rattle.rules.specs.Image.{labels, recordAt, rowAt}
 use Rattle.rules.specs.Statements.{operandOf, operandAt, operandsFrom, operationAt, optional, assignmentBy}
@@ -32,7 +31,7 @@ use Rattle.rules.specs.Walk.{mem?, walkOn, walk, holder, awaits, walkFrom, metB
 use Rattle.rules.specs.Calls.{threadFault, metLengthFault, walkFault, walkReturn, walkMet}
 use Rattle.rules.specs.Calls.{stateLengthFault, stateFault, eventsLengthFault, eventFault, answersLengthFault, wordsLengthFault}
 use Rattle.rules.specs.Calls.{checkReturn, freshReturn, freshState, runReturn, runState, runAnswers}
-use Rattle.byte_trials.specs.Lent.{recordBytes, arrivalBytes, turnBytes, times, table, beginning, words, zeros}
+use Rattle.byte_trials.specs.Lent.{recordBytes, arrivalBytes, turnBytes, times, beginning, words}
 use Rattle.byte_trials.specs.Lent.{freshWith, answersWith, stateWith}
 
 -- labels 0 and 1 in block 1: CALL 2, return label 1; EXIT. Labels 2 and 3 in block 2: ASSIGN copy shared word 0 from 5, on to 3; RETURN.
@@ -55,15 +54,15 @@ entered = arrivalBytes 0 [] ++ arrivalBytes 4 [] ++ arrivalBytes 6 [] ++ turnByt
 
 -- and it stores 5 there, goes back to block 1 and EXITs, thread 1 asking for block 2 before each of its steps; then the others run to
 -- their ends
-abbrev all : List ℕ
-all = entered ++ times 3 (turnBytes 2 1 ++ turnBytes 2 0) ++ times 3 (turnBytes 2 1) ++ turnBytes 2 2
+abbrev allEvents : List ℕ
+allEvents = entered ++ times 3 (turnBytes 2 1 ++ turnBytes 2 0) ++ times 3 (turnBytes 2 1) ++ turnBytes 2 2
 
-abbrev inside : List ℕ
-inside = stateWith rows image 7 entered
+abbrev stateInside : List ℕ
+stateInside = stateWith rows image 7 entered
 
 -- the second order of them, as the answers make it
-abbrev second : List ℕ
-second = flatten (map (λ (n : ByteEntry). n .event) (byteOrder (byteEntries 17 all (answersWith rows image 17 all))))
+abbrev secondOrder : List ℕ
+secondOrder = flatten (map (λ (n : ByteEntry). n .event) (byteOrder (byteEntries 17 allEvents (answersWith rows image 17 allEvents))))
 
 -- the table of zeros, with this lock in the last row
 abbrev lastLock : ℕ → List ℕ
@@ -72,25 +71,25 @@ lastLock l = replicate 47 0 ++ l ∷ []
 pub record Groups : Type 0 where
   -- thread 1 waits as long as the job on thread 0 runs, whichever block of the group it is in; the detail is the lock; block 5, whose
   -- number is the lock's, is free
-  pub answers : answersWith rows image 17 all
+  pub answers : answersWith rows image 17 allEvents
       ≡ times 3 (1 ∷ 0 ∷ []) ++ 5 ∷ 0 ∷ 4 ∷ 5 ∷ 5 ∷ 0 ∷ 6 ∷ 0 ∷ times 2 (4 ∷ 5 ∷ 6 ∷ 0 ∷ [])
       ++ 4 ∷ 5 ∷ 7 ∷ 0 ∷ 5 ∷ 0 ∷ 6 ∷ 0 ∷ 7 ∷ 0 ∷ 7 ∷ 0 ∷ []
   -- shared word 0 of block 2 is then 5 × 3, the other bytes as Fresh left them
-  pub state : stateWith rows image 17 all ≡ take 64 words ++ 15 ∷ drop 65 (freshWith rows image)
+  pub state : stateWith rows image 17 allEvents ≡ take 64 words ++ 15 ∷ drop 65 (freshWith rows image)
   -- in block 2, with a return label in block 1, the job holds lock 5 and no other: label, lock set and return count of thread 0
-  pub locks : part inside threadsPlace 5 ≡ 2 ∷ 0 ∷ 32 ∷ 0 ∷ 1 ∷ []
+  pub locks : part stateInside threadsPlace 5 ≡ 2 ∷ 0 ∷ 32 ∷ 0 ∷ 1 ∷ []
   -- the walk from thread 1 comes to thread 0
-  pub walk-return : walkReturn image rows inside 1 (replicate 8 0) ≡ 2
-  pub walk-met : walkMet image rows inside 1 (replicate 8 0) ≡ 1 ∷ 0 ∷ replicate 6 255
+  pub walk-return : walkReturn image rows stateInside 1 (replicate 8 0) ≡ 2
+  pub walk-met : walkMet image rows stateInside 1 (replicate 8 0) ≡ 1 ∷ 0 ∷ replicate 6 255
   -- the second order: three arrivals, and then the jobs of threads 0, 1 and 2, without a wait; the same answers and the same state
-  pub order : second
+  pub order : secondOrder
       ≡ arrivalBytes 0 [] ++ arrivalBytes 4 [] ++ arrivalBytes 6 [] ++ times 5 (turnBytes 2 0) ++ times 3 (turnBytes 2 1)
       ++ times 2 (turnBytes 2 2)
-  pub order-answers : answersWith rows image 13 second
+  pub order-answers : answersWith rows image 13 secondOrder
       ≡ times 3 (1 ∷ 0 ∷ []) ++ 5 ∷ 0 ∷ times 3 (6 ∷ 0 ∷ []) ++ 7 ∷ 0 ∷ 5 ∷ 0 ∷ 6 ∷ 0 ∷ 7 ∷ 0 ∷ 5 ∷ 0 ∷ 7 ∷ 0 ∷ []
-  pub order-state : stateWith rows image 13 second ≡ take 64 words ++ 15 ∷ drop 65 (freshWith rows image)
+  pub order-state : stateWith rows image 13 secondOrder ≡ take 64 words ++ 15 ∷ drop 65 (freshWith rows image)
   -- with the locks of its blocks' numbers, and without lock 5, the thread would not be well formed: number 6
-  pub by-number : walkReturn image rows (take (threadsPlace + 2) inside ++ 6 ∷ 0 ∷ drop (threadsPlace + 4) inside) 1 (replicate 8 0)
+  pub by-number : walkReturn image rows (take (threadsPlace + 2) stateInside ++ 6 ∷ 0 ∷ drop (threadsPlace + 4) stateInside) 1 (replicate 8 0)
       ≡ 393216
   -- a table of 32 bytes: number 2; a lock of 16 in the last row: number 3 at block 15; a lock of 15 there is one
   pub short : checkReturn image (replicate 32 0) ≡ 131072

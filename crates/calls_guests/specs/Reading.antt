@@ -26,7 +26,7 @@ use Rattle.calls_one_by_one.specs.CallList.{Run, lastLeft, Calls, eventList, an
 use Rattle.calls_one_by_one.specs.Whole as whole
 use Rattle.guests.specs.Reading as of-values
 use Rattle.guests.specs.Unshifted.{machine-same, events-same}
-use Rattle.guests.specs.OtherBlocks.{Unused, Free}
+use Rattle.guests.specs.OtherBlocks.{NotOwn, Free}
 use Rattle.guests.specs.Guests as values
 use Rattle.guests.specs.Guests.{Guest, first-guest, second-guest}
 use Rattle.calls_guests.specs.Shifts.{each-sized, reread, shift-one}
@@ -155,7 +155,7 @@ module _ (first second table out : List ℕ) (accepted : linkReturn first second
         ∙ values.other-words-stay d own other L table (guest-of d own other guest) (wordsFrom words) own-events own-accepted b h
 
     -- and no thread holds a lock that none of the guest's own blocks has
-    pub other-locks-free : (lock : ℕ) → Unused own table lock
+    pub other-locks-free : (lock : ℕ) → NotOwn own table lock
         → Free lock (machineFrom (lastLeft (freshState L table words state′) runs′))
     other-locks-free lock h =
         subst (Free lock) (sym linked-machine)

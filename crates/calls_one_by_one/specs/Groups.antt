@@ -1,26 +1,25 @@
--- Blocks that one lock guards, in a list of calls. A job that needs one block of the group enters another: its step is answered 6, and
--- its lock set stays as it is, `enters-own-group`. Another thread that wants a block of the group meanwhile: it waits, answered 4 with the
--- lock, and the one-by-one order is the same as if it had not asked, `waits-for-the-group`.
+-- Blocks that one lock guards, in a list of calls. A thread that holds the lock enters each block of the group: its step is answered 6,
+-- and its lock set stays as it is, `enters-with-its-lock`. Another thread that wants one of them meanwhile: it waits, answered 4 with the
+-- lock, and the one-by-one order is the same as if it had not asked, `waits-for-the-lock`. `holds-the-group` says that a job holds the lock
+-- as long as its label or a return label is in a block of the group.
 use mathlib.Core.Path.{_≡_, refl, sym, ap, _∙_, subst}
 use mathlib.Core.Logic.{_≢_}
-use mathlib.Core.Option.{some}
+use mathlib.Core.Bool.{true}
 use mathlib.Core.List.{List, [], _∷_, _++_, map, map-append}
 use Prim.Native.Nat.{ℕ, _<_}
 use Rattle.rules.specs.Sizes.{threadCount}
+use Rattle.rules.specs.Bytes.{has}
 use Rattle.rules.specs.Image.{rowAt}
-use Rattle.rules.specs.Machine.{Job, running, Machine, threadAt, locksOf, jobOf}
-use Rattle.rules.specs.Encoding.{wordsFrom}
+use Rattle.rules.specs.Machine.{Job, running, Machine, threadAt, locksOf}
 use Rattle.rules.specs.Events.{Event, step, eventBytes}
 use Rattle.rules.specs.Answers.{Sort, out, code, detail, answerBytes, sortOfCode}
 use Rattle.rules.specs.Steps.{Rules, Move, Reply, rulesBy, applied, react, final}
-use Rattle.rules.specs.Order.{Sheet, noteAs, notesBy, blank, spread, orderBy, Entry, lostBy, log, ByteEntry, byteOrder}
+use Rattle.rules.specs.Order.{Sheet, noteAs, notesBy, blank, spread, orderBy, log, ByteEntry, byteOrder}
 use Rattle.rules.specs.Calls.{freshState}
-use Rattle.rules.specs.declared.answer.Answer.{Answer}
-use Rattle.rules.specs.declared.answer.Answer.the-variants.{Waiting, Moved}
 use Rattle.fields.specs.Each.{Each, each-front}
 use Rattle.laws.specs.EventLists.{log-append}
 use Rattle.soundness.specs.CheckedRules.{checked-laws}
-use Rattle.soundness.specs.Laws.{Needs}
+use Rattle.soundness.specs.Laws.{Needs, Laws}
 use Rattle.soundness.specs.Sound.{Sound}
 use Rattle.soundness.specs.StaysWellFormed.{Accepted, sound-final}
 use Rattle.one_by_one.specs.ByteOrder.{bytesOf}
@@ -90,26 +89,33 @@ module _ (image table words state : List ℕ) (runs : List Run) (calls : Calls i
         ∙ ap (λ (z : Reply). entriesTo before
         ++ record { event = eventBytes (step t); answer = answerBytes (z .answer) } ∷ entriesFrom (z .state) after) e
 
-    module _ (b c : ℕ) (group : rowAt table b .lock ≡ rowAt table c .lock) (m : Move) (wants : Wants R s t c m) where
-      -- A JOB THAT NEEDS ONE BLOCK OF A GROUP ENTERS ANOTHER WITHOUT WAITING, AND ITS LOCK SET STAYS AS IT IS
-      pub enters-own-group : (locks : ℕ) (j : Job) → t < threadCount → threadAt s t ≡ running locks j → Needs R j b
+    laws : Laws R
+    laws = checked-laws image table (whole.checked image table words state runs calls)
+
+    -- a job holds the lock of a group as long as it needs one of its blocks
+    pub holds-the-group : (u b c locks : ℕ) (j : Job) → threadAt s u ≡ running locks j → Needs R j b → rowAt table b .lock ≡ rowAt table c .lock
+        → has (rowAt table c .lock) locks ≡ true
+    holds-the-group u b c locks j = groups.holds-the-group R laws s (sound .invariant) u b c locks j
+
+    module _ (c : ℕ) (m : Move) (wants : Wants R s t c m) where
+      -- A THREAD THAT HOLDS THE LOCK OF A BLOCK ENTERS IT WITHOUT WAITING, AND ITS LOCK SET STAYS AS IT IS
+      pub enters-with-its-lock : (locks : ℕ) (j : Job) → t < threadCount → threadAt s t ≡ running locks j
+          → has (rowAt table c .lock) locks ≡ true
           → (eventList runs ≡ entriesTo before ++ record { event = eventBytes (step t); answer = 6 ∷ 0 ∷ [] }
           ∷ entriesFrom (applied R t m s) after) × (locksOf (threadAt (applied R t m s) t) ≡ locks)
       unfolding answerBytes code detail
-      enters-own-group locks j inside busy needs =
-          let laws = checked-laws image table (whole.checked image table words state runs calls) in
-          let r = groups.enters-own-group R laws s (sound .invariant) t b c locks j m inside busy needs group wants in (
+      enters-with-its-lock locks j inside busy own =
+          let r = groups.enters-with-its-lock R laws s (sound .invariant) t c locks j m inside busy own wants in (
             entries _ r,
             ap (λ (z : Reply). locksOf (threadAt (z .state) t)) (sym r)
-                ∙ groups.lock-set-stays R laws s (sound .invariant) t b c locks j m inside busy needs group wants,
+                ∙ groups.lock-set-stays R laws s (sound .invariant) t c locks j m inside busy own wants,
           )
 
-      -- A THREAD THAT WANTS A BLOCK OF A GROUP WHILE ANOTHER'S JOB NEEDS ONE: IT WAITS, AND THE ONE-BY-ONE ORDER IS THE SAME
-      pub waits-for-the-group : (u : ℕ) (j : Job) → u ≢ t → jobOf (threadAt s u) ≡ some j → Needs R j b → Waited c before after t
+      -- A THREAD THAT WANTS A BLOCK WHOSE LOCK ANOTHER HOLDS: IT WAITS, AND THE ONE-BY-ONE ORDER IS THE SAME
+      pub waits-for-the-lock : (u : ℕ) → u ≢ t → has (rowAt table c .lock) (locksOf (threadAt s u)) ≡ true → Waited c before after t
       unfolding answerBytes code detail byteOrder sortOfCode
-      waits-for-the-group u j n busy needs =
-          let laws = checked-laws image table (whole.checked image table words state runs calls) in
-          let r = groups.waits-for-the-group R laws s (sound .invariant) u t b c j m n busy needs group wants in
+      waits-for-the-lock u n held =
+          let r = groups.waits-for-the-lock R laws s (sound .invariant) t u c m n held wants in
           record {
             list = entries _ r;
             order = ap byteOrder (entries _ r) ∙ left-out _ _ (entriesTo before) (entriesFrom s after) _ refl;

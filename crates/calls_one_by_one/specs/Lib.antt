@@ -1,6 +1,6 @@
 -- Demand 3, "The one-by-one reading", of a list of calls and its bytes. CallList says what a list of calls is and what is
 -- claimed of it; Whole has the theorem, `calls-one-by-one`; Jobs says that a row is one job, `one-job-a-row`;
--- Groups has what the locks of several blocks come to there, `enters-own-group` and `waits-for-the-group`.
+-- Groups has what the locks of several blocks come to there, `enters-with-its-lock` and `waits-for-the-lock`.
 pub mod CallList
 pub mod Accepted
 pub mod Joined

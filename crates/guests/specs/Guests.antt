@@ -25,7 +25,7 @@ use Rattle.guests.specs.Parts.{Part, Fits, first-part, second-part}
 use Rattle.guests.specs.Passes.{fits, LinkAccepted, link-accepted}
 use Rattle.guests.specs.Labels.{thread-shift, locks-shift}
 use Rattle.guests.specs.Reading.{GuestReading, guest-reading-fresh, all-accepted}
-use Rattle.guests.specs.OtherBlocks.{Unused, Free, words-of-unnamed-blocks-stay, unused-locks-stay-free, fresh-free}
+use Rattle.guests.specs.OtherBlocks.{NotOwn, Free, words-of-unnamed-blocks-stay, other-locks-stay-free, fresh-free}
 
 -- the guest G stands in L, d labels in, beside the guest H; both over one block table
 pub record Guest (d : ℕ) (G H L table : List ℕ) : Type 0 where
@@ -106,9 +106,9 @@ module _ (d : ℕ) (G H L table : List ℕ) (guest : Guest d G H L table) (initi
       ∙ unfold fresh in refl
 
   -- and no thread holds a lock that none of the guest's own blocks has. One that blocks of both have is held as if the guest were alone
-  pub other-locks-free : (lock : ℕ) → Unused G table lock → Free lock (final (rulesBy L table) (fresh initial) (map (shiftEvent d) l))
+  pub other-locks-free : (lock : ℕ) → NotOwn G table lock → Free lock (final (rulesBy L table) (fresh initial) (map (shiftEvent d) l))
   other-locks-free lock h t =
       let z : Machine = final (rulesBy G table) (fresh initial) l in
       rw (reads-as-alone .state, thread-shift d (z .threads) t, locks-shift d (threadAt z t))
-      (unused-locks-stay-free G table lock h (guest .checked) (fresh initial) l (sound-fresh G table (guest .checked) initial) accepted
+      (other-locks-stay-free G table lock h (guest .checked) (fresh initial) l (sound-fresh G table (guest .checked) initial) accepted
       (fresh-free lock initial) t)

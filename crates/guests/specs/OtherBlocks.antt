@@ -97,19 +97,19 @@ module _ (image table : List ℕ) (b : ℕ) (unnamed : names image b ≡ false) 
 
 -- ---- a lock that none of the blocks has that the image names
 
-abbrev pub Unused : List ℕ → List ℕ → ℕ → Type 0
-Unused image table lock = (b : ℕ) → names image b ≡ true → rowAt table b .lock ≢ lock
+abbrev pub NotOwn : List ℕ → List ℕ → ℕ → Type 0
+NotOwn image table lock = (b : ℕ) → names image b ≡ true → rowAt table b .lock ≢ lock
 
 -- no thread holds a lock
 abbrev pub Free : ℕ → Machine → Type 0
 Free lock s = (t : ℕ) → has lock (locksOf (threadAt s t)) ≡ false
 
-module _ (image table : List ℕ) (lock : ℕ) (unused : Unused image table lock) where
+module _ (image table : List ℕ) (lock : ℕ) (other : NotOwn image table lock) where
   -- a set of locks with the lock of a named block more
   not-granted : (l locks : ℕ) → l < labels image → has lock locks ≡ false
       → has lock (grant (rulesBy image table) (some (blockAt image l)) locks) ≡ false
   not-granted l locks h f =
-      has-other lock (rowAt table (blockAt image l) .lock) locks (λ e. unused (blockAt image l) (named image l h) (sym e)) ∙ f
+      has-other lock (rowAt table (blockAt image l) .lock) locks (λ e. other (blockAt image l) (named image l h) (sym e)) ∙ f
 
   not-asked : (j : Job) (want : Option ℕ) (locks : ℕ) → Asks (blockAt image) (moves j [] none want) → j .label < labels image
       → has lock locks ≡ false
@@ -133,13 +133,13 @@ module _ (image table : List ℕ) (lock : ℕ) (unused : Unused image table lock
         (getD-set idle (λ u (z : ThreadState). has lock (locksOf z) ≡ false) (s .threads) t idle free (has-none lock))
 
   -- NO THREAD COMES TO HOLD IT
-  pub unused-locks-stay-free : Checked image table → (s : Machine) (l : List Event) → Sound image table s → Each (Accepted image) l
+  pub other-locks-stay-free : Checked image table → (s : Machine) (l : List Event) → Sound image table s → Each (Accepted image) l
       → Free lock s
       → Free lock (final (rulesBy image table) s l)
   unfolding final
-  unused-locks-stay-free checked s [] k h free = free
-  unused-locks-stay-free checked s (e ∷ l) k h free =
-      unused-locks-stay-free checked (react (rulesBy image table) s e .state) l (sound-react image table checked s e k (h .0)) (h .1)
+  other-locks-stay-free checked s [] k h free = free
+  other-locks-stay-free checked s (e ∷ l) k h free =
+      other-locks-stay-free checked (react (rulesBy image table) s e .state) l (sound-react image table checked s e k (h .0)) (h .1)
       (lock-free s k (passed image table [] checked .0) free e _ (happens (rulesBy image table) s e))
 
 -- no thread of a fresh machine holds a lock

@@ -1,7 +1,7 @@
 -- Nobody else is touched, by lock, of a list of events and of what a Run leaves: no word changes of a block whose lock the threads of the
 -- events do not hold when these come, whatever other locks they hold: `unheld-blocks-stay`, `run-leaves-unheld-blocks`.
-use mathlib.Core.Path.{_≡_, refl, ap, _∙_}
-use mathlib.Core.Bool.{Bool, true, false}
+use mathlib.Core.Path.{_≡_, refl, _∙_}
+use mathlib.Core.Bool.{false}
 use mathlib.Core.Option.{some}
 use mathlib.Core.List.{List, [], _∷_}
 use Prim.Native.Nat.{ℕ}
@@ -21,7 +21,7 @@ use Rattle.encoding.specs.Machines.{machine-back, machine-sized}
 use Rattle.soundness.specs.Sound.{Sound, sound-of}
 use Rattle.soundness.specs.StaysWellFormed.{Accepted, sound-react}
 use Rattle.soundness.specs.StaysSized.{sized-final}
-use Rattle.soundness.specs.States.{Given, given-of}
+use Rattle.soundness.specs.States.{given-of}
 use Rattle.soundness.specs.Untouched.{words-of-other-blocks-stay}
 
 module _ (image table : List ℕ) (b : ℕ) where

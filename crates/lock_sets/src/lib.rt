@@ -1,2 +1,2 @@
-// The locks in a set, bit b for lock b: whether one is in it, how many there are, and the lowest.
+// The locks in a set, bit k for lock k: whether one is in it, how many there are, and the lowest.
 pub mod held;

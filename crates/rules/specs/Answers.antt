@@ -21,8 +21,7 @@ code (Trapped r) = trappedCode
 code WasCut = wasCutCode
 code NothingToCut = nothingToCutCode
 
--- zero unless named: the lock waited for (lock b guards block b, so this is the block asked for), how many held signals an
--- EXIT lost, and a trap's reason
+-- zero unless named: the lock waited for, how many held signals an EXIT lost, and a trap's reason
 unfoldable pub detail : Answer → ℕ
 detail Taken = 0
 detail ListFull = 0

@@ -65,9 +65,14 @@ pub fn only_held_changed(one: &Lent, other: &Lent) -> bool {
     only_changed(one, other, Job::HELD_START..Job::WIDTH)
 }
 
+/// Whether the states differ, and in lock sets only, with one image and table.
+pub fn only_locks_changed(one: &Lent, other: &Lent) -> bool {
+    only_changed(one, other, Job::LOCKS)
+}
+
 /// Whether the states differ, and in these bytes of thread records only, with
 /// one image and table.
-pub fn only_changed(one: &Lent, other: &Lent, bytes: Range<usize>) -> bool {
+fn only_changed(one: &Lent, other: &Lent, bytes: Range<usize>) -> bool {
     let cleared = |state: &[u8]| {
         let mut state = state.to_vec();
         let threads = &mut state[State::WORDS_LENGTH..][..Job::WIDTH * Thread::COUNT];
@@ -153,7 +158,7 @@ pub fn change_table(random: &mut Random, table: &mut [u8]) {
     let (block, lock) = (random.below(Block::COUNT), random.below(Lock::COUNT) as u8);
     let block = random.one_of([block, Block::COUNT - 1]);
     if let Some(row) = table.chunks_exact_mut(Table::ROW_WIDTH).nth(block) {
-        row[2] = random.one_of([lock, 15, 16, 255]);
+        row[Table::LOCK_PLACE] = random.one_of([lock, 15, 16, 255]);
     }
 }
 

@@ -1,8 +1,7 @@
 //! Trials that generated machines meet every case of grouped blocks.
 
-use super::damage::only_changed;
 use super::trials::{begun, faults_met};
-use super::{damage, pair, table, Lent, Random};
+use super::{damage, only_locks_changed, pair, table, Lent, Random};
 use crate::check;
 use crate::events::{Answer, Event};
 use crate::image::Program;
@@ -163,7 +162,6 @@ fn fault(lent: &Lent) -> Option<&'static str> {
 
 #[test]
 fn damaged_lock_sets_have_every_fault_and_are_refused() {
-    let only_locks_changed = |one: &Lent, other: &Lent| only_changed(one, other, 2..4);
     assert_eq!(faults_met(5, only_locks_changed, fault), BTreeSet::from(FAULTS));
 }
 

@@ -17,7 +17,7 @@ mod table;
 #[cfg(test)]
 mod trials;
 
-pub use damage::{damage, only_held_changed};
+pub use damage::{damage, only_held_changed, only_locks_changed};
 pub use events::events;
 pub use image::image;
 pub use pair::{damage_pair, pair, Guest, Pair};
