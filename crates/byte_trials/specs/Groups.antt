@@ -60,6 +60,10 @@ allEvents = entered ++ times 3 (turnBytes 2 1 ++ turnBytes 2 0) ++ times 3 (turn
 abbrev stateInside : List ℕ
 stateInside = stateWith rows image 7 entered
 
+-- the same with locks 1 and 2 in place of lock 5
+abbrev withNumbers : List ℕ
+withNumbers = take (threadsPlace + 2) stateInside ++ 6 ∷ 0 ∷ drop (threadsPlace + 4) stateInside
+
 -- the second order of them, as the answers make it
 abbrev secondOrder : List ℕ
 secondOrder = flatten (map (λ (n : ByteEntry). n .event) (byteOrder (byteEntries 17 allEvents (answersWith rows image 17 allEvents))))
@@ -89,8 +93,7 @@ pub record Groups : Type 0 where
       ≡ times 3 (1 ∷ 0 ∷ []) ++ 5 ∷ 0 ∷ times 3 (6 ∷ 0 ∷ []) ++ 7 ∷ 0 ∷ 5 ∷ 0 ∷ 6 ∷ 0 ∷ 7 ∷ 0 ∷ 5 ∷ 0 ∷ 7 ∷ 0 ∷ []
   pub order-state : stateWith rows image 13 secondOrder ≡ take 64 words ++ 15 ∷ drop 65 (freshWith rows image)
   -- with the locks of its blocks' numbers, and without lock 5, the thread would not be well formed: number 6
-  pub by-number : walkReturn image rows (take (threadsPlace + 2) stateInside ++ 6 ∷ 0 ∷ drop (threadsPlace + 4) stateInside) 1 (replicate 8 0)
-      ≡ 393216
+  pub by-number : walkReturn image rows withNumbers 1 (replicate 8 0) ≡ 393216
   -- a table of 32 bytes: number 2; a lock of 16 in the last row: number 3 at block 15; a lock of 15 there is one
   pub short : checkReturn image (replicate 32 0) ≡ 131072
   pub lock-16 : checkReturn image (lastLock 16) ≡ 196623

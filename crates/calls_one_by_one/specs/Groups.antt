@@ -93,7 +93,8 @@ module _ (image table words state : List ℕ) (runs : List Run) (calls : Calls i
     laws = checked-laws image table (whole.checked image table words state runs calls)
 
     -- a job holds the lock of a group as long as it needs one of its blocks
-    pub holds-the-group : (u b c locks : ℕ) (j : Job) → threadAt s u ≡ running locks j → Needs R j b → rowAt table b .lock ≡ rowAt table c .lock
+    pub holds-the-group : (u b c locks : ℕ) (j : Job) → threadAt s u ≡ running locks j → Needs R j b
+        → rowAt table b .lock ≡ rowAt table c .lock
         → has (rowAt table c .lock) locks ≡ true
     holds-the-group u b c locks j = groups.holds-the-group R laws s (sound .invariant) u b c locks j
 

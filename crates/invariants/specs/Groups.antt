@@ -1,6 +1,7 @@
 -- One lock guards several blocks, a group. A thread that holds the lock, through whatever block of the group, enters each of them without
--- waiting, and its lock set stays as it is: `enters-with-its-lock`, `lock-set-stays`. Any other thread that wants one of them waits for the
--- lock, and nothing changes: `waits-for-the-lock`. A job holds the lock of a group as long as it needs one of its blocks: `holds-the-group`.
+-- waiting, and its lock set stays as it is: `enters-with-its-lock`, `lock-set-stays`. Any other thread that wants one of them waits for
+-- the lock, and nothing changes: `waits-for-the-lock`. A job holds the lock of a group as long as it needs one of its blocks:
+-- `holds-the-group`.
 use mathlib.Core.Path.{_≡_, refl, sym, ap, _∙_}
 use mathlib.Core.Logic.{_≢_}
 use mathlib.Core.Bool.{true}
