@@ -52,9 +52,10 @@ module _ (R : Rules) (s : Machine) where
   words-of-other-blocks-stay i e b n = block-kept i b e (react R s e) (happens R s e) n
 
   -- and so does every block but that of its job's label, whatever locks it holds: a job writes only where it is
-  elsewhere-kept : (b : ℕ) (e : Event) (r : Reply) → Happens R s e r
-      → ((t : ℕ) (j : Job) → threadOf e ≡ some t → jobOf (threadAt s t) ≡ some j → R .block (j .label) ≢ b)
-      → window b (r .state .words) ≡ window b (s .words)
+  abbrev pub Elsewhere : Event → ℕ → Type 0
+  Elsewhere e b = (t : ℕ) (j : Job) → threadOf e ≡ some t → jobOf (threadAt s t) ≡ some j → R .block (j .label) ≢ b
+
+  elsewhere-kept : (b : ℕ) (e : Event) (r : Reply) → Happens R s e r → Elsewhere e b → window b (r .state .words) ≡ window b (s .words)
   elsewhere-kept b e r (remains f a q) n = refl
   elsewhere-kept b e r (founds g room) n = refl
   elsewhere-kept b e r (starts t g p w f k) n = refl
@@ -62,9 +63,7 @@ module _ (R : Rules) (s : Machine) where
       window-keep-other (R .block (j .label)) b words (s .words) (λ c. n t j refl (ap jobOf w) (sym c))
   elsewhere-kept b e r (ends t l j a w f) n = ap (window b) (admitted-words R (released j a) (finished R t s))
 
-  pub words-elsewhere-stay : (e : Event) (b : ℕ)
-      → ((t : ℕ) (j : Job) → threadOf e ≡ some t → jobOf (threadAt s t) ≡ some j → R .block (j .label) ≢ b)
-      → window b (react R s e .state .words) ≡ window b (s .words)
+  pub words-elsewhere-stay : (e : Event) (b : ℕ) → Elsewhere e b → window b (react R s e .state .words) ≡ window b (s .words)
   words-elsewhere-stay e b n = elsewhere-kept b e (react R s e) (happens R s e) n
 
   -- ---- the trees
