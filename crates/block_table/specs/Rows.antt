@@ -10,6 +10,7 @@ use lib.Dec.{eqb}
 use lib.ListN.{length, getD, drop}
 use Rattle.rules.specs.Sizes.{threadCount, blockCount, blockKindCount, lockCount, rowSize, tableSize}
 use Rattle.rules.specs.Bytes.{allFrom, every}
+use Rattle.rules.specs.Image.{Field, fieldAt}
 use Rattle.rules.specs.Check.{rowOk}
 use Rattle.fields.specs.Bits.{below-power}
 use Rattle.fields.specs.Marked.{clear, two, four, eight, eight-of, eight-clear}
@@ -18,14 +19,22 @@ use Rattle.fields.specs.Runs.{exchange, all-same, all-split, all-threes}
 use Rattle.fields.specs.Tests.{or-none}
 use Rattle.image.specs.Records.{getD-any}
 
+-- a field of a row, read from a whole table
+pub field-is : (table : List ℕ) (b : ℕ) (f : Field) → length table ≡ tableSize → b < blockCount → f .place < rowSize
+    → getD table (rowSize * b + f .place) 0 ≡ fieldAt table b f
+field-is table b f size h p = getD-any table (rowSize * b + f .place) 0 (f .limit) (omega arith)
+
 -- the bits that a byte of the table may not have: byte i is of the field i % 3, and every limit is a power of two
+abbrev marks : List ℕ
+marks = (256 - threadCount) ∷ (256 - blockKindCount) ∷ (256 - lockCount) ∷ []
+
 abbrev pub mark : ℕ → ℕ
-mark i = getD ((256 - threadCount) ∷ (256 - blockKindCount) ∷ (256 - lockCount) ∷ []) (i % rowSize) 0
+mark i = getD marks (i % rowSize) 0
 
 mark-short : (i : ℕ) → mark i < 256
 mark-short i = go (i % rowSize)
   where
-    go : (r : ℕ) → getD ((256 - threadCount) ∷ (256 - blockKindCount) ∷ (256 - lockCount) ∷ []) r 0 < 256
+    go : (r : ℕ) → getD marks r 0 < 256
     go zero = omega arith
     go (suc zero) = omega arith
     go (suc (suc zero)) = omega arith
@@ -88,17 +97,26 @@ module _ (table : List ℕ) (size : length table ≡ tableSize) (bytes : (i : �
       ∙ all-threes byteOk b 8
       ∙ all-same _ (rowOk table) b 8 (λ k p q. row-bytes k (omega arith)))
 
-  -- word i of each eight rows has none of its marks
-  abbrev wordsClear : ℕ → Bool
-  wordsClear i = clear (num64 (drop i table)) (eight mark i) && clear (num64 (drop (8 * rowSize + i) table)) (eight mark i)
+  -- the word at byte i of the first eight rows, and of the last eight, has none of its marks
+  abbrev firstClear : ℕ → Bool
+  firstClear i = clear (num64 (drop i table)) (eight mark i)
+
+  abbrev lastClear : ℕ → Bool
+  lastClear i = clear (num64 (drop (8 * rowSize + i) table)) (eight mark i)
 
   -- all rows are three words of the first eight and three of the last eight
-  pub all-rows : (x y z : ℕ) → eqb x 0 ≡ wordsClear 0 → eqb y 0 ≡ wordsClear 8 → eqb z 0 ≡ wordsClear 16
+  pub all-rows : (x y z : ℕ) → eqb x 0 ≡ (firstClear 0 && lastClear 0) → eqb y 0 ≡ (firstClear 8 && lastClear 8)
+      → eqb z 0 ≡ (firstClear 16 && lastClear 16)
       → eqb (bitOr (bitOr x y) z) 0 ≡ allFrom (rowOk table) 0 blockCount
   all-rows x y z e f g =
-      let c : ℕ → Bool = λ i. clear (num64 (drop i table)) (eight mark i) in
-      let d : ℕ → Bool = λ i. clear (num64 (drop (8 * rowSize + i) table)) (eight mark i) in
       or-none (bitOr x y) z
-      ∙ rw (or-none x y, e, f, g, exchange (c 0) (d 0) (c 8) (d 8), exchange (c 0 && c 8) (d 0 && d 8) (c 16) (d 16))
+      ∙ rw (
+        or-none x y,
+        e,
+        f,
+        g,
+        exchange (firstClear 0) (lastClear 0) (firstClear 8) (lastClear 8),
+        exchange (firstClear 0 && firstClear 8) (lastClear 0 && lastClear 8) (firstClear 16) (lastClear 16),
+      )
       (ap₂ _&&_ (eight-rows 0 _ _ _ (omega arith) refl refl refl) (eight-rows 8 _ _ _ (omega arith) refl refl refl)
       ∙ sym (all-split (rowOk table) 0 8 8))

@@ -8,6 +8,7 @@ use native.Mathlib.Omega.{arith}
 use lib.Bits.{bitAnd, and-block}
 use lib.Dec.{eqb}
 use lib.ListN.{getD, drop}
+use lib.Pow.{pow-pos}
 use lib.Seq.{getD-drop}
 use Rattle.rules.specs.Bytes.{allFrom, num16, num32}
 use Rattle.fields.specs.Numbers.{num64, num32-drop, num64-drop}
@@ -19,12 +20,12 @@ abbrev pub clear : ℕ → ℕ → Bool
 clear x m = eqb (bitAnd x m) 0
 
 -- of numbers that are joined of two, none is in the low parts and none in the high parts
-clear-join : (k a b c d : ℕ) → a < 2 ^ k → c < 2 ^ k → 0 < 2 ^ k → clear (a + 2 ^ k * b) (c + 2 ^ k * d) ≡ (clear a c && clear b d)
-clear-join k a b c d h l p =
+clear-join : (k a b c d : ℕ) → a < 2 ^ k → c < 2 ^ k → clear (a + 2 ^ k * b) (c + 2 ^ k * d) ≡ (clear a c && clear b d)
+clear-join k a b c d h l =
     let x : a + 2 ^ k * b ≡ b * 2 ^ k + a = omega (arith, mul-comm b (2 ^ k)) in
     let y : c + 2 ^ k * d ≡ d * 2 ^ k + c = omega (arith, mul-comm d (2 ^ k)) in
     let z : bitAnd b d * 2 ^ k + bitAnd a c ≡ bitAnd a c + 2 ^ k * bitAnd b d = omega (arith, mul-comm (bitAnd b d) (2 ^ k)) in
-    rw (x, y, and-block k b d a c h l, z) (join-none (bitAnd a c) (2 ^ k) (bitAnd b d) p)
+    rw (x, y, and-block k b d a c h l, z) (join-none (bitAnd a c) (2 ^ k) (bitAnd b d) (pow-pos k))
 
 -- two, four and eight bytes from byte i on, as one number
 abbrev pub two : (ℕ → ℕ) → ℕ → ℕ
@@ -52,17 +53,17 @@ module _ (f g : ℕ → ℕ) (small : (i : ℕ) → f i < 256) (short : (i : ℕ
 
   two-clear : (i : ℕ) → clear (two f i) (two g i) ≡ allFrom at i 2
   unfolding allFrom
-  two-clear i = clear-join 8 (f i) (f (i + 1)) (g i) (g (i + 1)) (small i) (short i) (omega arith) ∙ rw and-true
+  two-clear i = clear-join 8 (f i) (f (i + 1)) (g i) (g (i + 1)) (small i) (short i) ∙ rw and-true
 
   four-clear : (i : ℕ) → clear (four f i) (four g i) ≡ allFrom at i 4
   four-clear i =
       clear-join 16 (two f i) (two f (i + 2)) (two g i) (two g (i + 2)) (omega (arith, small i, small (i + 1)))
-      (omega (arith, short i, short (i + 1))) (omega arith)
+      (omega (arith, short i, short (i + 1)))
       ∙ rw (two-clear i, two-clear (i + 2)) (sym (all-split at i 2 2))
 
   pub eight-clear : (i : ℕ) → clear (eight f i) (eight g i) ≡ allFrom at i 8
   eight-clear i =
       clear-join 32 (four f i) (four f (i + 4)) (four g i) (four g (i + 4))
       (omega (arith, small i, small (i + 1), small (i + 2), small (i + 2 + 1)))
-      (omega (arith, short i, short (i + 1), short (i + 2), short (i + 2 + 1))) (omega arith)
+      (omega (arith, short i, short (i + 1), short (i + 2), short (i + 2 + 1)))
       ∙ rw (four-clear i, four-clear (i + 4)) (sym (all-split at i 4 4))
