@@ -9,7 +9,8 @@ returns : tie.Need-returns
 unfolding rowAt
 returns c =
     let s = c .before .before .before in
-    simp (c .thread-of .ensures, c .before .field-at .ensures, field-is (s .args .table .now) (s .args .b .0) threadField (s .pre .1) (s .pre .0) (omega arith))
+    let read = field-is (s .args .table .now) (s .args .b .0) threadField (s .pre .1) (s .pre .0) (omega arith) in
+    simp (c .thread-of .ensures, c .before .field-at .ensures, read)
 
 pub thread-at-spec : {M : Type 1} → statement M
 thread-at-spec = tie.close (tie.spec (λ c κs. search needs) (λ c κs. search needs) returns)
