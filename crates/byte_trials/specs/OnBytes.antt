@@ -6,8 +6,7 @@ use mathlib.Core.List.{List, [], _∷_, _++_}
 use Prim.Native.Nat.{ℕ, _+_, _*_}
 use native.Mathlib.Decide.{ℕ-discrete}
 use lib.ListN.{replicate, drop}
-use Rattle.rules.specs.Sizes.{threadsPlace, presencePlace, heldCountPlace, treeSize}
-use Rattle.rules.specs.Sizes.{treeCountPlace, treesPlace}
+use Rattle.rules.specs.Sizes.{wordsSize, threadsPlace, presencePlace, heldCountPlace, treeSize, treeCountPlace, treesPlace}
 use Rattle.rules.specs.Bytes.{num16, num32, part, isZeros, allFrom, firstBad, blocks, pad, chunks, every}
 use Rattle.rules.specs.Image.{labels, recordAt, rowAt}
 use Rattle.rules.specs.Statements.{operandOf, operandAt, operandsFrom, operationAt, optional, assignmentBy}
@@ -64,10 +63,19 @@ presenceSet = threadsPlace + presencePlace
 abbrev assigning : List ℕ
 assigning = recordBytes 2 0 3 1 1 0 (2 ∷ 3 ∷ 0 ∷ 0 ∷ 1 ∷ 7 ∷ 0 ∷ []) ++ recordBytes 10 0 0 0 0 0 []
 
--- label 0: ASSIGN with this operator, to register 0 or shared word 0 (kind 2 or 3), p the number of two such bytes, q 1; label 1: EXIT
-abbrev computing : ℕ → ℕ → ℕ → List ℕ
+-- label 0: ASSIGN with this operator, to register 0 or shared word 0 (kind 2 or 3), p the operand of these three bytes, q the number 1;
+-- label 1: EXIT
+abbrev computing : ℕ → ℕ → List ℕ → List ℕ
 computing operator kind p =
-    recordBytes 2 0 3 operator 1 0 (3 ∷ kind ∷ 0 ∷ 0 ∷ 1 ∷ p ∷ p ∷ 1 ∷ 1 ∷ 0 ∷ []) ++ recordBytes 10 0 0 0 0 0 []
+    recordBytes 2 0 3 operator 1 0 (3 ∷ kind ∷ 0 ∷ 0 ∷ (p ++ 1 ∷ 1 ∷ 0 ∷ [])) ++ recordBytes 10 0 0 0 0 0 []
+
+-- such an operand: the number of these two bytes
+abbrev number : ℕ → ℕ → List ℕ
+number low high = 1 ∷ low ∷ high ∷ []
+
+-- Fresh's state where shared word 0 is 9
+abbrev nine : List ℕ → List ℕ
+nine image = freshState image table (pad 0 wordsSize (9 ∷ [])) zeros
 
 -- label 0: IF with this operator, of the numbers p and q, on to 1 or to 2; labels 1 and 2: EXIT
 abbrev comparing : ℕ → ℕ → ℕ → List ℕ
@@ -145,10 +153,18 @@ wholeList = arrivalBytes 0 [] ++ times 4 (turnBytes 2 0)
 -- ---- the trials
 
 pub record OnBytes : Type 0 where
-  -- "65,535 + 1 is 0": the presence set and register 0, before it 7; "0 - 1 is 65,535": the same, and shared word 0
-  pub sum : part (stateAfter (computing 2 2 255) 3 startAndStep) presenceSet 6 ≡ 1 ∷ 0 ∷ 0 ∷ 0 ∷ 0 ∷ 0 ∷ []
-  pub difference : part (stateAfter (computing 3 2 0) 3 startAndStep) presenceSet 6 ≡ 1 ∷ 0 ∷ 0 ∷ 0 ∷ 255 ∷ 255 ∷ []
-  pub difference-word : part (stateAfter (computing 3 3 0) 3 startAndStep) 0 2 ≡ 255 ∷ 255 ∷ []
+  -- "65,535 + 1 is 0": the presence set and register 0, before it 7
+  pub sum : part (stateAfter (computing 2 2 (number 255 255)) 3 startAndStep) presenceSet 6 ≡ 1 ∷ 0 ∷ 0 ∷ 0 ∷ 0 ∷ 0 ∷ []
+  -- "0 - 1: 8, 7", to register 0 and to shared word 0, before it 9: after it the state is Fresh's again
+  pub below-zero : answersTo (computing 3 2 (number 0 0)) 3 startAndStep ≡ 1 ∷ 0 ∷ 5 ∷ 0 ∷ 8 ∷ 7 ∷ []
+  pub below-zero-left : stateAfter (computing 3 2 (number 0 0)) 3 startAndStep ≡ initial (computing 3 2 (number 0 0))
+  pub below-zero-word :
+      runState (computing 3 3 (number 0 0)) table (nine (computing 3 3 (number 0 0))) startAndStep (replicate 6 0)
+      ≡ nine (computing 3 3 (number 0 0))
+  -- also: 1 - 1 is 0, in register 0, before it 7, and 256 - 1 is 255, in shared word 0; with the absent register 3 as p: 8, 1
+  pub no-difference : part (stateAfter (computing 3 2 (number 1 0)) 3 startAndStep) presenceSet 6 ≡ 1 ∷ 0 ∷ 0 ∷ 0 ∷ 0 ∷ 0 ∷ []
+  pub difference : part (stateAfter (computing 3 3 (number 0 1)) 3 startAndStep) 0 2 ≡ 255 ∷ 0 ∷ []
+  pub absent-first : answersTo (computing 3 2 (2 ∷ 3 ∷ 0 ∷ [])) 3 startAndStep ≡ 1 ∷ 0 ∷ 5 ∷ 0 ∷ 8 ∷ 1 ∷ []
   -- "RETURN in a job with no call: 8, 2"
   pub returns : answersTo returning 3 (arrivalBytes 0 [] ++ times 2 (turnBytes 2 0)) ≡ 1 ∷ 0 ∷ 5 ∷ 0 ∷ 8 ∷ 2 ∷ []
   -- "The eighth CALL moves on; the ninth: 8, 3"
@@ -227,8 +243,12 @@ unfolding num16 num32 part isZeros allFrom firstBad blocks pad chunks every labe
     walkOn walk holder awaits walkFrom metBytes metCount threadFault metLengthFault walkFault walkReturn walkMet
 onBytes = record {
   sum = refl;
+  below-zero = refl;
+  below-zero-left = refl;
+  below-zero-word = refl;
+  no-difference = refl;
   difference = refl;
-  difference-word = refl;
+  absent-first = refl;
   returns = refl;
   calls = refl;
   signals = refl;

@@ -2,10 +2,10 @@
 -- and its lock set stays as it is, `enters-with-its-lock`. Another thread that wants one of them meanwhile: it waits, answered 4 with the
 -- lock, and the one-by-one order is the same as if it had not asked, `waits-for-the-lock`. `holds-the-group` says that a job holds the lock
 -- as long as its label or a return label is in a block of the group.
-use mathlib.Core.Path.{_≡_, refl, sym, ap, _∙_, subst}
+use mathlib.Core.Path.{_≡_, refl, sym, ap, _∙_}
 use mathlib.Core.Logic.{_≢_}
 use mathlib.Core.Bool.{true}
-use mathlib.Core.List.{List, [], _∷_, _++_, map, map-append}
+use mathlib.Core.List.{List, [], _∷_, _++_}
 use Prim.Native.Nat.{ℕ, _<_}
 use Rattle.rules.specs.Sizes.{threadCount}
 use Rattle.rules.specs.Bytes.{has}
@@ -13,20 +13,17 @@ use Rattle.rules.specs.Image.{rowAt}
 use Rattle.rules.specs.Machine.{Job, running, Machine, threadAt, locksOf}
 use Rattle.rules.specs.Events.{Event, step, eventBytes}
 use Rattle.rules.specs.Answers.{Sort, out, code, detail, answerBytes, sortOfCode}
-use Rattle.rules.specs.Steps.{Rules, Move, Reply, rulesBy, applied, react, final}
-use Rattle.rules.specs.Order.{Sheet, noteAs, notesBy, blank, spread, orderBy, log, ByteEntry, byteOrder}
+use Rattle.rules.specs.Steps.{Rules, Move, Reply, rulesBy, applied, react}
+use Rattle.rules.specs.Order.{Sheet, noteAs, notesBy, blank, spread, orderBy, ByteEntry, byteOrder}
 use Rattle.rules.specs.Calls.{freshState}
-use Rattle.fields.specs.Each.{Each, each-front}
-use Rattle.laws.specs.EventLists.{log-append}
 use Rattle.soundness.specs.CheckedRules.{checked-laws}
 use Rattle.soundness.specs.Laws.{Needs, Laws}
-use Rattle.soundness.specs.Sound.{Sound}
-use Rattle.soundness.specs.StaysWellFormed.{Accepted, sound-final}
-use Rattle.one_by_one.specs.ByteOrder.{bytesOf}
+use Rattle.soundness.specs.Invariant.{Invariant}
 use Rattle.invariants.specs.Groups as groups
 use Rattle.invariants.specs.Groups.{Wants}
 use Rattle.calls_one_by_one.specs.CallList.{Run, Calls, eventList, eventsOf, OneByOneCalls}
 use Rattle.calls_one_by_one.specs.Whole as whole
+use Rattle.calls_one_by_one.specs.Reached.{entriesFrom, reached, entriesTo, sound, entries}
 
 -- an entry that is left out has no part in the second order
 module _ {A : Type 0} (f : A → Sort) (g : A → ℕ) where
@@ -43,51 +40,32 @@ module _ (image table words state : List ℕ) (runs : List Run) (calls : Calls i
   abbrev R : Rules
   R = rulesBy image table
 
-  -- the machine that the events before have left, and their entries
-  abbrev pub reached : List Event → Machine
-  reached before = final R (whole.first image table words state runs calls) before
+  abbrev to : List Event → List ByteEntry
+  to before = entriesTo image table words before
 
-  abbrev pub entriesTo : List Event → List ByteEntry
-  entriesTo before = map bytesOf (log R (whole.first image table words state runs calls) before)
-
-  abbrev pub entriesFrom : Machine → List Event → List ByteEntry
-  entriesFrom s after = map bytesOf (log R s after)
+  abbrev from : Machine → List Event → List ByteEntry
+  from s after = entriesFrom image table s after
 
   -- after these events a step of thread t was answered 4 with the lock of block c, and changed nothing; the second order is that of the
   -- other events, and it reads as the calls do
   pub record Waited (c : ℕ) (before after : List Event) (t : ℕ) : Type 0 where
     pub list : eventList runs
-        ≡ entriesTo before ++ record { event = eventBytes (step t); answer = 4 ∷ rowAt table c .lock ∷ [] }
-        ∷ entriesFrom (reached before) after
-    pub order : byteOrder (eventList runs) ≡ byteOrder (entriesTo before ++ entriesFrom (reached before) after)
+        ≡ to before ++ record { event = eventBytes (step t); answer = 4 ∷ rowAt table c .lock ∷ [] }
+        ∷ from (reached image table words before) after
+    pub order : byteOrder (eventList runs) ≡ byteOrder (to before ++ from (reached image table words before) after)
     pub reading : OneByOneCalls image table (freshState image table words state) runs
 
   module _ (before after : List Event) (t : ℕ) (split : eventsOf (eventList runs) ≡ before ++ step t ∷ after) where
     abbrev s : Machine
-    s = reached before
+    s = reached image table words before
 
-    parted : whole.joint image table words state runs calls ≡ before ++ step t ∷ after
-    parted = sym (whole.listed image table words state runs calls) ∙ split
+    invariant : Invariant R s
+    invariant = sound image table words state runs calls before after t split .invariant
 
-    sound : Sound image table s
-    sound =
-        sound-final image table (whole.checked image table words state runs calls) _ before
-        (whole.first-good image table words state runs calls .sound)
-        (each-front (Accepted image) before (step t ∷ after)
-        (subst (Each (Accepted image)) parted (whole.all image table words state runs calls .each)))
-
-    -- the event list, with the reply to this event
-    entries : (r : Reply) → react R s (step t) ≡ r
+    told : (r : Reply) → react R s (step t) ≡ r
         → eventList runs
-        ≡ entriesTo before ++ record { event = eventBytes (step t); answer = answerBytes (r .answer) } ∷ entriesFrom (r .state) after
-    unfolding log final
-    entries r e =
-        whole.entries image table words state runs calls
-        ∙ ap (λ z. map bytesOf (log R (reached []) z)) parted
-        ∙ ap (map bytesOf) (log-append R (reached []) before (step t ∷ after))
-        ∙ map-append bytesOf (log R (reached []) before) _
-        ∙ ap (λ (z : Reply). entriesTo before
-        ++ record { event = eventBytes (step t); answer = answerBytes (z .answer) } ∷ entriesFrom (z .state) after) e
+        ≡ to before ++ record { event = eventBytes (step t); answer = answerBytes (r .answer) } ∷ from (r .state) after
+    told = entries image table words state runs calls before after t split
 
     laws : Laws R
     laws = checked-laws image table (whole.checked image table words state runs calls)
@@ -96,29 +74,29 @@ module _ (image table words state : List ℕ) (runs : List Run) (calls : Calls i
     pub holds-the-group : (u b c locks : ℕ) (j : Job) → threadAt s u ≡ running locks j → Needs R j b
         → rowAt table b .lock ≡ rowAt table c .lock
         → has (rowAt table c .lock) locks ≡ true
-    holds-the-group u b c locks j = groups.holds-the-group R laws s (sound .invariant) u b c locks j
+    holds-the-group u b c locks j = groups.holds-the-group R laws s invariant u b c locks j
 
     module _ (c : ℕ) (m : Move) (wants : Wants R s t c m) where
       -- A THREAD THAT HOLDS THE LOCK OF A BLOCK ENTERS IT WITHOUT WAITING, AND ITS LOCK SET STAYS AS IT IS
       pub enters-with-its-lock : (locks : ℕ) (j : Job) → t < threadCount → threadAt s t ≡ running locks j
           → has (rowAt table c .lock) locks ≡ true
-          → (eventList runs ≡ entriesTo before ++ record { event = eventBytes (step t); answer = 6 ∷ 0 ∷ [] }
-          ∷ entriesFrom (applied R t m s) after) × (locksOf (threadAt (applied R t m s) t) ≡ locks)
+          → (eventList runs ≡ to before ++ record { event = eventBytes (step t); answer = 6 ∷ 0 ∷ [] }
+          ∷ from (applied R t m s) after) × (locksOf (threadAt (applied R t m s) t) ≡ locks)
       unfolding answerBytes code detail
       enters-with-its-lock locks j inside busy own =
-          let r = groups.enters-with-its-lock R laws s (sound .invariant) t c locks j m inside busy own wants in (
-            entries _ r,
+          let r = groups.enters-with-its-lock R laws s invariant t c locks j m inside busy own wants in (
+            told _ r,
             ap (λ (z : Reply). locksOf (threadAt (z .state) t)) (sym r)
-                ∙ groups.lock-set-stays R laws s (sound .invariant) t c locks j m inside busy own wants,
+                ∙ groups.lock-set-stays R laws s invariant t c locks j m inside busy own wants,
           )
 
       -- A THREAD THAT WANTS A BLOCK WHOSE LOCK ANOTHER HOLDS: IT WAITS, AND THE ONE-BY-ONE ORDER IS THE SAME
       pub waits-for-the-lock : (u : ℕ) → u ≢ t → has (rowAt table c .lock) (locksOf (threadAt s u)) ≡ true → Waited c before after t
       unfolding answerBytes code detail byteOrder sortOfCode
       waits-for-the-lock u n held =
-          let r = groups.waits-for-the-lock R laws s (sound .invariant) t u c m n held wants in
+          let r = groups.waits-for-the-lock R laws s invariant t u c m n held wants in
           record {
-            list = entries _ r;
-            order = ap byteOrder (entries _ r) ∙ left-out _ _ (entriesTo before) (entriesFrom s after) _ refl;
+            list = told _ r;
+            order = ap byteOrder (told _ r) ∙ left-out _ _ (to before) (from s after) _ refl;
             reading = whole.calls-one-by-one image table words state runs calls;
           }

@@ -6,5 +6,7 @@ pub mod Accepted
 pub mod Joined
 pub mod Ordered
 pub mod Whole
+pub mod Reached
 pub mod Jobs
 pub mod Groups
+pub mod Subtraction

@@ -1,9 +1,13 @@
 -- Two operands read, and what is worked out from them.
 use mathlib.Core.Path.{_≡_, refl}
 use mathlib.Core.List.{List, [], _∷_}
-use Prim.Native.Nat.{ℕ}
-use Rattle.rules.specs.Effects.{Got, trap, got, Cells, read, readAll, Results}
+use Prim.Native.Nat.{ℕ, _-_, _<_, _≤_}
+use native.Mathlib.Omega.{arith}
+use borrow.Author.Tests.{lt-ltb, le-ltb}
+use Rattle.rules.specs.Codes.{belowZeroCode}
+use Rattle.rules.specs.Effects.{Got, trap, got, Cells, read, readAll, Results, one, compute}
 use Rattle.rules.specs.declared.statement.Operand.{Operand}
+use Rattle.rules.specs.declared.statement.Operation.the-variants.{Subtract}
 use Rattle.operands.specs.declared.Pair.{Pair}
 use Rattle.operands.specs.declared.Computation.{Computation}
 
@@ -18,6 +22,17 @@ pub record Computes (g : Got Results) (d : Computation) : Type 0 where
 pub computes-one : (g : Got Results) (d : Computation) → g ≡ got (record { first = d .first; second = d .second }) → d .trap ≡ 0
     → Computes g d
 computes-one g d e z = record { values = λ q. e; trapped = λ n. absurd (n z) }
+
+pub computes-none : (g : Got Results) (d : Computation) → g ≡ trap (d .trap) → 0 < d .trap → Computes g d
+computes-none g d e z = record { values = λ q. absurd (omega arith); trapped = λ n. e }
+
+-- a difference, where q is above p and where it is not
+module _ (p q : ℕ) (d : Computation) where
+  pub below-zero : p < q → Computes (trap belowZeroCode) d → Computes (compute Subtract p q) d
+  below-zero h k = rw (lt-ltb p q h) k
+
+  pub not-below-zero : q ≤ p → Computes (one (p - q)) d → Computes (compute Subtract p q) d
+  not-below-zero h k = rw (le-ltb p q h) k
 
 module _ (c : Cells) where
   pub pair-trap : (p q : Operand) (r : ℕ) → read c p ≡ trap r → readAll c (p ∷ q ∷ []) ≡ trap r

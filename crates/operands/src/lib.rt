@@ -6,6 +6,7 @@ use fields::read::wide;
 use image::record_fields::block_field;
 use image::record_fields::operand_count;
 use rules::codes::ABSENT_REGISTER;
+use rules::codes::BELOW_ZERO;
 use rules::codes::NUMBER_OPERAND;
 use rules::codes::REGISTER_OPERAND;
 use rules::sorts::Block;
@@ -21,7 +22,8 @@ ghost use lib.ListN.{length};
 ghost use Rattle.rules.specs.Sizes.{blockCount, operandCount, recordSize, stateSize};
 ghost use Rattle.rules.specs.Image.{operands};
 ghost use Rattle.rules.specs.Statements.{operandOf, operandAt, dataOf};
-ghost use Rattle.rules.specs.Effects.{one, compute, read, readAll};
+ghost use Rattle.rules.specs.Effects.{trap, one, compute, read, readAll};
+ghost use Rattle.rules.specs.declared.statement.Operation.the-variants.{Subtract};
 ghost use Rattle.operands.specs.Readings.{readingOf, Reads};
 ghost use Rattle.operands.specs.Legal.{Fits, Readable};
 ghost use Rattle.operands.specs.Cells.{cellsFrom, cellsOf};
@@ -179,13 +181,35 @@ pub struct Computation {
 }
 
 // One value, for the first destination.
-pub fn one_result(v: u16) -> Computation
+fn one_result(v: u16) -> Computation
     ensures { λ r. ⌜ Computes (one v) r ⌝ }
 {
     Computation {
         first: v,
         second: 0,
         trap: 0,
+    }
+}
+
+// No value, but a trap.
+fn no_result(reason: u8) -> Computation
+    requires { ⌜ 0 < reason ⌝ }
+    ensures { λ r. ⌜ Computes (trap reason) r ⌝ }
+{
+    Computation {
+        first: 0,
+        second: 0,
+        trap: reason,
+    }
+}
+
+fn difference(p: u16, q: u16) -> Computation
+    ensures { λ r. ⌜ Computes (compute Subtract p q) r ⌝ }
+{
+    if p < q {
+        no_result(BELOW_ZERO)
+    } else {
+        one_result(p - q)
     }
 }
 
@@ -197,7 +221,7 @@ pub fn computed(o: Operation, p: u16, q: u16) -> Computation
     match o {
         Operation::Copy => one_result(p),
         Operation::Add => one_result(((left + right) % 65536) as u16),
-        Operation::Subtract => one_result(((left + 65536 - right) % 65536) as u16),
+        Operation::Subtract => difference(p, q),
         Operation::Multiply => one_result((left * right % 65536) as u16),
     }
 }

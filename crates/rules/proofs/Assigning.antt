@@ -1,28 +1,40 @@
--- A step at a record of ASSIGN: the value that it stores in a register, or in a word of its block, over any operands and operator.
-use mathlib.Core.Path.{_≡_, refl, _∙_}
-use mathlib.Core.Bool.{true, false}
-use mathlib.Core.Option.{none, some}
+-- A step at a record of ASSIGN: the value that it stores in a register, or in a word of its block, over any operands and operator; and
+-- its traps, which store nothing.
+use mathlib.Core.Path.{_≡_, refl, ap, _∙_}
+use mathlib.Core.Logic.{_⊎_, inl, inr}
+use mathlib.Core.Bool.{Bool, true, false, cond}
+use mathlib.Core.Option.{Option, none, some}
 use mathlib.Core.List.{List, [], _∷_}
 use Prim.Native.Nat.{ℕ, zero, suc, _+_, _*_, _%_, _-_, _<_}
 use native.Mathlib.Nat.{add-zero}
 use native.Mathlib.Omega.{arith}
+use lib.Dec.{ltb}
 use lib.ListN.{length, getD, set, length-set}
 use lib.Seq.{getD-set-same, getD-set-other}
+use borrow.Author.Tests.{lt-ltb, le-ltb}
 use Rattle.rules.specs.Sizes.{wordCount}
 use Rattle.rules.specs.Codes.{assignCode, addCode, subtractCode, multiplyCode}
 use Rattle.rules.specs.Image.{recordAt, opcode, operator}
 use Rattle.rules.specs.Statements.{operandAt, operationAt, shape, optional, assignmentBy, assignmentOf, statementOf}
-use Rattle.rules.specs.Machine.{Job, job, withHeld, running, Machine, threadAt, cells, stores, window, keep}
-use Rattle.rules.specs.Effects.{got, Cells, read, readAll, one, compute, store, perform}
-use Rattle.rules.specs.Steps.{Reply, blockAt, blocked}
+use Rattle.rules.specs.Machine.{Job, job, withHeld, idle, running, Machine, threadAt, cells, stores, window, keep}
+use Rattle.rules.specs.Answers.{code, detail}
+use Rattle.rules.specs.Events.{step}
+use Rattle.rules.specs.Effects.{trap, got, Cells, read, readAll, one, compute, store, perform}
+use Rattle.rules.specs.Steps.{Reply, blockAt, rulesBy, blocked}
 use Rattle.rules.specs.declared.statement.Operand.{Operand}
-use Rattle.rules.specs.declared.statement.Operand.the-variants.{Register, Word}
+use Rattle.rules.specs.declared.statement.Operand.the-variants.{Number, Register, Word}
 use Rattle.rules.specs.declared.statement.Operation.{Operation}
 use Rattle.rules.specs.declared.statement.Operation.the-variants.{Add, Subtract, Multiply}
 use Rattle.rules.specs.declared.statement.Assignment.{Assignment}
 use Rattle.rules.specs.declared.statement.Statement.the-variants.{Assign}
-use Rattle.rules.proofs.Running.{cellsOf, Runs, Answered, MovesOn, moves-on, own-words}
+use Rattle.rules.specs.declared.answer.Answer.the-variants.{Trapped}
+use Rattle.rules.proofs.Running.{cellsOf, Runs, Answered, answered, MovesOn, unread, trapped, moves-on, own-words}
 use Rattle.rules.proofs.Opcodes.{stepOf, A, register}
+use Rattle.rules.proofs.Ends.{ends, trap-state}
+
+-- operand i of the record at a job's label
+abbrev source : List ℕ → Job → ℕ → Operand
+source image j i = operandAt (recordAt image (j .label)) i
 
 -- thread t holds these locks and runs this job, at whose label a record of ASSIGN with this operator stands: operand 0 is the
 -- destination d, and operands 1 and 2 are read as p and q
@@ -33,6 +45,15 @@ pub record Assigns (image : List ℕ) (s : Machine) (t locks : ℕ) (j : Job) (o
   pub destination : operandAt (recordAt image (j .label)) 0 ≡ d
   pub left : read (cellsOf image s j) (operandAt (recordAt image (j .label)) 1) ≡ got p
   pub right : read (cellsOf image s j) (operandAt (recordAt image (j .label)) 2) ≡ got q
+
+-- the same with an absent register r as operand i, which is 1 or 2
+pub record ReadsAbsent (image : List ℕ) (s : Machine) (t locks : ℕ) (j : Job) (o i r : ℕ) : Type 0 where
+  pub thread : threadAt s t ≡ running locks j
+  pub assign : opcode (recordAt image (j .label)) ≡ assignCode
+  pub operation : operator (recordAt image (j .label)) ≡ o
+  pub place : (i ≡ 1) ⊎ (i ≡ 2)
+  pub source : operandAt (recordAt image (j .label)) i ≡ Register r
+  pub absent : getD (j .registers) r none ≡ none
 
 -- an answer of 6, 0, after which register r of thread t has this value; and the same of a shared word
 pub record InRegister (reply : Reply) (t r v : ℕ) : Type 0 where
@@ -49,6 +70,12 @@ pub record Stores (image table : List ℕ) (s : Machine) (t locks : ℕ) (j : Jo
       → InRegister (stepOf image table s t) t r v
   pub word : (w : ℕ) → w < wordCount → wordCount * blockAt image (j .label) + w < length (s .words)
       → Assigns image s t locks j o (Word w) p q → InWord (stepOf image table s t) (wordCount * blockAt image (j .label) + w) v
+
+-- an answer of 8 with this reason, after which no word has changed, and thread t is idle
+pub record TrapsWith (reply : Reply) (s : Machine) (t reason : ℕ) : Type 0 where
+  pub answer : Answered reply 8 reason
+  pub words : reply .state .words ≡ s .words
+  pub thread : threadAt (reply .state) t ≡ idle
 
 -- ---- the words of a block, written and read
 
@@ -86,14 +113,37 @@ kept b w v words h l =
     (omega (arith, length-set (cells wordCount (wordCount * b) words) w v)) l
     ∙ getD-set-same (cells wordCount (wordCount * b) words) w v 0 (omega arith)
 
+-- ---- traps
+
+-- a trap stores nothing
+traps-with : (image table : List ℕ) (s : Machine) (t locks : ℕ) (j : Job) (reason : ℕ) → threadAt s t ≡ running locks j
+    → stepOf image table s t .answer ≡ Trapped reason → TrapsWith (stepOf image table s t) s t reason
+unfolding code detail
+traps-with image table s t locks j reason runs e = record {
+  answer = answered (stepOf image table s t) (Trapped reason) e;
+  words = ap (λ (m : Machine). m .words) (trap-state (rulesBy image table) s t locks reason j runs e);
+  thread = ends (rulesBy image table) s (step t) t refl (rw e);
+}
+
+-- an absent register read second: whatever was read first, the trap is that of an absent register
+second-absent : (c : Cells) (p q : Operand) → read c q ≡ trap 1 → readAll c (p ∷ q ∷ []) ≡ trap 1
+unfolding readAll
+second-absent c (Number v) q e = rw e
+second-absent c (Register r) q e = case (getD (c .registers) r none) refl
+  where
+    case : (o : Option ℕ) → getD (c .registers) r none ≡ o → readAll c (Register r ∷ q ∷ []) ≡ trap 1
+    case none f = rw f
+    case (some v) f = rw (f, e)
+second-absent c (Word w) q e = rw e
+
 -- ---- an operation with the sources p and q and one destination
 
-module _ (image table : List ℕ) (s : Machine) (t locks : ℕ) (j : Job) (o p q v : ℕ) (k : Operation) where
+module _ (image table : List ℕ) (s : Machine) (t locks : ℕ) (j : Job) (o : ℕ) (k : Operation) (named : operationAt assignCode o ≡ some k)
+    (binary : shape k ≡ record { second = false; right = true }) where
   abbrev a : Assignment
   a = assignmentOf k (recordAt image (j .label))
 
-  module _ (named : operationAt assignCode o ≡ some k) (binary : shape k ≡ record { second = false; right = true })
-      (computed : compute k p q ≡ one v) (d : Operand) (h : Assigns image s t locks j o d p q) where
+  module _ (p q : ℕ) (d : Operand) (h : Assigns image s t locks j o d p q) where
     runs : Runs image s t locks j (Assign a) (p ∷ q ∷ [])
     unfolding statementOf readAll assignmentBy optional
     runs = record {
@@ -102,45 +152,78 @@ module _ (image table : List ℕ) (s : Machine) (t locks : ℕ) (j : Job) (o p q
       reading = rw (binary, h .left, h .right);
     }
 
-    abbrev left : Cells
-    left = store d v (cellsOf image s j)
+    module _ (v : ℕ) (computed : compute k p q ≡ one v) where
+      abbrev left : Cells
+      left = store d v (cellsOf image s j)
 
-    abbrev next : Job
-    next = withHeld (j .held) (job (A image j) (j .returns) (left .registers))
+      abbrev next : Job
+      next = withHeld (j .held) (job (A image j) (j .returns) (left .registers))
 
-    after : MovesOn (stepOf image table s t) t locks next
-    unfolding perform blocked assignmentBy optional
-    after = moves-on image table runs next (left .words) none none (rw (computed, binary, h .destination)) refl
+      after : MovesOn (stepOf image table s t) t locks next
+      unfolding perform blocked assignmentBy optional
+      after = moves-on image table runs next (left .words) none none (rw (computed, binary, h .destination)) refl
 
-    words : stepOf image table s t .state .words ≡ keep (blockAt image (j .label)) (left .words) (s .words)
-    unfolding perform blocked assignmentBy optional
-    words = own-words image table runs next (left .words) none none (rw (computed, binary, h .destination)) refl
+      words : stepOf image table s t .state .words ≡ keep (blockAt image (j .label)) (left .words) (s .words)
+      unfolding perform blocked assignmentBy optional
+      words = own-words image table runs next (left .words) none none (rw (computed, binary, h .destination)) refl
 
-  stores-value : operationAt assignCode o ≡ some k → shape k ≡ record { second = false; right = true } → compute k p q ≡ one v
-      → Stores image table s t locks j o p q v
-  stores-value named binary computed = record {
+    traps : (reason : ℕ) → compute k p q ≡ trap reason → TrapsWith (stepOf image table s t) s t reason
+    unfolding perform assignmentBy optional
+    traps reason computed = traps-with image table s t locks j reason (h .thread) (trapped image table runs reason (rw computed))
+
+  stores-value : (p q v : ℕ) → compute k p q ≡ one v → Stores image table s t locks j o p q v
+  stores-value p q v computed = record {
     register = λ r l h.
-        let m = after named binary computed (Register r) h in
+        let m = after p q (Register r) h v computed in
         record { answer = m .answer; value = rw (m .thread) (getD-set-same (j .registers) r (some v) none l) };
     word = λ w l n h.
-        let m = after named binary computed (Word w) h in
-        let e = words named binary computed (Word w) h in
+        let m = after p q (Word w) h v computed in
+        let e = words p q (Word w) h v computed in
         record { answer = m .answer; value = rw e (kept (blockAt image (j .label)) w v (s .words) l n) };
   }
 
--- ---- add, subtract and multiply, each modulo 65,536
+  -- an absent register is found before anything is computed
+  reads-absent : (i r : ℕ) → ReadsAbsent image s t locks j o i r → TrapsWith (stepOf image table s t) s t 1
+  unfolding statementOf readAll assignmentBy optional
+  reads-absent i r h =
+      traps-with image table s t locks j 1 (h .thread)
+      (unread image table s t locks j (Assign a) 1 (h .thread) (rw (h .assign, h .operation, named)) (rw binary (either (h .place))))
+    where
+      either : (i ≡ 1) ⊎ (i ≡ 2) → readAll (cellsOf image s j) (source image j 1 ∷ source image j 2 ∷ []) ≡ trap 1
+      either (inl e) = let f : source image j 1 ≡ Register r = rw e at (h .source) in rw (f, h .absent)
+      either (inr e) =
+          let f : source image j 2 ≡ Register r = rw e at (h .source) in
+          second-absent (cellsOf image s j) (source image j 1) (source image j 2) (rw (f, h .absent))
+
+-- ---- add and multiply, each modulo 65,536
 
 module _ (image table : List ℕ) (s : Machine) (t locks : ℕ) (j : Job) (p q v m : ℕ) (small : v < 65536) where
   pub sum : p + q ≡ v + 65536 * m → Stores image table s t locks j addCode p q v
   unfolding operationAt
-  sum e = let r : (p + q) % 65536 ≡ v = omega arith in stores-value image table s t locks j addCode p q v Add refl refl (rw r)
-
-  pub difference : p < 65536 → q < 65536 → v + q ≡ p + 65536 * m → Stores image table s t locks j subtractCode p q v
-  unfolding operationAt
-  difference hp hq e =
-      let r : (p + 65536 - q) % 65536 ≡ v = omega arith in
-      stores-value image table s t locks j subtractCode p q v Subtract refl refl (rw r)
+  sum e = let r : (p + q) % 65536 ≡ v = omega arith in stores-value image table s t locks j addCode Add refl refl p q v (ap one r)
 
   pub product : p * q ≡ v + 65536 * m → Stores image table s t locks j multiplyCode p q v
   unfolding operationAt
-  product e = let r : p * q % 65536 ≡ v = omega arith in stores-value image table s t locks j multiplyCode p q v Multiply refl refl (rw r)
+  product e = let r : p * q % 65536 ≡ v = omega arith in stores-value image table s t locks j multiplyCode Multiply refl refl p q v (ap one r)
+
+-- ---- subtract, which goes no further than zero
+
+worked : (p q : ℕ) (b : Bool) → ltb p q ≡ b → compute Subtract p q ≡ cond b (trap 7) (one (p - q))
+worked p q b e = ap (λ c. cond c (trap 7) (one (p - q))) e
+
+module _ (image table : List ℕ) (s : Machine) (t locks : ℕ) (j : Job) where
+  pub difference : (p q v : ℕ) → v + q ≡ p → Stores image table s t locks j subtractCode p q v
+  unfolding operationAt
+  difference p q v e =
+      let r : p - q ≡ v = omega arith in
+      let above : ltb p q ≡ false = le-ltb p q (omega arith) in
+      stores-value image table s t locks j subtractCode Subtract refl refl p q v (worked p q false above ∙ ap one r)
+
+  pub below-zero : (p q : ℕ) → p < q → (d : Operand) → Assigns image s t locks j subtractCode d p q
+      → TrapsWith (stepOf image table s t) s t 7
+  unfolding operationAt
+  below-zero p q l d h = traps image table s t locks j subtractCode Subtract refl refl p q d h 7 (worked p q true (lt-ltb p q l))
+
+  pub absent-first : (i r : ℕ) → ReadsAbsent image s t locks j subtractCode i r → TrapsWith (stepOf image table s t) s t 1
+  unfolding operationAt
+  absent-first = reads-absent image table s t locks j subtractCode Subtract refl refl

@@ -1,7 +1,8 @@
 -- The steps of a running thread that the trials are about, each over the number: of return labels, of pending and held signals, of
 -- values.
 use mathlib.Core.Path.{_≡_, refl, ap, _∙_}
-use mathlib.Core.Bool.{Bool, true, false, cond}
+use mathlib.Core.Logic.{_≢_}
+use mathlib.Core.Bool.{Bool, true, false, cond, and-false}
 use mathlib.Core.Option.{Option, none, some}
 use mathlib.Core.List.{List, [], _∷_, _++_, map}
 use Prim.Native.Nat.{ℕ, zero, suc, _+_, _-_, _^_, _<_, _≤_}
@@ -9,9 +10,10 @@ use native.Mathlib.Omega.{arith}
 use lib.Bits.{bitOr}
 use lib.ListN.{length, getD, drop, replicate, length-map}
 use lib.Seq.{getD-append-add, getD-drop}
-use borrow.Author.Tests.{le-leb, lt-leb}
+use lib.Dec.{eqb}
+use borrow.Author.Tests.{le-leb, lt-leb, eq-eqb, ne-eqb}
 use Rattle.rules.specs.Sizes.{registerCount, returnCount, heldCount, pendingCount}
-use Rattle.rules.specs.Image.{recordAt, labelA, labelB, rowAt}
+use Rattle.rules.specs.Image.{recordAt, labelA, labelB, Row, rowAt}
 use Rattle.rules.specs.Machine.{Signal, Job, job, withHeld, ThreadState, idle, running, Machine, threadAt, fill, first, put}
 use Rattle.rules.specs.Events.{step}
 use Rattle.rules.specs.Effects.{holds, perform}
@@ -31,6 +33,19 @@ stepOf image table s t = react (rulesBy image table) s (step t)
 pub record Open (image table : List ℕ) (s : Machine) (t a : ℕ) : Type 0 where
   pub own : alien (rowAt table (blockAt image a)) t ≡ false
   pub free : blocked (rulesBy image table) t (s .threads) (some (blockAt image a)) ≡ none
+
+-- an FD block of another thread is alien; a CMX block and a block of its own are not
+pub foreign : (r : Row) (t : ℕ) → r .kind ≡ 0 → r .thread ≢ t → alien r t ≡ true
+unfolding alien
+foreign r t k h = rw (k, ne-eqb (r .thread) t h)
+
+pub cmx : (r : Row) (t : ℕ) → r .kind ≡ 1 → alien r t ≡ false
+unfolding alien
+cmx r t k = rw k
+
+pub own : (r : Row) (t : ℕ) → r .thread ≡ t → alien r t ≡ false
+unfolding alien
+own r t h = rw (eq-eqb (r .thread) t h) (and-false (eqb (r .kind) 0))
 
 -- labels A and B of the record at a job's label
 abbrev pub A : List ℕ → Job → ℕ

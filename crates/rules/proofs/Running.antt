@@ -13,7 +13,7 @@ use Rattle.rules.specs.Statements.{statementOf, reads, dataOf}
 use Rattle.rules.specs.Machine.{Signal, Job, ThreadState, idle, running, Machine, threadAt, first, put, window, keep}
 use Rattle.rules.specs.Answers.{code, detail, answerBytes}
 use Rattle.rules.specs.Events.{step}
-use Rattle.rules.specs.Effects.{got, Cells, readAll, perform, outcome}
+use Rattle.rules.specs.Effects.{trap, got, Cells, readAll, perform, outcome}
 use Rattle.rules.specs.Steps.{Effect, traps, exits, moves, resolve, view, blockAt, actBy, rulesBy, Reply, added, pendingOf}
 use Rattle.rules.specs.Steps.{exiting, planRunning, planStep, plan, blocked, grant, applied, attempt, carry}
 use Rattle.rules.specs.Steps.{react}
@@ -60,6 +60,14 @@ module _ (image table : List ℕ) (s : Machine) (t : ℕ) (j : Job) where
       let r = recordAt image (j .label) in
       resolve (blockAt image) (rowAt table) t (j .returns) (j .held) (labelA r) (labelB r)
       (perform (view j (wordsOf image s j) (length (pendingOf (first t (s .trees))))) x values)
+
+-- a statement of which an operand cannot be read
+pub unread : (image table : List ℕ) (s : Machine) (t locks : ℕ) (j : Job) (x : Statement) (reason : ℕ) → threadAt s t ≡ running locks j
+    → statementOf (recordAt image (j .label)) ≡ x
+    → readAll (cellsOf image s j) (reads x (dataOf (recordAt image (j .label)))) ≡ trap reason
+    → react (rulesBy image table) s (step t) .answer ≡ Trapped reason
+unfolding react plan planStep planRunning carry actBy outcome
+unread image table s t locks j x reason runs statement e = rw (runs, statement, e)
 
 module _ (image table : List ℕ) {s : Machine} {t locks : ℕ} {j : Job} {x : Statement} {values : List ℕ}
     (r : Runs image s t locks j x values) where

@@ -4,7 +4,7 @@
 -- bytes besides, in crate byte_trials.
 use mathlib.Core.Path.{_≡_, refl, ap, _∙_}
 use mathlib.Core.Logic.{_≢_}
-use mathlib.Core.Bool.{true, false, cond, and-false}
+use mathlib.Core.Bool.{true, false, cond}
 use mathlib.Core.Option.{Option, none, some}
 use mathlib.Core.List.{List, [], _∷_, _++_, map}
 use Prim.Native.Nat.{ℕ, _+_, _*_, _-_, _^_, _<_, _≤_}
@@ -14,7 +14,7 @@ use lib.ListN.{length, getD, set, take, drop, length-map, length-drop}
 use lib.Dec.{eqb}
 use borrow.Author.Tests.{lt-ltb, le-ltb, eq-eqb, ne-eqb}
 use Rattle.rules.specs.Bytes.{num16, num32, firstBad, blocks, pad, chunks, has}
-use Rattle.rules.specs.Image.{Row, rowAt}
+use Rattle.rules.specs.Image.{rowAt}
 use Rattle.rules.specs.Codes.{addCode, subtractCode, multiplyCode}
 use Rattle.rules.specs.Check.{firstOf, imageFaults}
 use Rattle.rules.specs.Machine.{Signal, Tree, Job, job, withHeld, ThreadState, idle, running, Machine, threadAt, locksOf, jobOf, fill}
@@ -23,10 +23,11 @@ use Rattle.rules.specs.Encoding.{threadRaw, threadBytes, encode, machine
 use Rattle.rules.specs.Answers.{code, detail, close, sort}
 use Rattle.rules.specs.Events.{Event, arrive, step, cut, threadOf, eventsFrom}
 use Rattle.rules.specs.Sorts
-use Rattle.rules.specs.Steps.{Rules, Move, move, rulesBy, newest, older, alien, blockAt, held, blocked}
+use Rattle.rules.specs.Steps.{Rules, Move, move, rulesBy, newest, older, blockAt, held, blocked}
 use Rattle.rules.specs.Steps.{planArrive, plan, exiting, carry, react, final, grown, founded, requeued, finished, admitted, lost}
 use Rattle.rules.specs.Walk.{walk, metCount}
 use Rattle.rules.specs.Calls.{stateLengthFault, stateFault, eventsLengthFault, eventFault, answersLengthFault, runReturn, runState}
+use Rattle.rules.specs.declared.statement.Operand.{Operand}
 use Rattle.rules.specs.declared.statement.Relation.the-variants.{Equal, Less}
 use Rattle.rules.specs.declared.statement.Condition.{Condition}
 use Rattle.rules.specs.declared.statement.Statement.the-variants.{If, SendDirect, SendBuffered, Call, Return, Transfer, Exit}
@@ -36,7 +37,8 @@ use Rattle.rules.proofs.Running.{Runs, Answered, answered, MovesOn}
 use Rattle.rules.proofs.Opcodes as opcodes
 use Rattle.rules.proofs.Opcodes.{stepOf, Open, A, B, register}
 use Rattle.rules.proofs.Ends.{ends, locks-kept, starts-nothing, trap-state, cut-answer, cut-state, cut-idle}
-use Rattle.rules.proofs.Assigning.{Stores, sum, difference, product}
+use Rattle.rules.proofs.Assigning as assigning
+use Rattle.rules.proofs.Assigning.{Assigns, ReadsAbsent, Stores, TrapsWith}
 use Rattle.rules.proofs.Waits as waits
 use Rattle.rules.proofs.Founding.{founds, two-appended, one-appended}
 
@@ -46,19 +48,6 @@ pub record Cleared (w : ThreadState) : Type 0 where
   pub returns : getD (threadBytes w) 4 0 ≡ 0
   pub presence : num32 (drop 21 (threadBytes w)) ≡ 0
   pub held : getD (threadBytes w) 75 0 ≡ 0
-
--- an FD block of another thread is alien; a CMX block and a block of its own are not
-foreign : (r : Row) (t : ℕ) → r .kind ≡ 0 → r .thread ≢ t → alien r t ≡ true
-unfolding alien
-foreign r t k h = rw (k, ne-eqb (r .thread) t h)
-
-cmx : (r : Row) (t : ℕ) → r .kind ≡ 1 → alien r t ≡ false
-unfolding alien
-cmx r t k = rw k
-
-own : (r : Row) (t : ℕ) → r .thread ≡ t → alien r t ≡ false
-unfolding alien
-own r t h = rw (eq-eqb (r .thread) t h) (and-false (eqb (r .kind) 0))
 
 cleared-idle : (w : ThreadState) → w ≡ idle → Cleared w
 unfolding num16 num32 blocks pad threadRaw threadBytes
@@ -125,10 +114,14 @@ pub record Trials (image table : List ℕ) (s : Machine) (t locks : ℕ) (j : Jo
   -- "65,535 + 1 is 0": a step at a record of ASSIGN, operator 2, of this p and q stores this; and of any p and q their sum modulo 65,536
   pub sum-wraps : Stores image table s t locks j addCode 65535 1 0
   pub sums : (p q v m : ℕ) → v < 65536 → p + q ≡ v + 65536 * m → Stores image table s t locks j addCode p q v
-  -- "0 - 1 is 65,535": operator 3, and the same of any p and q
-  pub difference-wraps : Stores image table s t locks j subtractCode 0 1 65535
-  pub differences : (p q v m : ℕ) → v < 65536 → p < 65536 → q < 65536 → v + q ≡ p + 65536 * m
-      → Stores image table s t locks j subtractCode p q v
+  -- "0 - 1: 8, 7": operator 3, whatever the destination: no word changes, and the thread is idle; and the same of any p below q. For q up
+  -- to p the difference is stored, 0 where they are equal. An absent register is found first: 8, 1
+  pub zero-minus-one : (d : Operand) → Assigns image s t locks j subtractCode d 0 1 → TrapsWith (stepOf image table s t) s t 7
+  pub below-zero : (p q : ℕ) → p < q → (d : Operand) → Assigns image s t locks j subtractCode d p q
+      → TrapsWith (stepOf image table s t) s t 7
+  pub differences : (p q v : ℕ) → v + q ≡ p → Stores image table s t locks j subtractCode p q v
+  pub no-difference : (p : ℕ) → Stores image table s t locks j subtractCode p p 0
+  pub absent-first : (i r : ℕ) → ReadsAbsent image s t locks j subtractCode i r → TrapsWith (stepOf image table s t) s t 1
   -- "RETURN in a job with no call: 8, 2"
   pub return-without-call : Runs image s t locks j Return values → j .returns ≡ [] → Answered (stepOf image table s t) 8 2
   -- "The eighth CALL moves on; the ninth: 8, 3"
@@ -235,10 +228,13 @@ pub record Trials (image table : List ℕ) (s : Machine) (t locks : ℕ) (j : Jo
 pub trials : (image table : List ℕ) (s : Machine) (t locks : ℕ) (j : Job) (values : List ℕ) → Trials image table s t locks j values
 unfolding code detail final metCount carry admitted lost
 trials image table s t locks j values = record {
-  sum-wraps = sum image table s t locks j 65535 1 0 1 (omega arith) refl;
-  sums = sum image table s t locks j;
-  difference-wraps = difference image table s t locks j 0 1 65535 1 (omega arith) (omega arith) (omega arith) refl;
-  differences = difference image table s t locks j;
+  sum-wraps = assigning.sum image table s t locks j 65535 1 0 1 (omega arith) refl;
+  sums = assigning.sum image table s t locks j;
+  zero-minus-one = assigning.below-zero image table s t locks j 0 1 (omega arith);
+  below-zero = assigning.below-zero image table s t locks j;
+  differences = assigning.difference image table s t locks j;
+  no-difference = λ p. assigning.difference image table s t locks j p p 0 (omega arith);
+  absent-first = assigning.absent-first image table s t locks j;
   return-without-call = λ r e. answered (stepOf image table s t) (Trapped 2) (opcodes.return-trap image table r e);
   eighth-call = opcodes.call image table;
   ninth-call = λ r h. answered (stepOf image table s t) (Trapped 3) (opcodes.call-trap image table r h);
@@ -268,17 +264,17 @@ trials image table s t locks j values = record {
   no-events = λ R. refl;
   no-events-return = no-events-return image table;
   no-events-state = no-events-state image table;
-  product-wraps = product image table s t locks j 256 256 0 1 (omega arith) refl;
-  products = product image table s t locks j;
+  product-wraps = assigning.product image table s t locks j 256 256 0 1 (omega arith) refl;
+  products = assigning.product image table s t locks j;
   less = λ c e p q r h. opcodes.branch image table c true r (rw e (lt-ltb p q h));
   not-less = λ c e p q r h. opcodes.branch image table c false r (rw e (le-ltb p q h));
   equal = λ c e p r. opcodes.branch image table c true r (rw e (eq-eqb p p refl));
   not-equal = λ c e p q r h. opcodes.branch image table c false r (rw e (ne-eqb p q h));
   foreign-FD = λ r k h.
-      let alien-row = foreign (rowAt table (blockAt image (A image j))) t k h in
+      let alien-row = opcodes.foreign (rowAt table (blockAt image (A image j))) t k h in
       answered (stepOf image table s t) (Trapped 5) (opcodes.direct-trap image table r alien-row);
-  CMX = λ r k h. opcodes.direct image table r (record { own = cmx (rowAt table (blockAt image (A image j))) t k; free = h }) .answer;
-  own-FD = λ r k h. opcodes.direct image table r (record { own = own (rowAt table (blockAt image (A image j))) t k; free = h }) .answer;
+  CMX = λ r k h. opcodes.direct image table r (record { own = opcodes.cmx (rowAt table (blockAt image (A image j))) t k; free = h }) .answer;
+  own-FD = λ r k h. opcodes.direct image table r (record { own = opcodes.own (rowAt table (blockAt image (A image j))) t k; free = h }) .answer;
   arrival-last = λ g h. rw (taken image table s g h);
   return-keeps-locks = opcodes.return image table;
   locks-kept = λ R. locks-kept R s;

@@ -145,6 +145,9 @@ foreignFdBlockCode = 5
 abbrev pub heldFullCode : ℕ
 heldFullCode = 6
 
+abbrev pub belowZeroCode : ℕ
+belowZeroCode = 7
+
 -- ---- numbers of a refusal
 
 abbrev pub badImageLengthNumber : ℕ

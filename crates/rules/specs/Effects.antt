@@ -8,7 +8,7 @@ use Prim.Native.Nat.{ℕ, _+_, _-_, _*_, _%_}
 use lib.ListN.{length, getD, set, drop}
 use lib.Dec.{eqb, leb, ltb}
 use Rattle.rules.specs.Sizes.{returnCount, heldCount, pendingCount}
-use Rattle.rules.specs.Codes.{absentRegisterCode, returnsFullCode, pendingFullCode, heldFullCode}
+use Rattle.rules.specs.Codes.{absentRegisterCode, returnsFullCode, pendingFullCode, heldFullCode, belowZeroCode}
 use Rattle.rules.specs.Machine.{fill}
 use Rattle.rules.specs.Statements.{Way, following, branching, transferring, entering, posting, founding, calling, returning, ending}
 use Rattle.rules.specs.Statements.{way, reads}
@@ -69,11 +69,11 @@ pub record Results : Type 0 where
 abbrev pub one : ℕ → Got Results
 one v = got (record { first = v; second = 0 })
 
--- copy; add, subtract and multiply, each modulo 65,536
+-- copy; add and multiply, each modulo 65,536; subtract, where q above p is reason 7
 abbrev pub compute : Operation → ℕ → ℕ → Got Results
 compute Copy p q = one p
 compute Add p q = one ((p + q) % 65536)
-compute Subtract p q = one ((p + 65536 - q) % 65536)
+compute Subtract p q = cond (ltb p q) (trap belowZeroCode) (one (p - q))
 compute Multiply p q = one (p * q % 65536)
 
 abbrev pub holds : Relation → ℕ → ℕ → Bool

@@ -95,6 +95,8 @@ pub const FOREIGN_FD_BLOCK: u8 = 5;
 
 pub const HELD_FULL: u8 = 6;
 
+pub const BELOW_ZERO: u8 = 7;
+
 // Numbers of a refusal.
 pub const BAD_IMAGE_LENGTH: u32 = 1;
 

@@ -22,10 +22,10 @@ returns-2 : tie.Need-returns-2
 returns-2 c = rw (c .before .enum-told2 .given .1) (c .one-result2 .ensures)
 
 returns-3 : tie.Need-returns-3
-returns-3 c = rw (c .before .enum-told3 .given .1) (c .one-result3 .ensures)
+returns-3 c = rw (c .before .enum-told3 .given .1) (c .difference .ensures)
 
 returns-4 : tie.Need-returns-4
-returns-4 c = rw (c .before .enum-told4 .given .1) (c .one-result4 .ensures)
+returns-4 c = rw (c .before .enum-told4 .given .1) (c .one-result3 .ensures)
 
 pub computed-spec : {M : Type 1} → statement M
 computed-spec =
@@ -37,9 +37,6 @@ computed-spec =
     (λ c. search needs)
     (λ c. search needs)
     (λ c κs. search needs)
-    (λ c. search needs)
-    (λ c. search needs)
-    (λ c. search needs)
     (λ c. search needs)
     (λ c κs. search needs)
     (λ c. search needs)
