@@ -44,7 +44,7 @@ extern "C" {
 
 /* ---- Versions: of the library and its papers, and of the formats. The latter is raised by each
  * change of a format; no buffer holds it, so a host notes it beside the bytes that it keeps. */
-#define PLEX_VERSION "0.5.0"
+#define PLEX_VERSION "0.6.0"
 #define PLEX_FORMAT_VERSION 3
 
 /* ---- Limits. */
@@ -138,7 +138,7 @@ enum {
     PLEX_SEND_TREE = 11 /* SEND JOBTREE to A, on to B: the signal is held, and founds a tree at EXIT */
 };
 
-/* Operators of ASSIGN, each modulo 65,536, and of IF. */
+/* Operators of ASSIGN and of IF. Sum and product go modulo 65,536; a difference below zero is a trap. */
 enum { PLEX_COPY = 1, PLEX_ADD = 2, PLEX_SUBTRACT = 3, PLEX_MULTIPLY = 4 };
 enum { PLEX_EQUAL = 1, PLEX_LESS = 2 };
 
@@ -167,6 +167,7 @@ enum {
 /* Reasons of a trap, in the order in which they are tested. */
 enum {
     PLEX_ABSENT_REGISTER = 1, /* an absent register is read */
+    PLEX_BELOW_ZERO = 7,      /* ASSIGN subtract with q above p */
     PLEX_NO_RETURN_LABEL = 2, /* RETURN with no return label */
     PLEX_RETURNS_FULL = 3,    /* CALL with 8 return labels */
     PLEX_PENDING_FULL = 4,    /* buffered SEND with 8 pending in the job's own tree */

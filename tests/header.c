@@ -1,6 +1,6 @@
 /* The header by itself, in the part of the language that C and C++ share: its numbers fit together, and
- * the five calls carry out the whole-list trial, found trees, wait for a lock of two blocks and link two
- * guests. */
+ * the five calls carry out the whole-list trial, subtract, found trees, wait for a lock of two blocks and
+ * link two guests. */
 #include "plex.h"
 
 #include <stdio.h>
@@ -36,9 +36,9 @@ HOLDS(PLEX_ROW_THREAD == 0 && PLEX_ROW_KIND == 1 && PLEX_ROW_LOCK == 2 && PLEX_L
 HOLDS(PLEX_STATE_SIZE == 9633 && PLEX_EVENT_SIZE == 55 && PLEX_ANSWER_SIZE == 2);
 HOLDS(PLEX_THREAD_SIZE == 288 && PLEX_HELD_MAX == 4 && PLEX_STATE_TREE_COUNT == 2816);
 HOLDS(PLEX_EXIT == 10 && PLEX_SEND_TREE == 11 && PLEX_CUT == 3 && PLEX_NOTHING_TO_CUT == 10);
-HOLDS(PLEX_FOREIGN_FD_BLOCK == 5 && PLEX_HELD_FULL == 6);
 
-/* The numbers of refusals: those that there are stay, and a new call may add some. */
+/* The numbers of reasons and refusals: those that there are stay, and a release may add some. */
+HOLDS(PLEX_ABSENT_REGISTER == 1 && PLEX_FOREIGN_FD_BLOCK == 5 && PLEX_HELD_FULL == 6 && PLEX_BELOW_ZERO == 7);
 HOLDS(PLEX_BAD_MET_LENGTH == 12 && PLEX_SHARED_BLOCK == 13 && PLEX_BAD_OUTPUT_LENGTH == 15);
 
 enum { RECORDS = 2, EVENTS = 5, FOUNDER_EVENTS = 7, MANY = PLEX_RECORDS_MAX - 1 };
@@ -91,6 +91,42 @@ static void carry_out(void)
     expect("met", met[0] == 3 && met[1] == PLEX_UNMET && met[PLEX_MET_SIZE - 1] == PLEX_UNMET);
 }
 
+/* One Run of an image from a fresh machine: what it answers to the last of so many events. */
+static void run_afresh(const char *what, const uint8_t *records, size_t size, int count, uint8_t code, uint8_t detail)
+{
+    const uint8_t *last = answers + PLEX_ANSWER_SIZE * (count - 1);
+    expect(what, plex_fresh(records, size, table, sizeof table, words, sizeof words, state, sizeof state) == 0 &&
+                     plex_run(records, size, table, sizeof table, state, sizeof state, events, PLEX_EVENT_SIZE * count,
+                              answers, PLEX_ANSWER_SIZE * count) == 0 &&
+                     last[PLEX_ANSWER_CODE] == code && last[PLEX_ANSWER_DETAIL] == detail);
+}
+
+/* Label 0 is now ASSIGN subtract: shared word 0, which is 9, is to become p - 1. Where p is an absent
+ * register or 0, the job traps; the word stays. */
+static void subtract(void)
+{
+    static uint8_t charging[sizeof image];
+    uint8_t *p = charging + PLEX_RECORD_OPERANDS + PLEX_OPERAND_SIZE, *q = p + PLEX_OPERAND_SIZE;
+    const uint8_t *word = state + PLEX_STATE_WORDS, *label = state + PLEX_STATE_THREADS + PLEX_THREAD_LABEL;
+    memcpy(charging, image, sizeof image);
+    charging[PLEX_RECORD_OPERATOR] = PLEX_SUBTRACT;
+    charging[PLEX_RECORD_COUNT] = 3;
+    q[PLEX_OPERAND_KIND] = PLEX_NUMBER_OPERAND;
+    q[PLEX_OPERAND_VALUE] = 1;
+    words[0] = 9;
+    p[PLEX_OPERAND_KIND] = PLEX_REGISTER_OPERAND;
+    p[PLEX_OPERAND_VALUE] = 0;
+    run_afresh("an absent register - 1", charging, sizeof charging, 3, PLEX_TRAPPED, PLEX_ABSENT_REGISTER);
+    p[PLEX_OPERAND_KIND] = PLEX_NUMBER_OPERAND;
+    run_afresh("0 - 1", charging, sizeof charging, 3, PLEX_TRAPPED, PLEX_BELOW_ZERO);
+    expect("the word after 0 - 1", word[0] == 9 && word[1] == 0);
+    expect("idle after 0 - 1", label[0] + 256 * label[1] == PLEX_IDLE);
+    p[PLEX_OPERAND_VALUE] = 1;
+    run_afresh("1 - 1", charging, sizeof charging, 3, PLEX_MOVED_ON, 0);
+    expect("1 - 1 is 0", word[0] == 0 && word[1] == 0);
+    words[0] = 0;
+}
+
 /* Label 0: block 0, entry external, SEND JOBTREE to 2, on to 0 again or to 1. Label 1: EXIT. Label 2:
  * EXIT, entry buffered. */
 static void fill_founder(uint8_t *founder, uint8_t on_to)
@@ -104,33 +140,22 @@ static void fill_founder(uint8_t *founder, uint8_t on_to)
     founder[2 * PLEX_RECORD_SIZE + PLEX_RECORD_ENTRY] = PLEX_BUFFERED;
 }
 
-/* One Run of an image from a fresh machine: what it answers to the last of so many events. */
-static void run_founder(const uint8_t *founder, size_t size, int count, uint8_t code, uint8_t detail)
-{
-    const uint8_t *last = answers + PLEX_ANSWER_SIZE * (count - 1);
-    expect("fresh of a founder",
-           plex_fresh(founder, size, table, sizeof table, words, sizeof words, state, sizeof state) == 0);
-    expect("run of a founder", plex_run(founder, size, table, sizeof table, state, sizeof state, events,
-                                        PLEX_EVENT_SIZE * count, answers, PLEX_ANSWER_SIZE * count) == 0);
-    expect("last answer of a founder", last[PLEX_ANSWER_CODE] == code && last[PLEX_ANSWER_DETAIL] == detail);
-}
-
 /* A signal is held, and becomes a tree at EXIT; a fifth one traps, and all are dropped. */
 static void hold_signals(void)
 {
     static uint8_t founder[3 * PLEX_RECORD_SIZE];
     const uint8_t *thread = state + PLEX_STATE_THREADS, *tree = state + PLEX_STATE_TREES;
     fill_founder(founder, 1);
-    run_founder(founder, sizeof founder, 3, PLEX_MOVED_ON, 0);
+    run_afresh("a signal to hold", founder, sizeof founder, 3, PLEX_MOVED_ON, 0);
     expect("held", thread[PLEX_THREAD_HELD_COUNT] == 1 && thread[PLEX_THREAD_HELD + PLEX_SIGNAL_LABEL] == 2);
-    run_founder(founder, sizeof founder, 4, PLEX_EXITED, 0);
+    run_afresh("an EXIT that founds a tree", founder, sizeof founder, 4, PLEX_EXITED, 0);
     expect("founded", state[PLEX_STATE_TREE_COUNT] == 1 && tree[PLEX_TREE_PENDING] == 1 &&
                           tree[PLEX_TREE_SIGNALS + PLEX_SIGNAL_LABEL] == 2);
     expect("held no more", thread[PLEX_THREAD_HELD_COUNT] == 0 && thread[PLEX_THREAD_HELD + PLEX_SIGNAL_LABEL] == 0);
     fill_founder(founder, 0);
-    run_founder(founder, sizeof founder, FOUNDER_EVENTS - 1, PLEX_MOVED_ON, 0);
+    run_afresh("a fourth signal", founder, sizeof founder, FOUNDER_EVENTS - 1, PLEX_MOVED_ON, 0);
     expect("four held", thread[PLEX_THREAD_HELD_COUNT] == PLEX_HELD_MAX);
-    run_founder(founder, sizeof founder, FOUNDER_EVENTS, PLEX_TRAPPED, PLEX_HELD_FULL);
+    run_afresh("a fifth signal", founder, sizeof founder, FOUNDER_EVENTS, PLEX_TRAPPED, PLEX_HELD_FULL);
     expect("dropped", state[PLEX_STATE_TREE_COUNT] == 0 && thread[PLEX_THREAD_HELD_COUNT] == 0);
 }
 
@@ -255,6 +280,7 @@ int main(void)
     versions();
     fill();
     carry_out();
+    subtract();
     hold_signals();
     share_lock();
     link_guests();

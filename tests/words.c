@@ -49,6 +49,7 @@ static const struct {
     {{PLEX_EXITED, 4}, "EXIT, 4 held signals lost"},
     {{PLEX_TRAPPED, PLEX_HELD_FULL}, "trap 6, SEND JOBTREE with 4 signals held"},
     {{PLEX_TRAPPED, PLEX_RETURNS_FULL}, "trap 3, CALL with 8 return labels"},
+    {{PLEX_TRAPPED, PLEX_BELOW_ZERO}, "trap 7, subtraction below zero"},
     {{PLEX_WAS_CUT, 0}, "cut"},
     {{PLEX_NOTHING_TO_CUT, 0}, "nothing to cut"},
     {{11, 0}, "unknown"},
@@ -169,7 +170,7 @@ int main(void)
     try_threads();
     try_groups();
     try_names("opcode", opcode_name, PLEX_SEND_TREE);
-    try_names("trap", trap_name, PLEX_HELD_FULL);
+    try_names("trap", trap_name, PLEX_BELOW_ZERO);
     try_names("refusal", refusal_name, PLEX_BAD_OUTPUT_LENGTH);
     try_any_bytes();
     return failed;

@@ -33,6 +33,7 @@ static const char *const codes[] = {[PLEX_ARRIVED] = "arrived", [PLEX_LIST_FULL]
                                     [PLEX_WAS_CUT] = "cut",     [PLEX_NOTHING_TO_CUT] = "nothing to cut"};
 
 static const char *const traps[] = {[PLEX_ABSENT_REGISTER] = "an absent register is read",
+                                    [PLEX_BELOW_ZERO] = "subtraction below zero",
                                     [PLEX_NO_RETURN_LABEL] = "RETURN with no return label",
                                     [PLEX_RETURNS_FULL] = "CALL with 8 return labels",
                                     [PLEX_PENDING_FULL] = "buffered SEND with 8 signals pending in the job's own tree",
