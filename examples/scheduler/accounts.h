@@ -4,7 +4,7 @@
 
 #include "build.h"
 
-enum { ACCOUNTS = PLEX_THREADS, ACCOUNT_LABELS = 10, NUISANCE_LABELS = 4 };
+enum { ACCOUNTS = PLEX_THREADS, ACCOUNT_LABELS = 12, NUISANCE_LABELS = 4 };
 enum { RECORDS = ACCOUNTS * (ACCOUNT_LABELS + NUISANCE_LABELS) };
 
 /* What a guest is sent: a transfer to the next account; a job that loops for ever; a job that
@@ -21,11 +21,14 @@ void put_order(uint8_t *event, uint32_t t, enum order order);
 /* The steps that a transfer takes at most, so that a budget can be set. */
 enum { TRANSFER_STEPS = 120 };
 
-/* The transfers that account t has sent. */
-uint32_t transfers_sent(const uint8_t *state, uint32_t t);
+/* The transfers of account t that are done: carried out, or refused because the balance was too low. */
+uint32_t transfers_done(const uint8_t *state, uint32_t t);
 
-/* Whether every account has sent so many transfers and received as many, and has the balance that
- * follows from them. */
+/* Those of all accounts that were refused. */
+uint32_t transfers_refused(const uint8_t *state);
+
+/* Whether every account has done so many transfers, has received those that the account before it carried
+ * out, and has the balance that follows from them. */
 int balances_right(const uint8_t *state, uint32_t transfers);
 
 #endif

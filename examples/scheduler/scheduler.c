@@ -2,7 +2,8 @@
  * that thread's orders and steps it. One lock of the host guards the state and what the host notes
  * of it, so there is one call at a time. Events go in batches. A job that takes more steps than its
  * budget is cut. A thread that has to wait looks for a ring, and cuts it. No guest has more than its
- * share of the tree list. At the end all trees are drained, and the balances have to be right. */
+ * share of the tree list. No job traps: an account whose balance is too low refuses a transfer. At the
+ * end all trees are drained, and the balances have to be right. */
 #define _POSIX_C_SOURCE 200809L
 
 #include "accounts.h"
@@ -60,6 +61,7 @@ static void count_steps(const struct batch *batch)
 {
     for (uint32_t i = 0; i < batch->count; i++) {
         uint32_t t = batch->events[PLEX_EVENT_SIZE * i + PLEX_EVENT_THREAD], code = code_of(batch, i);
+        demand(code != PLEX_TRAPPED, "no job trapped");
         if (code == PLEX_MOVED_ON)
             machine.threads[t].steps++;
         else if (code >= PLEX_STARTED && code <= PLEX_WAS_CUT)
@@ -147,7 +149,7 @@ static int all_done(void)
 {
     int done = 1;
     for (uint32_t t = 0; t < PLEX_THREADS; t++)
-        done &= transfers_sent(machine.state, t) == TRANSFERS && machine.threads[t].over_budget == LOOPS;
+        done &= transfers_done(machine.state, t) == TRANSFERS && machine.threads[t].over_budget == LOOPS;
     return done;
 }
 
@@ -198,10 +200,12 @@ int main(void)
     for (uint32_t t = 0; t < PLEX_THREADS; t++)
         demand(pthread_join(workers[t], NULL) == 0, "a worker's end");
     drain();
-    demand(balances_right(machine.state, TRANSFERS), "every transfer carried out once");
+    demand(balances_right(machine.state, TRANSFERS), "every transfer carried out or refused once");
+    demand(transfers_refused(machine.state) > 0, "a transfer refused");
     demand(machine.rings > 0, "a ring cut");
-    printf(
-        "scheduler: %u events in %u calls; %d transfers, each carried out once; endless jobs cut: %d; rings cut: %u\n",
-        machine.events, machine.calls, PLEX_THREADS * TRANSFERS, PLEX_THREADS * LOOPS, machine.rings);
+    printf("scheduler: %u events in %u calls; %d transfers, each carried out once but for %u refused; "
+           "endless jobs cut: %d; rings cut: %u\n",
+           machine.events, machine.calls, PLEX_THREADS * TRANSFERS, transfers_refused(machine.state),
+           PLEX_THREADS * LOOPS, machine.rings);
     return 0;
 }
