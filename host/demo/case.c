@@ -23,13 +23,16 @@ static const struct statement program[CASE_RECORDS] = {
     {NORTH_CHARGING, PLEX_DIRECT, PLEX_RETURN, 0, 0, 0, 1, {WORD(0)}},
 };
 
-/* East's guest adds up what it is sent. Its ledger keeps the sum, in a job of a tree of its own. */
+/* East's guest adds up what it is sent. Its ledger keeps the sum, in a job of a tree of its own. Its
+ * charging takes what it is sent from a prepaid subscriber's balance. */
 static const struct statement east_program[EAST_RECORDS] = {
     {EAST_GUEST, PLEX_EXTERNAL, PLEX_ASSIGN, PLEX_ADD, 1, 0, 3, {WORD(0), WORD(0), REGISTER(0)}},
     {EAST_GUEST, PLEX_NO_ENTRY, PLEX_SEND_TREE, 0, 3, 2, 1, {WORD(0)}},
     {EAST_GUEST, PLEX_NO_ENTRY, PLEX_EXIT, 0, 0, 0, 0, {NUMBER(0)}},
     {EAST_LEDGER, PLEX_BUFFERED, PLEX_ASSIGN, PLEX_COPY, 4, 0, 2, {WORD(0), REGISTER(0)}},
     {EAST_LEDGER, PLEX_NO_ENTRY, PLEX_EXIT, 0, 0, 0, 0, {NUMBER(0)}},
+    {EAST_CHARGING, PLEX_EXTERNAL, PLEX_ASSIGN, PLEX_SUBTRACT, 6, 0, 3, {WORD(0), WORD(0), REGISTER(0)}},
+    {EAST_CHARGING, PLEX_NO_ENTRY, PLEX_EXIT, 0, 0, 0, 0, {NUMBER(0)}},
 };
 
 static const struct {
@@ -44,13 +47,14 @@ static const struct {
     [AUDIT] = {"the audit", 1, AUDIT, 0},
     [EAST_GUEST] = {"East's guest", 2, EAST_GUEST, 0},
     [EAST_LEDGER] = {"East's ledger", 3, EAST_LEDGER, 0},
+    [EAST_CHARGING] = {"East's charging", 2, EAST_CHARGING, 20},
 };
 
 /* The thread of each step after the case's three arrivals. */
 static const uint8_t stepped[] = {0, 0, 1, 1, 0, 0, 1, 0, 0, 1, 1, 1};
 
-/* The same after East's arrival. */
-static const uint8_t stepped_for_east[] = {2, 2, 2, 2, 3, 3, 3};
+/* The same after each of East's two arrivals. */
+static const uint8_t stepped_for_guest[] = {2, 2, 2, 2, 3, 3, 3}, stepped_for_charge[] = {2, 2};
 
 static const char *const notes[LINKED_EVENTS] = {
     [0] = "North's guest, to be charged for 25 pulses",
@@ -66,6 +70,8 @@ static const char *const notes[LINKED_EVENTS] = {
     [18] = "the signal to East's ledger is held until the job ends",
     [19] = "the signal becomes a tree of its own, on the ledger's thread",
     [20] = "East's ledger",
+    [23] = "East's charging, a charge that is above the prepaid balance",
+    [25] = "nothing goes below zero, and the balance stays",
 };
 
 const char *case_event_note(uint32_t index)
@@ -78,17 +84,25 @@ const char *case_block_name(uint32_t block)
     return block < CASE_BLOCKS ? blocks[block].name : "no block of the case";
 }
 
+/* The place after the last step. */
+static uint8_t *put_steps(uint8_t *event, const uint8_t *threads, size_t count)
+{
+    for (size_t i = 0; i < count; i++, event += PLEX_EVENT_SIZE)
+        put_step(event, threads[i]);
+    return event;
+}
+
 static void make_events(uint8_t *event)
 {
-    static const uint16_t north_pulses[] = {25}, south_value[] = {999}, east_value[] = {40};
+    static const uint16_t north_pulses[] = {25}, south_value[] = {999}, east_value[] = {40}, east_charge[] = {90};
     put_arrival(event, 0, north_pulses, 1);
     put_arrival(event += PLEX_EVENT_SIZE, 8, south_value, 1);
     put_arrival(event += PLEX_EVENT_SIZE, 9, NULL, 0);
-    for (size_t i = 0; i < sizeof stepped; i++)
-        put_step(event += PLEX_EVENT_SIZE, stepped[i]);
-    put_arrival(event += PLEX_EVENT_SIZE, CASE_RECORDS, east_value, 1);
-    for (size_t i = 0; i < sizeof stepped_for_east; i++)
-        put_step(event += PLEX_EVENT_SIZE, stepped_for_east[i]);
+    event = put_steps(event + PLEX_EVENT_SIZE, stepped, sizeof stepped);
+    put_arrival(event, CASE_RECORDS, east_value, 1);
+    event = put_steps(event + PLEX_EVENT_SIZE, stepped_for_guest, sizeof stepped_for_guest);
+    put_arrival(event, CASE_RECORDS + 5, east_charge, 1);
+    put_steps(event + PLEX_EVENT_SIZE, stepped_for_charge, sizeof stepped_for_charge);
 }
 
 void make_case(struct field_case *made)

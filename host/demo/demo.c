@@ -2,9 +2,10 @@
  * next guest on the same thread does RETURN. The two blocks that the job calls have one lock, for
  * which an audit on another thread waits. An engine that kept the return labels of the ended
  * job would let South's RETURN go on at label 4 and charge North for it; one that kept its locks
- * would let the audit wait for ever. East's guest and its ledger, which come as an image of their
- * own, are linked behind the case first, and run after it: the guest's job founds a tree for the
- * ledger.
+ * would let the audit wait for ever. East's guest, its ledger and its charging, which come as an image
+ * of their own, are linked behind the case first, and run after it: the guest's job founds a tree for
+ * the ledger; the charging is sent a charge of 90 and has a prepaid balance of 20, of which an engine
+ * that subtracts modulo 65,536 would make 65,466.
  *
  * Use: demo          prints the trace; the status is 1 if a charging word changed
  *      demo FOLDER   writes the case and East's image there, as files of the command plex */
@@ -54,6 +55,11 @@ static uint32_t north_charge(void)
 static uint32_t south_charge(void)
 {
     return get16(word_at(state, SOUTH_GUEST, 0));
+}
+
+static uint32_t east_balance(void)
+{
+    return get16(word_at(state, EAST_CHARGING, 0));
 }
 
 static void print_event(uint32_t index, const uint8_t *event)
@@ -123,7 +129,7 @@ static int replay(uint32_t index)
     print_answer(answer);
     if (!is_arrival)
         print_thread("after", thread);
-    printf("    charges   North %u, South %u\n", north_charge(), south_charge());
+    printf("    charges   North %u, South %u; balance East %u\n", north_charge(), south_charge(), east_balance());
     return answer[PLEX_ANSWER_CODE] != PLEX_WAITING || print_walk(thread);
 }
 
@@ -148,16 +154,18 @@ static int trace(void)
 {
     if (!begin())
         return 1;
-    uint32_t north = north_charge(), south = south_charge();
-    printf("charges: North %u (block %d, word 0), South %u (block %d, word 0)\n", north, NORTH_CHARGING, south,
-           SOUTH_GUEST);
+    uint32_t north = north_charge(), south = south_charge(), east = east_balance();
+    printf("charges: North %u (block %d, word 0), South %u (block %d, word 0); balance: East %u (block %d, word 0)\n",
+           north, NORTH_CHARGING, south, SOUTH_GUEST, east, EAST_CHARGING);
     for (uint32_t index = 0; index < LINKED_EVENTS; index++)
         if (!replay(index))
             return 1;
-    int kept = north_charge() == north && south_charge() == south;
-    printf("\nThe charging words %s: North %u, South %u. The audit read %u, East counted %u, and its ledger has %u.\n",
-           kept ? "are as they were" : "CHANGED", north_charge(), south_charge(), get16(word_at(state, AUDIT, 0)),
-           get16(word_at(state, EAST_GUEST, 0)), get16(word_at(state, EAST_LEDGER, 0)));
+    int kept = north_charge() == north && south_charge() == south && east_balance() == east;
+    printf("\nThe charging words %s: North %u, South %u, East %u. "
+           "The audit read %u, East counted %u, and its ledger has %u.\n",
+           kept ? "are as they were" : "CHANGED", north_charge(), south_charge(), east_balance(),
+           get16(word_at(state, AUDIT, 0)), get16(word_at(state, EAST_GUEST, 0)),
+           get16(word_at(state, EAST_LEDGER, 0)));
     return kept ? 0 : 1;
 }
 

@@ -47,6 +47,21 @@ cat to-holding step-2 step-2 step-2 step-2 >five-sends
 tried 'a fifth SEND JOBTREE' 0 'trap 6, SEND JOBTREE with 4 signals held; idle, locks none, return labels none$' \
     run endless "$table" "$words" five-sends
 
+# ---- subtraction: East's charging is sent 25 with a balance of 20, and then the whole balance
+altered arrival charge 2:5
+cat charge step-2 step-2 >charged
+tried 'a subtraction below zero' 0 \
+    'label 5: ASSIGN w0 := w0 - r0, on to 6 *trap 7, subtraction below zero; idle, locks none, return labels none$' \
+    run "$east" "$table" "$words" charged --out left-2
+tried 'its balance' 0 '^  block 7: w0=20$' state left-2
+tried 'in the summary' 0 '^           1  of the traps: 7, subtraction below zero$' \
+    run "$east" "$table" "$words" charged --summary
+altered charged whole 5:24
+tried 'the whole balance' 0 'label 5: ASSIGN w0 := w0 - r0, on to 6 *moved on; at label 6, locks 7,' \
+    run "$east" "$table" "$words" whole --out left-2
+tried 'what was not charged' 0 '^  block 1: w0=120$' state left-2
+holds 'a balance that is left' lacks said 'block 7'
+
 tried '4,500 events' 0 '^4500 events in 5 calls$' \
     run "$image" "$table" "$words" many --summary --out left --answers answers
 tried 'the same one by one' 0 '^4500 events in 4500 calls$' \
