@@ -68,24 +68,32 @@ static uint32_t move_on(const struct job *job, uint32_t label)
     return answer(PLEX_MOVED_ON, 0);
 }
 
-static uint32_t assign(const struct job *job, const uint8_t *record)
+/* Stores to a register, which becomes present, or to a shared word of the block. */
+static void store(const struct job *job, uint32_t block, const uint8_t *destination, uint32_t value)
 {
-    const uint8_t *destination = record + PLEX_RECORD_OPERANDS;
-    uint32_t operator= record[PLEX_RECORD_OPERATOR], block = record[PLEX_RECORD_BLOCK];
-    uint32_t presence = get32(job->bytes + PLEX_THREAD_PRESENCE), read = 0, q = 0;
-    uint32_t p = operand_value(job->state, job->bytes, block, destination + PLEX_OPERAND_SIZE, &read);
-    if (operator!= PLEX_COPY)
-        q = operand_value(job->state, job->bytes, block, destination + 2 * PLEX_OPERAND_SIZE, &read);
-    if ((read & ~presence) != 0)
-        return trap(job, PLEX_ABSENT_REGISTER);
-    uint32_t value = operator== PLEX_SUBTRACT ? p - q : operator== PLEX_MULTIPLY ? p * q : p + q;
-    uint32_t number = get16(destination + 1);
-    if (destination[0] == PLEX_REGISTER_OPERAND) {
-        put16(job->bytes + PLEX_THREAD_VALUES + 2 * number, value);
+    uint32_t number = get16(destination + PLEX_OPERAND_VALUE);
+    if (destination[PLEX_OPERAND_KIND] == PLEX_REGISTER_OPERAND) {
+        uint32_t presence = get32(job->bytes + PLEX_THREAD_PRESENCE);
         put32(job->bytes + PLEX_THREAD_PRESENCE, presence | 1u << number);
+        put16(job->bytes + PLEX_THREAD_VALUES + 2 * number, value);
     } else {
         put16(job->state + 2 * (PLEX_BLOCK_WORDS * block + number), value);
     }
+}
+
+static uint32_t assign(const struct job *job, const uint8_t *record)
+{
+    const uint8_t *destination = record + PLEX_RECORD_OPERANDS;
+    uint32_t operation = record[PLEX_RECORD_OPERATOR], block = record[PLEX_RECORD_BLOCK], read = 0, q = 0;
+    uint32_t p = operand_value(job->state, job->bytes, block, destination + PLEX_OPERAND_SIZE, &read);
+    if (operation != PLEX_COPY)
+        q = operand_value(job->state, job->bytes, block, destination + 2 * PLEX_OPERAND_SIZE, &read);
+    if ((read & ~get32(job->bytes + PLEX_THREAD_PRESENCE)) != 0)
+        return trap(job, PLEX_ABSENT_REGISTER);
+    if (operation == PLEX_SUBTRACT && p < q)
+        return trap(job, PLEX_BELOW_ZERO);
+    uint32_t value = operation == PLEX_SUBTRACT ? p - q : operation == PLEX_MULTIPLY ? p * q : p + q;
+    store(job, block, destination, value);
     return move_on(job, get16(record + PLEX_RECORD_A));
 }
 
