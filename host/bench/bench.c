@@ -59,13 +59,13 @@ static size_t calls_a_round(const struct bench_row *row, uint32_t expected)
     return 1 + (size_t)(ROUND_NS / ns);
 }
 
-/* What both engines return; they must leave the same bytes too. */
+/* What both engines return; they must leave the same bytes too, and no job may end short of its work. */
 static uint32_t expected_return(const struct bench_row *row)
 {
     row->prepare(row);
     uint32_t expected = row->plain_call();
-    if (expected >= 65536 || row->plex_call() != expected || !bench_same_bytes()) {
-        fprintf(stderr, "bench: %s: the engines differ, or refuse\n", row->name);
+    if (expected >= 65536 || row->plex_call() != expected || !bench_same_bytes() || bench_any_trap()) {
+        fprintf(stderr, "bench: %s: the engines differ, or refuse, or a job traps\n", row->name);
         exit(1);
     }
     return expected;

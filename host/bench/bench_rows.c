@@ -249,3 +249,11 @@ int bench_same_bytes(void)
 {
     return memcmp(&by_plex, &by_plain, sizeof by_plex) == 0;
 }
+
+int bench_any_trap(void)
+{
+    int any = 0;
+    for (size_t i = 0; i < work.event_count; i++)
+        any |= by_plain.answers[PLEX_ANSWER_SIZE * i + PLEX_ANSWER_CODE] == PLEX_TRAPPED;
+    return any;
+}
