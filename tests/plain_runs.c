@@ -26,6 +26,9 @@ static const struct machine machine = {image, table};
 static uint32_t failures, codes[256], reasons[256], losing_exits, group_jobs;
 static uint32_t refusals[PLEX_BAD_OUTPUT_LENGTH + 1];
 
+/* Steps that are their thread's first event in a run, by what they subtract. */
+static uint32_t subtractions[SUBTRACTIONS];
+
 /* Walks over states that this part alone was changed in. */
 static uint32_t refused_parts[DAMAGED_PARTS], accepted_parts[DAMAGED_PARTS];
 
@@ -54,6 +57,24 @@ static void fill_registers(uint32_t records)
     }
 }
 
+/* One subtraction in four has p for q. */
+static void make_equal_operands(uint32_t records)
+{
+    for (uint8_t *record = image; record < image + PLEX_RECORD_SIZE * records; record += PLEX_RECORD_SIZE) {
+        uint8_t *p = record + PLEX_RECORD_OPERANDS + PLEX_OPERAND_SIZE;
+        if (record[PLEX_RECORD_OPCODE] == PLEX_ASSIGN && record[PLEX_RECORD_OPERATOR] == PLEX_SUBTRACT && below(4) == 0)
+            memcpy(p + PLEX_OPERAND_SIZE, p, PLEX_OPERAND_SIZE);
+    }
+}
+
+/* Any words, or small ones, whose differences are near zero. */
+static void make_words(void)
+{
+    uint32_t limit = below(2) == 0 ? 4 : 65536;
+    for (uint32_t i = 0; i < PLEX_WORDS_SIZE; i += 2)
+        put16(words + i, below(limit));
+}
+
 static void make_machine(void)
 {
     uint32_t records = LEAST_RECORDS * (1 + below(PLEX_RECORDS_MAX / LEAST_RECORDS));
@@ -62,9 +83,9 @@ static void make_machine(void)
     make_tree_sends(image, records);
     if (below(4) != 0)
         fill_registers(records);
+    make_equal_operands(records);
     make_table(table);
-    for (uint32_t i = 0; i < PLEX_WORDS_SIZE; i++)
-        words[i] = (uint8_t)below(256);
+    make_words();
     memset(&by_plex, 7, sizeof by_plex);
     memset(&by_plain, 7, sizeof by_plain);
     expect("fresh",
@@ -111,16 +132,33 @@ static void count_answers(void)
     }
 }
 
+/* A thread's p and q are in its registers and in a block whose lock it holds: until its first event, what others
+ * do leaves them as they were before the run. */
+static void count_subtractions(const uint8_t *before)
+{
+    uint32_t threads_met = 0;
+    for (const uint8_t *event = events; event < events + events_len; event += PLEX_EVENT_SIZE) {
+        uint32_t kind = event[PLEX_EVENT_KIND], thread = event[PLEX_EVENT_THREAD];
+        if (kind == PLEX_STEP && !(threads_met >> thread & 1))
+            subtractions[next_subtraction(&machine, before, thread)]++;
+        if (kind != PLEX_ARRIVAL)
+            threads_met |= 1u << thread;
+    }
+}
+
 static void try_run(void)
 {
     make_events();
+    struct altered before = by_plex;
     uint32_t result = plex_run(image, image_len, table, sizeof table, by_plex.state, PLEX_STATE_SIZE, events,
                                events_len, by_plex.answers, answers_len);
     expect("run", result,
            plain_run(image, image_len, table, sizeof table, by_plain.state, PLEX_STATE_SIZE, events, events_len,
                      by_plain.answers, answers_len));
-    if (result == 0)
+    if (result == 0) {
         count_answers();
+        count_subtractions(before.state);
+    }
     group_jobs += is_job_twice_in_group(&machine, by_plex.state);
 }
 
@@ -162,7 +200,8 @@ bool do_runs_agree(void)
         }
     }
     bool all_met = are_all_met(codes, PLEX_ARRIVED, PLEX_NOTHING_TO_CUT) &&
-                   are_all_met(reasons, PLEX_ABSENT_REGISTER, PLEX_HELD_FULL) && losing_exits != 0 && group_jobs != 0 &&
+                   are_all_met(reasons, PLEX_ABSENT_REGISTER, PLEX_BELOW_ZERO) &&
+                   are_all_met(subtractions, P_ABOVE_Q, ABSENT_BELOW_Q) && losing_exits != 0 && group_jobs != 0 &&
                    refusals[PLEX_BAD_EVENT] != 0 && are_all_met(refused_parts, HELD_SIGNALS, ANY_BYTES) &&
                    are_all_met(accepted_parts, HELD_SIGNALS, ANY_BYTES);
     printf("plain: %d runs and walks%s; %u failures\n", MACHINES * RUNS,

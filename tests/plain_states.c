@@ -1,6 +1,6 @@
 #include "plain_states.h"
 #include "damage.h"
-#include "fields.h"
+#include "plain_state.h"
 
 static uint32_t block_of_label(const struct machine *machine, uint32_t label)
 {
@@ -76,4 +76,20 @@ bool is_job_twice_in_group(const struct machine *machine, const uint8_t *state)
     for (uint32_t i = 0; i < PLEX_THREADS; i++)
         any = any || is_twice_in_group(machine, thread_at(state, i));
     return any;
+}
+
+enum subtraction next_subtraction(const struct machine *machine, const uint8_t *state, uint32_t thread)
+{
+    const uint8_t *bytes = thread_at(state, thread);
+    uint32_t label = get16(bytes + PLEX_THREAD_LABEL), read = 0;
+    if (label == PLEX_IDLE)
+        return NO_SUBTRACTION;
+    const uint8_t *record = record_at(machine->image, label);
+    if (record[PLEX_RECORD_OPCODE] != PLEX_ASSIGN || record[PLEX_RECORD_OPERATOR] != PLEX_SUBTRACT)
+        return NO_SUBTRACTION;
+    uint32_t p = operand_value(state, bytes, record[PLEX_RECORD_BLOCK], operand_at(record, 1), &read);
+    uint32_t q = operand_value(state, bytes, record[PLEX_RECORD_BLOCK], operand_at(record, 2), &read);
+    if ((read & ~get32(bytes + PLEX_THREAD_PRESENCE)) != 0)
+        return p < q ? ABSENT_BELOW_Q : NO_SUBTRACTION;
+    return p > q ? P_ABOVE_Q : p == q ? P_EQUALS_Q : P_BELOW_Q;
 }

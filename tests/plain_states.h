@@ -1,4 +1,4 @@
-/* States of a machine that one of their parts is damaged in. */
+/* States of a machine: what can be seen in them, and how one of their parts is damaged. */
 #ifndef PLAIN_STATES_H
 #define PLAIN_STATES_H
 
@@ -15,6 +15,11 @@ enum damaged_part { HELD_SIGNALS, LOCK_SETS, ANY_BYTES, DAMAGED_PARTS };
 
 /* Damages a part, which may stay as it was, and says which. */
 enum damaged_part damage_state(const struct machine *machine, uint8_t *state);
+
+/* What a thread's next step subtracts: q from a p that is above it, equals it or is below it, or q from an
+ * absent register, which is zero and so below it. Where q is an absent register, nothing. */
+enum subtraction { NO_SUBTRACTION, P_ABOVE_Q, P_EQUALS_Q, P_BELOW_Q, ABSENT_BELOW_Q, SUBTRACTIONS };
+enum subtraction next_subtraction(const struct machine *machine, const uint8_t *state, uint32_t thread);
 
 /* Whether a job is in two blocks that have the same lock: the one it is at and one that it returns to. */
 bool is_job_twice_in_group(const struct machine *machine, const uint8_t *state);
