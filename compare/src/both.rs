@@ -38,9 +38,10 @@ impl Call {
 /// Makes the call of both on the same bytes: what it returned, or in what the
 /// two differ. The bytes are then as the call left them.
 pub fn both(seen: &mut Seen, call: Call, lent: &mut Lent) -> Result<u32, String> {
+    let state_before = lent.state.clone();
     let returned = compared(lent, |lent| call.of_library(lent), |lent| call.of_second(lent))
         .map_err(|why| format!("{call:?}: {why}"))?;
-    seen.note(call, returned, lent);
+    seen.note(call, returned, &state_before, lent);
     Ok(returned)
 }
 

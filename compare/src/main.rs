@@ -13,6 +13,7 @@ mod library;
 mod links;
 mod seen;
 mod sizes;
+mod subtractions;
 
 use seen::Seen;
 use std::process::ExitCode;
@@ -35,14 +36,15 @@ fn main() -> ExitCode {
         _ => Err("use: compare | compare soak SECONDS | compare replay SEED".into()),
     };
     let Seen { calls, events, in_two_blocks, rings, longest_walk, links, largest_link, .. } = seen;
-    let lost = seen.lost();
+    let (lost, below_zero) = (seen.lost(), seen.below_zero());
     match compared {
         Ok(what) => {
             println!(
-                "compare: {what}, {calls} calls, {events} events, {lost} held signals lost, \
+                "compare: {what}, {calls} calls, {events} events, \
+                 {below_zero} subtractions below zero, {lost} held signals lost, \
                  {in_two_blocks} threads in two blocks of a group, {rings} rings, \
-                 walks of up to {longest_walk} threads, {links} links of up to {largest_link} records: \
-                 no difference"
+                 walks of up to {longest_walk} threads, \
+                 {links} links of up to {largest_link} records: no difference"
             );
             ExitCode::SUCCESS
         }

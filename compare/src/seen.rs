@@ -4,6 +4,7 @@ use crate::both::Call;
 use crate::groups::{locks_of_two, share_lock};
 use crate::held::held_counts;
 use crate::sizes::{ANSWER, BLOCKS, LOCKS, MOST_HELD, RECORD, RECORDS, THREADS};
+use crate::subtractions::{first_subtractions, Subtraction};
 use second::generate::{Lent, Pair};
 
 /// What a call returns that refuses the last row of the table.
@@ -17,7 +18,9 @@ pub struct Seen {
     /// Of the refusals those for the lock of the table's last row alone.
     last_locks: u64,
     codes: [u64; 11],
-    traps: [u64; 7],
+    traps: [u64; 8],
+    /// Subtractions by sort, of those that Runs did as their threads' first events.
+    subtractions: [u64; Subtraction::ALL.len()],
     /// Waits by lock.
     waits: [u64; LOCKS],
     /// EXITs by how many held signals they lost.
@@ -62,10 +65,14 @@ impl Seen {
         }
     }
 
-    pub fn note(&mut self, call: Call, returned: u32, lent: &Lent) {
+    /// What a call returned, was lent as its state, and left.
+    pub fn note(&mut self, call: Call, returned: u32, state_before: &[u8], lent: &Lent) {
         self.note_return(returned, &lent.table);
         match call {
             Call::Run if returned == 0 => {
+                for sort in first_subtractions(&lent.image, state_before, &lent.events) {
+                    self.subtractions[sort as usize] += 1;
+                }
                 lent.answers.chunks(ANSWER).for_each(|answer| self.note_answer(answer));
                 held_counts(&lent.state).for_each(|count| self.held[count] += 1);
                 self.in_two_blocks += locks_of_two(&lent.image, &lent.table, &lent.state).count();
@@ -129,8 +136,17 @@ impl Seen {
         (0..).zip(self.exits).map(|(lost, exits)| lost * exits).sum()
     }
 
+    /// How many jobs a subtraction ended.
+    pub fn below_zero(&self) -> u64 {
+        self.traps[7]
+    }
+
     /// What should have been seen in a comparison of many cases and was not.
     pub fn missing(&self) -> Vec<String> {
+        [self.missing_numbers(), self.missing_sights()].concat()
+    }
+
+    fn missing_numbers(&self) -> Vec<String> {
         let sorts = [
             ("refusal", 1, &self.refusals[1..]),
             ("code", 1, &self.codes[1..]),
@@ -146,6 +162,12 @@ impl Seen {
             let unseen = (first..).zip(counts).filter(|(_, &count)| count == 0);
             missing.extend(unseen.map(|(number, _)| format!("{sort} {number}")));
         }
+        missing
+    }
+
+    fn missing_sights(&self) -> Vec<String> {
+        let subtractions =
+            Subtraction::ALL.map(|sort| (self.subtractions[sort as usize] > 0, sort.name().into()));
         let others = [
             (self.last_locks > 0, "a refusal for the last row's lock alone".into()),
             (self.in_two_blocks > 0, "a thread in two blocks of one group".into()),
@@ -160,7 +182,7 @@ impl Seen {
             (self.rings > 0 && self.longest_walk == 8, "a ring and a walk of 8 threads".into()),
             (self.largest_link == RECORDS, format!("a link of {RECORDS} records")),
         ];
-        missing.extend(others.into_iter().filter(|(seen, _)| !seen).map(|(_, what)| what));
-        missing
+        let unseen = subtractions.into_iter().chain(others).filter(|(seen, _)| !seen);
+        unseen.map(|(_, what)| what).collect()
     }
 }

@@ -3,9 +3,13 @@
 
 pub const RECORD: usize = 84;
 pub const RECORDS: usize = 512;
-/// Where in an image record its block is.
+/// Where in an image record its block is, its operator, and its operands.
 pub const BLOCK: usize = 1;
+pub const OPERATOR: usize = 3;
+pub const OPERANDS: usize = 9;
+pub const OPERAND: usize = 3;
 pub const BLOCKS: usize = 16;
+pub const BLOCK_WORDS: usize = 16;
 /// A block's row of the table.
 pub const ROW: usize = 3;
 /// Where in a row the block's lock is.
@@ -19,6 +23,9 @@ pub const THREADS: usize = 8;
 pub const LABEL: usize = 0;
 pub const RETURNS: usize = 4;
 pub const RETURN_LABELS: usize = 5;
+/// Where in a thread record the registers' presence is, and then their values.
+pub const PRESENCE: usize = 21;
+pub const REGISTERS: usize = 25;
 /// Where in a thread record the count of held signals is, and then they are.
 pub const HELD: usize = 75;
 pub const MOST_HELD: usize = 4;
