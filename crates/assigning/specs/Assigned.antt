@@ -1,6 +1,6 @@
 -- A statement of ASSIGN's kind, where a running thread comes to it.
 use mathlib.Core.Path.{_≡_, refl, sym, subst}
-use mathlib.Core.List.{List, [], _∷_}
+use mathlib.Core.List.{List}
 use Prim.Native.Nat.{ℕ, _<_}
 use native.Mathlib.Omega.{arith}
 use lib.ListN.{set}
@@ -9,7 +9,7 @@ use Rattle.rules.specs.Machine.{job}
 use Rattle.rules.specs.Sizes.{registerCount, idleLabel}
 use Rattle.rules.specs.Image.{recordAt}
 use Rattle.rules.specs.Statements.{statementOf, operandAt, assignmentBy}
-use Rattle.rules.specs.Effects.{trap, got, readAll, compute}
+use Rattle.rules.specs.Effects.{Got, trap, got, Cells, Results}
 use Rattle.rules.specs.Encoding.{machineFrom}
 use Rattle.rules.specs.Steps.{rulesBy, finished}
 use Rattle.rules.specs.declared.answer.Answer.{Answer}
@@ -27,7 +27,7 @@ use Rattle.operands.specs.Legal.{Fits}
 use Rattle.operands.specs.Cells.{cellsOf}
 use Rattle.operands.specs.Statements.{Lands, assigns, first-lands, second-fits, left-fits, right-fits}
 use Rattle.step_ready.specs.Ready.{Stepped, Ended, done}
-use Rattle.step_ready.specs.At.{At, tree, statement-here, reads-here, slots-assigned, jobAt}
+use Rattle.step_ready.specs.At.{At, tree, statement-here, lawCells, cells-here, slots-assigned, jobAt}
 use Rattle.assigning.specs.Destinations.{registersAfter, landed}
 
 -- a running thread runs its job
@@ -71,18 +71,21 @@ module _ {image table b : List ℕ} {t : ℕ} {w : ThreadState} {r : List ℕ} (
           right = subst (λ (q : Assignment). Fits (q .right)) k (right-fits (h .parts) a e);
         }
 
-    module _ (x y : ℕ) (g : readAll (cellsOf b w r) (a .left ∷ a .right ∷ []) ≡ got (x ∷ y ∷ [])) where
-      pub uncomputed : {reason : ℕ} {b′ : List ℕ} {z : Answer} → compute (a .operation) x y ≡ trap reason → z ≡ Trapped reason
-          → Ended image table b t b′ → Stepped image table b t b′ z
-      uncomputed {reason} c f k =
-          done (finished (rulesBy image table) t (machineFrom b)) (Trapped reason)
-          (law.uncomputed image table (machineFrom b) t (w .locks) (jobAt b t w) (tree h .0) (h .runs) (tree h .1) (x ∷ y ∷ []) a
-          (statement-here h (Assign a) e) (reads-here h (Assign a) g) reason c) f k
+    -- what the assignment works out, from the law's cells
+    results-here : (g : Got Results) → law.results (cellsOf b w r) a ≡ g → law.results (lawCells h) a ≡ g
+    results-here g c = subst (λ (q : Cells). law.results q a ≡ g) (cells-here h) c
 
-      pub assigned-stepped : (u v : ℕ) {b′ : List ℕ} → compute (a .operation) x y ≡ got (record { first = u; second = v })
-          → Encodes b′ (landed (machineFrom b) t w r a u v) → Stepped image table b t b′ Moved
-      assigned-stepped u v {b′} c k =
-          done (landed (machineFrom b) t w (recordAt image (w .label .0)) a u v) Moved
-          (law.assigns image table (machineFrom b) t (w .locks) (jobAt b t w) (tree h .0) (h .runs) (tree h .1) (x ∷ y ∷ []) a
-          (statement-here h (Assign a) e) (reads-here h (Assign a) g) (record { first = u; second = v }) c) refl
-          (subst (λ (q : List ℕ). Encodes b′ (landed (machineFrom b) t w q a u v)) (h .here) k)
+    pub unworked : {reason : ℕ} {b′ : List ℕ} {z : Answer} → law.results (cellsOf b w r) a ≡ trap reason → z ≡ Trapped reason
+        → Ended image table b t b′ → Stepped image table b t b′ z
+    unworked {reason} c f k =
+        done (finished (rulesBy image table) t (machineFrom b)) (Trapped reason)
+        (law.unworked image table (machineFrom b) t (w .locks) (jobAt b t w) (tree h .0) (h .runs) (tree h .1) a
+        (statement-here h (Assign a) e) reason (results-here _ c)) f k
+
+    pub assigned-stepped : (u v : ℕ) {b′ : List ℕ} → law.results (cellsOf b w r) a ≡ got (record { first = u; second = v })
+        → Encodes b′ (landed (machineFrom b) t w r a u v) → Stepped image table b t b′ Moved
+    assigned-stepped u v {b′} c k =
+        done (landed (machineFrom b) t w (recordAt image (w .label .0)) a u v) Moved
+        (law.assigns image table (machineFrom b) t (w .locks) (jobAt b t w) (tree h .0) (h .runs) (tree h .1) a
+        (statement-here h (Assign a) e) (record { first = u; second = v }) (results-here _ c)) refl
+        (subst (λ (q : List ℕ). Encodes b′ (landed (machineFrom b) t w q a u v)) (h .here) k)

@@ -2,8 +2,7 @@
 use ending::trapped;
 use image::record_fields::block_field;
 use image::record_fields::label_a;
-use operands::computed;
-use operands::read_pair;
+use operands::worked;
 use rules::answer::Answer;
 use rules::sorts::Block;
 use rules::sorts::Thread;
@@ -122,17 +121,20 @@ pub fn assign(
     requires { ⌜ At (now image) (now table) (now state) (t .0) w (now r) × (statementOf (now r) ≡ Assign a) ⌝ }
     ensures { λ z. ⌜ Stepped (now (image .entry)) (now (table .entry)) (now (state .entry)) (t .0) (now (state .exit)) z ⌝ }
 {
-    let left = a.left;
-    let right = a.right;
-    let pair = read_pair(state, w, r, left, right);
-    if pair.trap != 0 {
-        return trapped(image, table, state, t, w, pair.trap);
+    let results = worked(state, w, r, a);
+    if results.trap != 0 {
+        return trapped(image, table, state, t, w, results.trap);
     }
-    let operation = a.operation;
-    let worked = computed(operation, pair.left, pair.right);
-    if worked.trap != 0 {
-        return trapped(image, table, state, t, w, worked.trap);
-    }
-    store_both(image, table, state, t, w, r, a, worked.first, worked.second);
+    store_both(
+        image,
+        table,
+        state,
+        t,
+        w,
+        r,
+        a,
+        results.first,
+        results.second,
+    );
     Answer::Moved
 }

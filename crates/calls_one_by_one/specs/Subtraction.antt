@@ -1,20 +1,20 @@
 -- Subtraction in a list of calls. Where q is above p, a step of ASSIGN subtract is answered 8, 7: the job ends, and nothing is stored,
 -- `traps-below-zero`. Where q is up to p, it is answered 6, and the difference is stored, `subtracts-exactly`. What cannot be read comes
 -- first, `unread-first`.
-use mathlib.Core.Path.{_≡_, refl, ap}
+use mathlib.Core.Path.{_≡_, refl, ap, _∙_}
 use mathlib.Core.Bool.{false}
 use mathlib.Core.Option.{some}
 use mathlib.Core.List.{List, [], _∷_, _++_}
 use Prim.Native.Nat.{ℕ, _+_, _-_, _<_}
 use native.Mathlib.Omega.{arith}
 use lib.Dec.{ltb}
-use lib.ListN.{set}
+use lib.ListN.{getD, set}
 use borrow.Author.Tests.{lt-ltb, le-ltb}
 use Rattle.rules.specs.Image.{recordAt, opcode, operator, labelA}
 use Rattle.rules.specs.Statements.{operandAt, operationAt, optional, assignmentBy, assignmentOf, statementOf}
 use Rattle.rules.specs.Machine.{Signal, Job, job, withHeld, idle, running, Machine, threadAt, jobOf, first, window, keep}
 use Rattle.rules.specs.Encoding.{machineFrom}
-use Rattle.rules.specs.Effects.{Got, trap, got, Cells, readAll, store}
+use Rattle.rules.specs.Effects.{Got, trap, got, then, Cells, readAll, compute, store}
 use Rattle.rules.specs.Events.{Event, step, eventBytes}
 use Rattle.rules.specs.Answers.{code, detail, answerBytes}
 use Rattle.rules.specs.Steps.{Rules, Reply, rulesBy, blockAt, finished, react}
@@ -101,18 +101,19 @@ module _ (image table words state : List ℕ) (runs : List Run) (calls : Calls i
         unfolding statementOf operationAt
         statement = rw (h .assign, h .subtract)
 
-        reads-sources : readAll (cellsOf image s j) (a .left ∷ a .right ∷ []) ≡ g
+        worked : law.results (cellsOf image s j) a ≡ then g (λ vs. compute Subtract (getD vs 0 0) (getD vs 1 0))
         unfolding assignmentBy optional
-        reads-sources = h .reading
+        worked = ap (λ (x : Got (List ℕ)). then x (λ vs. compute Subtract (getD vs 0 0) (getD vs 1 0))) (h .reading)
+
+        unworked : (reason : ℕ) → then g (λ vs. compute Subtract (getD vs 0 0) (getD vs 1 0)) ≡ trap reason
+            → Trapped before after t reason
+        unworked reason e =
+            trapped reason
+            (law.unworked image table s t locks j (tree .0) (h .thread) (tree .1) a statement reason (worked ∙ e))
 
       -- WHERE Q IS ABOVE P, THE STEP IS ANSWERED 8, 7, AND NOTHING IS STORED: the job has ended, and every word is as it was
-      pub traps-below-zero : (p q : ℕ) → p < q → Subtracts image s t locks j (got (p ∷ q ∷ []))
-          → Trapped before after t 7
-      unfolding assignmentBy optional
-      traps-below-zero p q l h =
-          trapped 7
-          (law.uncomputed image table s t locks j (tree _ h .0) (h .thread) (tree _ h .1) (p ∷ q ∷ []) a (statement _ h)
-          (reads-sources _ h) 7 (rw (lt-ltb p q l)))
+      pub traps-below-zero : (p q : ℕ) → p < q → Subtracts image s t locks j (got (p ∷ q ∷ [])) → Trapped before after t 7
+      traps-below-zero p q l h = unworked _ h 7 (rw (lt-ltb p q l))
 
       -- WHERE Q IS UP TO P, THE STEP IS ANSWERED 6, AND P - Q IS STORED
       pub subtracts-exactly : (p q v : ℕ) → v + q ≡ p → Subtracts image s t locks j (got (p ∷ q ∷ []))
@@ -122,11 +123,9 @@ module _ (image table words state : List ℕ) (runs : List Run) (calls : Calls i
           let d : p - q ≡ v = omega arith in
           let above : ltb p q ≡ false = le-ltb p q (omega arith) in
           stepped _
-          (law.assigns image table s t locks j (tree _ h .0) (h .thread) (tree _ h .1) (p ∷ q ∷ []) a (statement _ h)
-          (reads-sources _ h) (record { first = v; second = 0 }) (rw (above, d)))
+          (law.assigns image table s t locks j (tree _ h .0) (h .thread) (tree _ h .1) a (statement _ h)
+          (record { first = v; second = 0 }) (worked _ h ∙ rw (above, d)))
 
       -- WHAT CANNOT BE READ COMES FIRST, whatever the other operand is
       pub unread-first : (reason : ℕ) → Subtracts image s t locks j (trap reason) → Trapped before after t reason
-      unread-first reason h =
-          trapped reason
-          (law.unread image table s t locks j (tree _ h .0) (h .thread) (tree _ h .1) (Assign a) reason (statement _ h) (reads-sources _ h))
+      unread-first reason h = unworked _ h reason refl

@@ -6,8 +6,10 @@ use native.Mathlib.Omega.{arith}
 use borrow.Author.Tests.{lt-ltb, le-ltb}
 use Rattle.rules.specs.Codes.{belowZeroCode}
 use Rattle.rules.specs.Effects.{Got, trap, got, Cells, read, readAll, Results, one, compute}
+use Rattle.rules.specs.declared.statement.Assignment.{Assignment}
 use Rattle.rules.specs.declared.statement.Operand.{Operand}
 use Rattle.rules.specs.declared.statement.Operation.the-variants.{Subtract}
+use Rattle.step_laws.specs.Statements.{results}
 use Rattle.operands.specs.declared.Pair.{Pair}
 use Rattle.operands.specs.declared.Computation.{Computation}
 
@@ -33,6 +35,16 @@ module _ (p q : ℕ) (d : Computation) where
 
   pub not-below-zero : q ≤ p → Computes (one (p - q)) d → Computes (compute Subtract p q) d
   not-below-zero h k = rw (le-ltb p q h) k
+
+-- an assignment, where a source cannot be read, and where both are read
+module _ (c : Cells) (a : Assignment) where
+  pub unread : (r : ℕ) (d : Computation) → readAll c (a .left ∷ a .right ∷ []) ≡ trap r → Computes (trap r) d → Computes (results c a) d
+  unread r d e k = rw e k
+
+  pub both-read : (x y : ℕ) (d : Computation) → readAll c (a .left ∷ a .right ∷ []) ≡ got (x ∷ y ∷ [])
+      → Computes (compute (a .operation) x y) d
+      → Computes (results c a) d
+  both-read x y d e k = rw e k
 
 module _ (c : Cells) where
   pub pair-trap : (p q : Operand) (r : ℕ) → read c p ≡ trap r → readAll c (p ∷ q ∷ []) ≡ trap r

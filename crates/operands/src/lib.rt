@@ -11,6 +11,7 @@ use rules::codes::NUMBER_OPERAND;
 use rules::codes::REGISTER_OPERAND;
 use rules::sorts::Block;
 use rules::sorts::Thread;
+use rules::statement::Assignment;
 use rules::statement::Operand;
 use rules::statement::Operation;
 use state::words::read_word;
@@ -24,6 +25,7 @@ ghost use Rattle.rules.specs.Image.{operands};
 ghost use Rattle.rules.specs.Statements.{operandOf, operandAt, dataOf};
 ghost use Rattle.rules.specs.Effects.{trap, one, compute, read, readAll};
 ghost use Rattle.rules.specs.declared.statement.Operation.the-variants.{Subtract};
+ghost use Rattle.step_laws.specs.Statements.{results};
 ghost use Rattle.operands.specs.Readings.{readingOf, Reads};
 ghost use Rattle.operands.specs.Legal.{Fits, Readable};
 ghost use Rattle.operands.specs.Cells.{cellsFrom, cellsOf};
@@ -213,7 +215,7 @@ fn difference(p: u16, q: u16) -> Computation
     }
 }
 
-pub fn computed(o: Operation, p: u16, q: u16) -> Computation
+fn computed(o: Operation, p: u16, q: u16) -> Computation
     ensures { λ r. ⌜ Computes (compute o p q) r ⌝ }
 {
     let left = p as u32;
@@ -224,4 +226,19 @@ pub fn computed(o: Operation, p: u16, q: u16) -> Computation
         Operation::Subtract => difference(p, q),
         Operation::Multiply => one_result((left * right % 65536) as u16),
     }
+}
+
+// The sources of an assignment, read left to right, and then what its operation works out from them.
+pub fn worked(state: &[u8], w: ThreadState, r: &[u8], a: Assignment) -> Computation
+    requires { ⌜ (length (now state) ≡ stateSize) × Readable (now r) × Fits (a .left) × Fits (a .right) ⌝ }
+    ensures { λ d. ⌜ Computes (results (cellsOf (now (state .entry)) w (now (r .entry))) a) d ⌝ }
+{
+    let operation = a.operation;
+    let left = a.left;
+    let right = a.right;
+    let pair = read_pair(state, w, r, left, right);
+    if pair.trap != 0 {
+        return no_result(pair.trap);
+    }
+    computed(operation, pair.left, pair.right)
 }

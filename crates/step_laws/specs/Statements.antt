@@ -10,14 +10,16 @@ use lib.ListN.{length, getD, set}
 use Rattle.rules.specs.Sorts
 use Rattle.rules.specs.Sizes.{returnCount, heldCount, pendingCount}
 use Rattle.rules.specs.Image.{recordAt, labelA, labelB, rowAt}
-use Rattle.rules.specs.Statements.{statementOf, dataOf, reads}
-use Rattle.rules.specs.Effects.{trap, got, Cells, readAll, Results, compute, holds, assigned, overlaid, perform, outcome}
+use Rattle.rules.specs.Statements.{following, statementOf, dataOf, reads}
+use Rattle.rules.specs.Effects.{Got, trap, got, then, Cells, readAll, Results, compute, holds, assigned, overlaid, View, Outcome, leave}
+use Rattle.rules.specs.Effects.{perform, outcome}
 use Rattle.rules.specs.Machine.{Signal, Job, job, withHeld, idle, running, Machine, threadAt, fill, first, put, window, keep, withThread}
 use Rattle.rules.specs.Events.{step}
 use Rattle.rules.specs.Steps.{Rules, Effect, moves, newest, older, alien, blockAt, actBy, rulesBy, held, finished, admitted, lost}
 use Rattle.rules.specs.Steps.{react}
 use Rattle.rules.specs.declared.statement.Assignment.{Assignment}
 use Rattle.rules.specs.declared.statement.Condition.{Condition}
+use Rattle.rules.specs.declared.statement.Operand.{Operand}
 use Rattle.rules.specs.declared.statement.Statement.{Statement}
 use Rattle.rules.specs.declared.statement.Statement.the-variants.{Skip, Assign, If, SendDirect, SendBuffered, Call, Return, Transfer, Exit}
 use Rattle.rules.specs.declared.statement.Statement.the-variants.{SendTree}
@@ -25,6 +27,27 @@ use Rattle.rules.specs.declared.answer.Answer.the-variants.{Waiting, Moved, Exi
 use Rattle.step_laws.specs.Same.{keep-window, put-same}
 use Rattle.step_laws.specs.Events.{reply}
 use Rattle.step_laws.specs.Running.{traps-by, exits-by, moves-by, moves-on, waits-for, enters}
+
+-- what an assignment works out: its sources are read left to right, and its operation goes by their values
+abbrev pub results : Cells → Assignment → Got Results
+results c a = then (readAll c (a .left ∷ a .right ∷ [])) (λ vs. compute (a .operation) (getD vs 0 0) (getD vs 1 0))
+
+assign-outcome : (v : View) (a : Assignment) (given : List Operand)
+    → outcome v (Assign a) given ≡ then (results (v .cells) a) (λ z. got (leave following true [] (assigned a z (v .cells))))
+unfolding outcome perform
+assign-outcome v a given = read (readAll (v .cells) (a .left ∷ a .right ∷ []))
+  where
+    stored : Results → Got Outcome
+    stored z = got (leave following true [] (assigned a z (v .cells)))
+
+    computed : (g : Got Results) → then (then g (λ x. got (assigned a x (v .cells)))) (λ c. got (leave following true [] c)) ≡ then g stored
+    computed (trap r) = refl
+    computed (got z) = refl
+
+    read : (g : Got (List ℕ)) → then g (λ vs. perform v (Assign a) vs)
+        ≡ then (then g (λ vs. compute (a .operation) (getD vs 0 0) (getD vs 1 0))) stored
+    read (trap r) = refl
+    read (got vs) = computed (compute (a .operation) (getD vs 0 0) (getD vs 1 0))
 
 module _ (image table : List ℕ) (s : Machine) (t l : ℕ) (j : Job) (p : List Signal) (runs : threadAt s t ≡ running l j)
     (tree : first t (s .trees) ≡ some p) where
@@ -60,6 +83,25 @@ module _ (image table : List ℕ) (s : Machine) (t l : ℕ) (j : Job) (p : List 
       → react R s (step t) ≡ reply (admitted R (j .held) (finished R t s)) (Exited (length (lost R (j .held) (finished R t s))))
   leaves e = exits-by R s t l j p runs tree (unfold actBy outcome readAll perform in rw e refl)
 
+  -- ---- ASSIGN
+
+  module _ (a : Assignment) (e : statementOf r ≡ Assign a) where
+    pub unworked : (k : ℕ) → results cellsOf a ≡ trap k → react R s (step t) ≡ reply (finished R t s) (Trapped k)
+    unworked k h = traps-by R s t l j p runs tree k (unfold actBy in rw (e, assign-outcome, h) refl)
+
+    pub assigns : (z : Results) → results cellsOf a ≡ got z
+        → react R s (step t)
+        ≡ reply
+        (record {
+          words = keep own (assigned a z cellsOf .words) (s .words);
+          threads = set (s .threads) t (running l (kept (job (labelA r) (j .returns) (assigned a z cellsOf .registers))));
+          trees = s .trees;
+        }) Moved
+    assigns z h =
+        moves-by R s t l j p runs tree (kept (job (labelA r) (j .returns) (assigned a z cellsOf .registers)))
+        (assigned a z cellsOf .words) none (unfold actBy in rw (e, assign-outcome, h) refl)
+        ∙ rw (append-nil p, put-same t p (s .trees) tree) refl
+
   -- the values that the statement read
   module _ (vs : List ℕ) where
     abbrev x : ℕ
@@ -67,25 +109,6 @@ module _ (image table : List ℕ) (s : Machine) (t l : ℕ) (j : Job) (p : List 
 
     abbrev y : ℕ
     y = getD vs 1 0
-
-    -- ---- ASSIGN
-
-    module _ (a : Assignment) (e : statementOf r ≡ Assign a) (h : readAll cellsOf (reads (Assign a) (dataOf r)) ≡ got vs) where
-      pub uncomputed : (k : ℕ) → compute (a .operation) x y ≡ trap k → react R s (step t) ≡ reply (finished R t s) (Trapped k)
-      uncomputed k c = traps-by R s t l j p runs tree k (unfold actBy outcome perform in rw (e, h, c) refl)
-
-      pub assigns : (z : Results) → compute (a .operation) x y ≡ got z
-          → react R s (step t)
-          ≡ reply
-          (record {
-            words = keep own (assigned a z cellsOf .words) (s .words);
-            threads = set (s .threads) t (running l (kept (job (labelA r) (j .returns) (assigned a z cellsOf .registers))));
-            trees = s .trees;
-          }) Moved
-      assigns z c =
-          moves-by R s t l j p runs tree (kept (job (labelA r) (j .returns) (assigned a z cellsOf .registers)))
-          (assigned a z cellsOf .words) none (unfold actBy outcome perform in rw (e, h, c) refl)
-          ∙ rw (append-nil p, put-same t p (s .trees) tree) refl
 
     -- ---- IF
 

@@ -121,7 +121,7 @@ module _ {image table b : List ℕ} {t : ℕ} {w : ThreadState} {r : List ℕ} (
   abbrev lawRecord : List ℕ
   lawRecord = recordAt image (w .label .0)
 
-  abbrev lawCells : Cells
+  abbrev pub lawCells : Cells
   lawCells = record { registers = jobOf w .registers; words = window (blockAt image (w .label .0)) (machineFrom b .words) }
 
   pub cells-here : cellsOf b w r ≡ lawCells

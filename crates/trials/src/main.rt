@@ -17,7 +17,7 @@ use lines::try_file;
 use memory::Lengths;
 use memory::Memory;
 
-// The lines that name `call`, a call of a machine: of the limits, and of the vectors of the base and of two requests.
+// The lines that name `call`, a call of a machine: of the limits, and of the vectors of the base and of three requests.
 fn try_call(call: &[u8], memory: &mut Memory, lengths: &mut Lengths) {
     try_file(b"limits.txt", call, memory, lengths).print(call, b" lines of the limits agree\n");
     let base = try_file(b"base/damaged.txt", call, memory, lengths);
@@ -26,6 +26,8 @@ fn try_call(call: &[u8], memory: &mut Memory, lengths: &mut Lengths) {
     held.print(call, b" lines of the vectors of held signals agree\n");
     let groups = try_file(b"104/damaged.txt", call, memory, lengths);
     groups.print(call, b" lines of the vectors of groups agree\n");
+    let differences = try_file(b"105/damaged.txt", call, memory, lengths);
+    differences.print(call, b" lines of the vectors of subtraction agree\n");
 }
 
 // The cases of a file, each with its walks.
@@ -58,6 +60,12 @@ fn main() {
         &mut lengths,
         b" lines near states with groups agree\n",
     );
+    try_near(
+        b"105/near.txt",
+        &mut memory,
+        &mut lengths,
+        b" lines near states after subtractions agree\n",
+    );
     try_cases(
         b"base/index.txt",
         &mut memory,
@@ -75,6 +83,12 @@ fn main() {
         &mut memory,
         &mut lengths,
         b" cases of groups agree, with the walks of eight threads\n",
+    );
+    try_cases(
+        b"105/index.txt",
+        &mut memory,
+        &mut lengths,
+        b" cases of subtraction agree, with the walks of eight threads\n",
     );
     link_counts(&mut memory, &mut lengths).print(b"link", b" record counts agree\n");
     let limits = try_file(b"limits.txt", b"link", &mut memory, &mut lengths);
