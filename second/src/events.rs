@@ -55,6 +55,8 @@ pub enum Trap {
     TreeFull,
     ForeignBlock,
     HeldFull,
+    /// A subtraction takes more than there is.
+    BelowZero,
 }
 
 impl Trap {
@@ -66,6 +68,7 @@ impl Trap {
             Trap::TreeFull => 4,
             Trap::ForeignBlock => 5,
             Trap::HeldFull => 6,
+            Trap::BelowZero => 7,
         }
     }
 }

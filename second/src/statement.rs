@@ -18,7 +18,8 @@ pub enum Operand {
     Kept(Place),
 }
 
-/// The right side of ASSIGN.
+/// The right side of ASSIGN. Sums and products are modulo 65,536; a difference
+/// is exact, and below zero there is none.
 #[derive(Clone, Copy, Debug)]
 pub enum Formula {
     Copy(Operand),

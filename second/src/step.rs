@@ -241,13 +241,16 @@ impl Sight<'_> {
         data.iter().map(|operand| self.read(operand)).collect()
     }
 
+    /// Both operands are read before their difference is found below zero.
     fn compute(&self, formula: &Formula) -> Result<u16, Trap> {
-        Ok(match formula {
-            Formula::Copy(p) => self.read(p)?,
-            Formula::Add(p, q) => self.read(p)?.wrapping_add(self.read(q)?),
-            Formula::Subtract(p, q) => self.read(p)?.wrapping_sub(self.read(q)?),
-            Formula::Multiply(p, q) => self.read(p)?.wrapping_mul(self.read(q)?),
-        })
+        match formula {
+            Formula::Copy(p) => self.read(p),
+            Formula::Add(p, q) => Ok(self.read(p)?.wrapping_add(self.read(q)?)),
+            Formula::Subtract(p, q) => {
+                self.read(p)?.checked_sub(self.read(q)?).ok_or(Trap::BelowZero)
+            }
+            Formula::Multiply(p, q) => Ok(self.read(p)?.wrapping_mul(self.read(q)?)),
+        }
     }
 
     fn holds(&self, test: &Test) -> Result<bool, Trap> {

@@ -1,34 +1,28 @@
 //! Trials that generated machines meet every case of held signals.
 
-use super::trials::{begun, faults_met};
+use super::trials::{each_event, faults_met};
 use super::{only_held_changed, Lent};
 use crate::events::Event;
-use crate::image::Program;
-use crate::state::State;
 use crate::step::carry_out;
 use std::collections::BTreeSet;
 
 #[test]
 fn jobs_that_hold_signals_end_in_every_way() {
     let mut ends = BTreeSet::new();
-    for lent in (0..400).map(begun) {
-        let program = Program::decode(&lent.image, &lent.table).unwrap();
-        let mut state = State::decode(&program, &lent.state).unwrap();
-        for event in Event::decode_list(&program, &lent.events).unwrap() {
-            let holds = match event {
-                Event::Arrival(_) => false,
-                Event::Step(thread) | Event::Cut(thread) => {
-                    state.job(thread).is_some_and(|job| !job.held.is_empty())
-                }
-            };
-            let answer = carry_out(&program, &mut state, &event).encode();
-            if holds && answer[0] >= 7 {
-                ends.insert(answer);
+    each_event(0..400, |program, state, event| {
+        let holds = match *event {
+            Event::Arrival(_) => false,
+            Event::Step(thread) | Event::Cut(thread) => {
+                state.job(thread).is_some_and(|job| !job.held.is_empty())
             }
+        };
+        let answer = carry_out(program, state, event).encode();
+        if holds && answer[0] >= 7 {
+            ends.insert(answer);
         }
-    }
+    });
     let exits = (0..=4).map(|lost| [7, lost]);
-    let traps = (1..=6).map(|reason| [8, reason]);
+    let traps = (1..=7).map(|reason| [8, reason]);
     assert_eq!(ends, exits.chain(traps).chain([[9, 0]]).collect());
 }
 

@@ -1,5 +1,6 @@
 //! Valid images at random.
 
+use super::known::Known;
 use super::layout::{layout, Position, Slot};
 use super::operands::Operands;
 use super::random::Random;
@@ -28,7 +29,10 @@ pub fn record_count(random: &mut Random) -> usize {
 /// An image of so many records that keeps every rule and names only these blocks.
 pub fn image_in(random: &mut Random, count: usize, blocks: &[Block]) -> Vec<u8> {
     let draft = Draft::draw(random, count, blocks);
-    let records: Vec<Record> = draft.labels.iter().map(|&at| draft.record(random, at)).collect();
+    let mut records: Vec<Record> = Vec::new();
+    for &at in &draft.labels {
+        records.push(draft.record(random, at, records.last()));
+    }
     image_bytes(&records)
 }
 
@@ -46,7 +50,7 @@ struct Draft {
 type Weights = [[usize; 11]; 3];
 
 const USUAL_WEIGHTS: Weights = [
-    [1, 4, 1, 3, 1, 5, 12, 0, 1, 0, 5],
+    [1, 6, 1, 3, 1, 5, 12, 0, 1, 0, 5],
     [0, 0, 0, 0, 3, 0, 0, 8, 2, 1, 0],
     [0, 0, 0, 0, 4, 0, 0, 1, 2, 5, 0],
 ];
@@ -65,12 +69,19 @@ impl Draft {
         &self.slots[at.index()]
     }
 
-    fn record(&self, random: &mut Random, at: Label) -> Record {
+    /// Within a routine, what the record before has set to a number is mostly
+    /// subtracted or subtracted from.
+    fn record(&self, random: &mut Random, at: Label, before: Option<&Record>) -> Record {
         let Slot { block, entry, position } = *self.slot(at);
         let next = self.next_inside(random, at);
         let opcode = 1 + random.weighted(&self.weights[position as usize]);
-        let drawn = match opcode {
-            5..=9 | 11 => self.signalling(random, opcode, block, next),
+        let known = before.and_then(|record| Known::set_by(&record.statement));
+        let drawn = match (position, known, opcode) {
+            (Position::Within, Some(known), _) if !random.once_in(4) => {
+                let (to, formula) = (self.operands(block).place(random), known.subtraction(random));
+                Some(Statement::Assign { to, formula, on: next })
+            }
+            (_, _, 5..=9 | 11) => self.signalling(random, opcode, block, next),
             _ => Some(self.computing(random, opcode, at, next)),
         };
         let statement = drawn.unwrap_or(match position {
@@ -163,7 +174,7 @@ fn weights(random: &mut Random) -> Weights {
     }
     let within = &mut weights[Position::Within as usize];
     if random.once_in(3) {
-        let fond_of = random.one_of([2, 4, 6, 6, 7, 7, 9]);
+        let fond_of = random.one_of([2, 2, 4, 6, 6, 7, 7, 9]);
         within[fond_of - 1] += 40;
     }
     if random.once_in(4) {

@@ -1,6 +1,6 @@
 //! Trials that generated machines meet every case of grouped blocks.
 
-use super::trials::{begun, faults_met};
+use super::trials::{begun, each_event, faults_met};
 use super::{damage, only_locks_changed, pair, table, Lent, Random};
 use crate::check;
 use crate::events::{Answer, Event};
@@ -99,17 +99,13 @@ impl Met {
 #[test]
 fn jobs_enter_further_blocks_of_their_groups_while_others_wait() {
     let mut met = Met::default();
-    for lent in (0..200).map(begun) {
-        let program = Program::decode(&lent.image, &lent.table).unwrap();
-        let mut state = State::decode(&program, &lent.state).unwrap();
-        for event in Event::decode_list(&program, &lent.events).unwrap() {
-            if let Event::Step(thread) = event {
-                met.step(&program, &mut state, thread);
-            } else {
-                carry_out(&program, &mut state, &event);
-            }
+    each_event(0..200, |program, state, event| {
+        if let Event::Step(thread) = *event {
+            met.step(program, state, thread);
+        } else {
+            carry_out(program, state, event);
         }
-    }
+    });
     assert_eq!(met.waits.len(), 8);
     assert!(met.further > 200);
 }

@@ -6,6 +6,7 @@ mod events;
 #[cfg(test)]
 mod held_trials;
 mod image;
+mod known;
 mod layout;
 mod lock_damage;
 #[cfg(test)]
@@ -13,6 +14,8 @@ mod lock_trials;
 mod operands;
 mod pair;
 mod random;
+#[cfg(test)]
+mod subtraction_trials;
 mod table;
 #[cfg(test)]
 mod trials;

@@ -1,5 +1,6 @@
 //! Operands at random.
 
+use super::known::Known;
 use super::random::Random;
 use crate::registers::Registers;
 use crate::sorts::Block;
@@ -27,10 +28,11 @@ impl Operands {
 
     pub fn formula(&self, random: &mut Random) -> Formula {
         let (p, q) = (self.operand(random), self.operand(random));
-        match random.below(4) {
+        match random.weighted(&[4, 2, 1, 1, 2]) {
             0 => Formula::Copy(p),
             1 => Formula::Add(p, q),
             2 => Formula::Subtract(p, q),
+            3 => Known::number(random.value()).subtraction(random),
             _ => Formula::Multiply(p, q),
         }
     }

@@ -64,7 +64,7 @@ impl Random {
     pub fn value(&mut self) -> u16 {
         let any = self.draw() as u16;
         match self.weighted(&[4, 1, 1]) {
-            0 => any % 8,
+            0 => any % 4,
             1 => 65_535 - any % 4,
             _ => any,
         }

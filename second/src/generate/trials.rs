@@ -1,8 +1,12 @@
 //! Trials over generated machines.
 
 use super::{damage, damage_pair, lent, pair, Lent, Pair, Random};
+use crate::events::Event;
+use crate::image::Program;
+use crate::state::State;
 use crate::{check, fresh, link, relocated_events, relocated_state, run, second_order};
 use std::collections::BTreeSet;
+use std::ops::Range;
 
 /// A generated machine as Fresh leaves it.
 pub fn begun(seed: u64) -> Lent {
@@ -10,6 +14,17 @@ pub fn begun(seed: u64) -> Lent {
     assert_eq!(check(&lent.image, &lent.table), 0);
     assert_eq!(fresh(&lent.image, &lent.table, &lent.words, &mut lent.state), 0);
     lent
+}
+
+/// Hands every event of these machines to `act`, which carries it out.
+pub fn each_event(seeds: Range<u64>, mut act: impl FnMut(&Program, &mut State, &Event)) {
+    for lent in seeds.map(begun) {
+        let program = Program::decode(&lent.image, &lent.table).unwrap();
+        let mut state = State::decode(&program, &lent.state).unwrap();
+        for event in Event::decode_list(&program, &lent.events).unwrap() {
+            act(&program, &mut state, &event);
+        }
+    }
 }
 
 /// The faults that damage of one sort makes in states that Run left, or "none"

@@ -40,6 +40,10 @@ pub fn call(signal: u16, back: u16) -> Statement {
     Statement::Call { signal: at(signal), data: Vec::new(), back: at(back) }
 }
 
+pub fn send(signal: u16, on: u16) -> Statement {
+    Statement::SendBuffered { signal: at(signal), data: Vec::new(), on: at(on) }
+}
+
 pub fn hold(signal: u16, data: Vec<Operand>, on: u16) -> Statement {
     Statement::SendJobTree { signal: at(signal), data, on: at(on) }
 }

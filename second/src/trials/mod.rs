@@ -7,3 +7,4 @@ mod held_form;
 mod link;
 mod new_trees;
 mod rules;
+mod subtraction;

@@ -1,15 +1,13 @@
 //! The trials of signals that found new trees.
 
-use super::bench::{arrival, at, call, cut, exit, hold, record, step, Bench, HELD, IDLE, TREES};
+use super::bench::{
+    arrival, at, call, cut, exit, hold, record, send, step, Bench, HELD, IDLE, TREES,
+};
 use crate::image::{Entry, Record};
 use crate::statement::{Operand, Place, Statement};
 
 fn hold_number(signal: u16, number: u16, on: u16) -> Statement {
     hold(signal, vec![Operand::Number(number)], on)
-}
-
-fn send(signal: u16, on: u16) -> Statement {
-    Statement::SendBuffered { signal: at(signal), data: Vec::new(), on: at(on) }
 }
 
 fn inside(statement: Statement) -> Record {
