@@ -64,7 +64,8 @@ module _ (image table words state : List ℕ) (runs : List Run) (calls : Calls i
   -- comes after
   pub record Stepped (before after : List Event) (t c d : ℕ) (m : Machine) : Type 0 where
     pub list : eventList runs
-        ≡ entriesTo image table words before ++ record { event = eventBytes (step t); answer = c ∷ d ∷ [] } ∷ entriesFrom image table m after
+        ≡ entriesTo image table words before
+        ++ record { event = eventBytes (step t); answer = c ∷ d ∷ [] } ∷ entriesFrom image table m after
     pub left : after ≡ [] → machineFrom (lastLeft (freshState image table words state) runs) ≡ m
 
   -- a trap with this reason: the job ended, no word changed, and the thread is idle

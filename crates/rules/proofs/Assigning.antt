@@ -204,7 +204,9 @@ module _ (image table : List ℕ) (s : Machine) (t locks : ℕ) (j : Job) (p q v
 
   pub product : p * q ≡ v + 65536 * m → Stores image table s t locks j multiplyCode p q v
   unfolding operationAt
-  product e = let r : p * q % 65536 ≡ v = omega arith in stores-value image table s t locks j multiplyCode Multiply refl refl p q v (ap one r)
+  product e =
+      let r : p * q % 65536 ≡ v = omega arith in
+      stores-value image table s t locks j multiplyCode Multiply refl refl p q v (ap one r)
 
 -- ---- subtract, which goes no further than zero
 

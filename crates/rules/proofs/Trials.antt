@@ -273,8 +273,10 @@ trials image table s t locks j values = record {
   foreign-FD = λ r k h.
       let alien-row = opcodes.foreign (rowAt table (blockAt image (A image j))) t k h in
       answered (stepOf image table s t) (Trapped 5) (opcodes.direct-trap image table r alien-row);
-  CMX = λ r k h. opcodes.direct image table r (record { own = opcodes.cmx (rowAt table (blockAt image (A image j))) t k; free = h }) .answer;
-  own-FD = λ r k h. opcodes.direct image table r (record { own = opcodes.own (rowAt table (blockAt image (A image j))) t k; free = h }) .answer;
+  CMX = λ r k h.
+      opcodes.direct image table r (record { own = opcodes.cmx (rowAt table (blockAt image (A image j))) t k; free = h }) .answer;
+  own-FD = λ r k h.
+      opcodes.direct image table r (record { own = opcodes.own (rowAt table (blockAt image (A image j))) t k; free = h }) .answer;
   arrival-last = λ g h. rw (taken image table s g h);
   return-keeps-locks = opcodes.return image table;
   locks-kept = λ R. locks-kept R s;
