@@ -17,7 +17,7 @@ enum damaged_part { HELD_SIGNALS, LOCK_SETS, ANY_BYTES, DAMAGED_PARTS };
 enum damaged_part damage_state(const struct machine *machine, uint8_t *state);
 
 /* What a thread's next step subtracts: q from a p that is above it, equals it or is below it, or q from an
- * absent register, which is zero and so below it. Where q is an absent register, nothing. */
+ * absent register, which is zero and so below it. Any other subtraction with an absent register is none. */
 enum subtraction { NO_SUBTRACTION, P_ABOVE_Q, P_EQUALS_Q, P_BELOW_Q, ABSENT_BELOW_Q, SUBTRACTIONS };
 enum subtraction next_subtraction(const struct machine *machine, const uint8_t *state, uint32_t thread);
 

@@ -72,7 +72,7 @@ void bench_founder_image(uint8_t *image, size_t records)
 
 void bench_job_events(uint8_t *events, size_t count, size_t records)
 {
-    /* The routine subtracts the second from the first. */
+    /* The routine subtracts the second from the first, which is the larger: below zero its job would end. */
     static const uint16_t values[] = {300, 7, 5};
     uint32_t routines = (uint32_t)(records / ROUTINE);
     for (uint32_t i = 0; i < count; i++) {

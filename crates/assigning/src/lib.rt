@@ -2,7 +2,7 @@
 use ending::trapped;
 use image::record_fields::block_field;
 use image::record_fields::label_a;
-use operands::worked;
+use operands::results_of;
 use rules::answer::Answer;
 use rules::sorts::Block;
 use rules::sorts::Thread;
@@ -121,7 +121,7 @@ pub fn assign(
     requires { ⌜ At (now image) (now table) (now state) (t .0) w (now r) × (statementOf (now r) ≡ Assign a) ⌝ }
     ensures { λ z. ⌜ Stepped (now (image .entry)) (now (table .entry)) (now (state .entry)) (t .0) (now (state .exit)) z ⌝ }
 {
-    let results = worked(state, w, r, a);
+    let results = results_of(state, w, r, a);
     if results.trap != 0 {
         return trapped(image, table, state, t, w, results.trap);
     }

@@ -14,7 +14,7 @@ use Rattle.rules.specs.Machine.{Job, running, Machine, threadAt, locksOf}
 use Rattle.rules.specs.Events.{Event, step, eventBytes}
 use Rattle.rules.specs.Answers.{Sort, out, code, detail, answerBytes, sortOfCode}
 use Rattle.rules.specs.Steps.{Rules, Move, Reply, rulesBy, applied, react}
-use Rattle.rules.specs.Order.{Sheet, noteAs, notesBy, blank, spread, orderBy, ByteEntry, byteOrder}
+use Rattle.rules.specs.Order.{Sheet, noteAs, notesBy, blank, spread, orderBy, byteOrder}
 use Rattle.rules.specs.Calls.{freshState}
 use Rattle.soundness.specs.CheckedRules.{checked-laws}
 use Rattle.soundness.specs.Laws.{Needs, Laws}
@@ -40,19 +40,14 @@ module _ (image table words state : List ℕ) (runs : List Run) (calls : Calls i
   abbrev R : Rules
   R = rulesBy image table
 
-  abbrev to : List Event → List ByteEntry
-  to before = entriesTo image table words before
-
-  abbrev from : Machine → List Event → List ByteEntry
-  from s after = entriesFrom image table s after
-
   -- after these events a step of thread t was answered 4 with the lock of block c, and changed nothing; the second order is that of the
   -- other events, and it reads as the calls do
   pub record Waited (c : ℕ) (before after : List Event) (t : ℕ) : Type 0 where
     pub list : eventList runs
-        ≡ to before ++ record { event = eventBytes (step t); answer = 4 ∷ rowAt table c .lock ∷ [] }
-        ∷ from (reached image table words before) after
-    pub order : byteOrder (eventList runs) ≡ byteOrder (to before ++ from (reached image table words before) after)
+        ≡ entriesTo image table words before ++ record { event = eventBytes (step t); answer = 4 ∷ rowAt table c .lock ∷ [] }
+        ∷ entriesFrom image table (reached image table words before) after
+    pub order : byteOrder (eventList runs)
+        ≡ byteOrder (entriesTo image table words before ++ entriesFrom image table (reached image table words before) after)
     pub reading : OneByOneCalls image table (freshState image table words state) runs
 
   module _ (before after : List Event) (t : ℕ) (split : eventsOf (eventList runs) ≡ before ++ step t ∷ after) where
@@ -64,7 +59,8 @@ module _ (image table words state : List ℕ) (runs : List Run) (calls : Calls i
 
     told : (r : Reply) → react R s (step t) ≡ r
         → eventList runs
-        ≡ to before ++ record { event = eventBytes (step t); answer = answerBytes (r .answer) } ∷ from (r .state) after
+        ≡ entriesTo image table words before
+        ++ record { event = eventBytes (step t); answer = answerBytes (r .answer) } ∷ entriesFrom image table (r .state) after
     told = entries image table words state runs calls before after t split
 
     laws : Laws R
@@ -80,8 +76,8 @@ module _ (image table words state : List ℕ) (runs : List Run) (calls : Calls i
       -- A THREAD THAT HOLDS THE LOCK OF A BLOCK ENTERS IT WITHOUT WAITING, AND ITS LOCK SET STAYS AS IT IS
       pub enters-with-its-lock : (locks : ℕ) (j : Job) → t < threadCount → threadAt s t ≡ running locks j
           → has (rowAt table c .lock) locks ≡ true
-          → (eventList runs ≡ to before ++ record { event = eventBytes (step t); answer = 6 ∷ 0 ∷ [] }
-          ∷ from (applied R t m s) after) × (locksOf (threadAt (applied R t m s) t) ≡ locks)
+          → (eventList runs ≡ entriesTo image table words before ++ record { event = eventBytes (step t); answer = 6 ∷ 0 ∷ [] }
+          ∷ entriesFrom image table (applied R t m s) after) × (locksOf (threadAt (applied R t m s) t) ≡ locks)
       unfolding answerBytes code detail
       enters-with-its-lock locks j inside busy own =
           let r = groups.enters-with-its-lock R laws s invariant t c locks j m inside busy own wants in (
@@ -97,6 +93,8 @@ module _ (image table words state : List ℕ) (runs : List Run) (calls : Calls i
           let r = groups.waits-for-the-lock R laws s invariant t u c m n held wants in
           record {
             list = told _ r;
-            order = ap byteOrder (told _ r) ∙ left-out _ _ (to before) (from s after) _ refl;
+            order =
+                ap byteOrder (told _ r)
+                ∙ left-out _ _ (entriesTo image table words before) (entriesFrom image table s after) _ refl;
             reading = whole.calls-one-by-one image table words state runs calls;
           }

@@ -1,4 +1,4 @@
--- A list of calls, cut at one step: the machine that the events before it have left, the step's entry in the event list, and what the
+-- A list of calls, parted at one step: the machine that the events before it have left, the step's entry in the event list, and what the
 -- calls leave where it is the last event.
 use mathlib.Core.Path.{_≡_, sym, ap, _∙_, subst}
 use mathlib.Core.List.{List, [], _∷_, _++_, map, map-append}
@@ -34,7 +34,7 @@ module _ (image table words state : List ℕ) (runs : List Run) (calls : Calls i
   R = rulesBy image table
 
   abbrev first : Machine
-  first = fresh (wordsFrom words)
+  first = whole.first image table words state runs calls
 
   module _ (before after : List Event) (t : ℕ) (split : eventsOf (eventList runs) ≡ before ++ step t ∷ after) where
     parted : whole.joint image table words state runs calls ≡ before ++ step t ∷ after

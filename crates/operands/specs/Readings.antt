@@ -2,14 +2,11 @@
 use mathlib.Core.Path.{_≡_}
 use mathlib.Core.List.{List}
 use Prim.Native.Nat.{ℕ, _≤_}
-use mathlib.Core.Option.{Option, none, some}
-use lib.ListN.{length, take, drop, getD, replicate}
+use lib.ListN.{length, take, drop, replicate}
 use Rattle.rules.specs.Sizes.{operandCount}
 use Rattle.rules.specs.Image.{operands}
 use Rattle.rules.specs.Statements.{dataOf}
-use Rattle.rules.specs.Effects.{Got, trap, got, Cells, present, read, readAll}
-use Rattle.rules.specs.declared.statement.Operand.{Operand}
-use Rattle.rules.specs.declared.statement.Operand.the-variants.{Number, Register, Word}
+use Rattle.rules.specs.Effects.{Got, trap, got, readAll}
 use Rattle.laws.specs.Logic.{never}
 use Rattle.threads.specs.declared.thread.ThreadState.{ThreadState}
 use Rattle.operands.specs.Cells.{cellsOf}
@@ -40,13 +37,3 @@ reading-value (got u) v e = cc
 pub reading-trap : (g : Got ℕ) (r : ℕ) → readingOf g ≡ Trap r → g ≡ trap r
 reading-trap (trap x) r e = cc
 reading-trap (got u) r e = never (cc)
-
--- reading an operand traps for one reason only
-pub read-reason : (c : Cells) (p : Operand) (r : ℕ) → read c p ≡ trap r → r ≡ 1
-read-reason c (Number v) r e = never (cc)
-read-reason c (Register k) r e = case (getD (c .registers) k none) e
-  where
-    case : (o : Option ℕ) → present o ≡ trap r → r ≡ 1
-    case none q = cc
-    case (some v) q = never (cc)
-read-reason c (Word w) r e = never (cc)

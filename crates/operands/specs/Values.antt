@@ -1,13 +1,12 @@
 -- Two operands read, and what is worked out from them.
-use mathlib.Core.Path.{_≡_, refl}
+use mathlib.Core.Path.{_≡_}
 use mathlib.Core.List.{List, [], _∷_}
 use Prim.Native.Nat.{ℕ, _-_, _<_, _≤_}
 use native.Mathlib.Omega.{arith}
 use borrow.Author.Tests.{lt-ltb, le-ltb}
 use Rattle.rules.specs.Codes.{belowZeroCode}
-use Rattle.rules.specs.Effects.{Got, trap, got, Cells, read, readAll, Results, one, compute}
+use Rattle.rules.specs.Effects.{Got, trap, got, Cells, readAll, Results, one, compute}
 use Rattle.rules.specs.declared.statement.Assignment.{Assignment}
-use Rattle.rules.specs.declared.statement.Operand.{Operand}
 use Rattle.rules.specs.declared.statement.Operation.the-variants.{Subtract}
 use Rattle.step_laws.specs.Statements.{results}
 use Rattle.operands.specs.declared.Pair.{Pair}
@@ -45,16 +44,3 @@ module _ (c : Cells) (a : Assignment) where
       → Computes (compute (a .operation) x y) d
       → Computes (results c a) d
   both-read x y d e k = rw e k
-
-module _ (c : Cells) where
-  pub pair-trap : (p q : Operand) (r : ℕ) → read c p ≡ trap r → readAll c (p ∷ q ∷ []) ≡ trap r
-  unfolding readAll
-  pair-trap p q r e = rw e refl
-
-  pub pair-second : (p q : Operand) (v r : ℕ) → read c p ≡ got v → read c q ≡ trap r → readAll c (p ∷ q ∷ []) ≡ trap r
-  unfolding readAll
-  pair-second p q v r e f = rw (e, f) refl
-
-  pub pair-both : (p q : Operand) (v u : ℕ) → read c p ≡ got v → read c q ≡ got u → readAll c (p ∷ q ∷ []) ≡ got (v ∷ u ∷ [])
-  unfolding readAll
-  pair-both p q v u e f = rw (e, f) refl

@@ -1,5 +1,5 @@
 // The operands of a statement, read: a thread's registers from its value, and the shared words of the statement's own block from a
-// state's bytes.
+// state's bytes; and what an assignment works out from them.
 use decoding::kind_at;
 use decoding::value_at;
 use fields::read::wide;
@@ -175,7 +175,7 @@ pub fn read_pair(state: &[u8], w: ThreadState, r: &[u8], p: Operand, q: Operand)
     }
 }
 
-// What an operation works out, a value for each destination, or the reason of the trap that it makes.
+// What is worked out, a value for each destination, or the reason of the trap instead.
 pub struct Computation {
     pub first: u16,
     pub second: u16,
@@ -228,8 +228,8 @@ fn computed(o: Operation, p: u16, q: u16) -> Computation
     }
 }
 
-// The sources of an assignment, read left to right, and then what its operation works out from them.
-pub fn worked(state: &[u8], w: ThreadState, r: &[u8], a: Assignment) -> Computation
+// The results of an assignment: its sources are read left to right, and then its operation goes by their values.
+pub fn results_of(state: &[u8], w: ThreadState, r: &[u8], a: Assignment) -> Computation
     requires { ⌜ (length (now state) ≡ stateSize) × Readable (now r) × Fits (a .left) × Fits (a .right) ⌝ }
     ensures { λ d. ⌜ Computes (results (cellsOf (now (state .entry)) w (now (r .entry))) a) d ⌝ }
 {

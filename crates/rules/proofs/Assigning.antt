@@ -33,8 +33,8 @@ use Rattle.rules.proofs.Opcodes.{stepOf, A, register}
 use Rattle.rules.proofs.Ends.{ends, trap-state}
 
 -- operand i of the record at a job's label
-abbrev source : List ℕ → Job → ℕ → Operand
-source image j i = operandAt (recordAt image (j .label)) i
+abbrev operand : List ℕ → Job → ℕ → Operand
+operand image j i = operandAt (recordAt image (j .label)) i
 
 -- thread t holds these locks and runs this job, at whose label a record of ASSIGN with this operator stands: operand 0 is the
 -- destination d, and operands 1 and 2 are read as p and q
@@ -42,9 +42,9 @@ pub record Assigns (image : List ℕ) (s : Machine) (t locks : ℕ) (j : Job) (o
   pub thread : threadAt s t ≡ running locks j
   pub assign : opcode (recordAt image (j .label)) ≡ assignCode
   pub operation : operator (recordAt image (j .label)) ≡ o
-  pub destination : operandAt (recordAt image (j .label)) 0 ≡ d
-  pub left : read (cellsOf image s j) (operandAt (recordAt image (j .label)) 1) ≡ got p
-  pub right : read (cellsOf image s j) (operandAt (recordAt image (j .label)) 2) ≡ got q
+  pub destination : operand image j 0 ≡ d
+  pub left : read (cellsOf image s j) (operand image j 1) ≡ got p
+  pub right : read (cellsOf image s j) (operand image j 2) ≡ got q
 
 -- the same with an absent register r as operand i, which is 1 or 2
 pub record ReadsAbsent (image : List ℕ) (s : Machine) (t locks : ℕ) (j : Job) (o i r : ℕ) : Type 0 where
@@ -52,7 +52,7 @@ pub record ReadsAbsent (image : List ℕ) (s : Machine) (t locks : ℕ) (j : Job
   pub assign : opcode (recordAt image (j .label)) ≡ assignCode
   pub operation : operator (recordAt image (j .label)) ≡ o
   pub place : (i ≡ 1) ⊎ (i ≡ 2)
-  pub source : operandAt (recordAt image (j .label)) i ≡ Register r
+  pub source : operand image j i ≡ Register r
   pub absent : getD (j .registers) r none ≡ none
 
 -- an answer of 6, 0, after which register r of thread t has this value; and the same of a shared word
@@ -189,11 +189,11 @@ module _ (image table : List ℕ) (s : Machine) (t locks : ℕ) (j : Job) (o : �
       traps-with image table s t locks j 1 (h .thread)
       (unread image table s t locks j (Assign a) 1 (h .thread) (rw (h .assign, h .operation, named)) (rw binary (either (h .place))))
     where
-      either : (i ≡ 1) ⊎ (i ≡ 2) → readAll (cellsOf image s j) (source image j 1 ∷ source image j 2 ∷ []) ≡ trap 1
-      either (inl e) = let f : source image j 1 ≡ Register r = rw e at (h .source) in rw (f, h .absent)
+      either : (i ≡ 1) ⊎ (i ≡ 2) → readAll (cellsOf image s j) (operand image j 1 ∷ operand image j 2 ∷ []) ≡ trap 1
+      either (inl e) = let f : operand image j 1 ≡ Register r = rw e at (h .source) in rw (f, h .absent)
       either (inr e) =
-          let f : source image j 2 ≡ Register r = rw e at (h .source) in
-          second-absent (cellsOf image s j) (source image j 1) (source image j 2) (rw (f, h .absent))
+          let f : operand image j 2 ≡ Register r = rw e at (h .source) in
+          second-absent (cellsOf image s j) (operand image j 1) (operand image j 2) (rw (f, h .absent))
 
 -- ---- add and multiply, each modulo 65,536
 
@@ -210,8 +210,8 @@ module _ (image table : List ℕ) (s : Machine) (t locks : ℕ) (j : Job) (p q v
 
 -- ---- subtract, which goes no further than zero
 
-worked : (p q : ℕ) (b : Bool) → ltb p q ≡ b → compute Subtract p q ≡ cond b (trap 7) (one (p - q))
-worked p q b e = ap (λ c. cond c (trap 7) (one (p - q))) e
+compute-subtract : (p q : ℕ) (b : Bool) → ltb p q ≡ b → compute Subtract p q ≡ cond b (trap 7) (one (p - q))
+compute-subtract p q b e = ap (λ c. cond c (trap 7) (one (p - q))) e
 
 module _ (image table : List ℕ) (s : Machine) (t locks : ℕ) (j : Job) where
   pub difference : (p q v : ℕ) → v + q ≡ p → Stores image table s t locks j subtractCode p q v
@@ -219,12 +219,12 @@ module _ (image table : List ℕ) (s : Machine) (t locks : ℕ) (j : Job) where
   difference p q v e =
       let r : p - q ≡ v = omega arith in
       let above : ltb p q ≡ false = le-ltb p q (omega arith) in
-      stores-value image table s t locks j subtractCode Subtract refl refl p q v (worked p q false above ∙ ap one r)
+      stores-value image table s t locks j subtractCode Subtract refl refl p q v (compute-subtract p q false above ∙ ap one r)
 
   pub below-zero : (p q : ℕ) → p < q → (d : Operand) → Assigns image s t locks j subtractCode d p q
       → TrapsWith (stepOf image table s t) s t 7
   unfolding operationAt
-  below-zero p q l d h = traps image table s t locks j subtractCode Subtract refl refl p q d h 7 (worked p q true (lt-ltb p q l))
+  below-zero p q l d h = traps image table s t locks j subtractCode Subtract refl refl p q d h 7 (compute-subtract p q true (lt-ltb p q l))
 
   pub absent-first : (i r : ℕ) → ReadsAbsent image s t locks j subtractCode i r → TrapsWith (stepOf image table s t) s t 1
   unfolding operationAt

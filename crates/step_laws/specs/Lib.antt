@@ -1,4 +1,5 @@
 pub mod Same
 pub mod Events
 pub mod Running
+pub mod Reading
 pub mod Statements

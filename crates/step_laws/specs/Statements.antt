@@ -28,6 +28,10 @@ use Rattle.step_laws.specs.Same.{keep-window, put-same}
 use Rattle.step_laws.specs.Events.{reply}
 use Rattle.step_laws.specs.Running.{traps-by, exits-by, moves-by, moves-on, waits-for, enters}
 
+-- the registers of a job, and the words of the block that it is in
+abbrev pub cellsAt : List ℕ → Machine → Job → Cells
+cellsAt image s j = record { registers = j .registers; words = window (blockAt image (j .label)) (s .words) }
+
 -- what an assignment works out: its sources are read left to right, and its operation goes by their values
 abbrev pub results : Cells → Assignment → Got Results
 results c a = then (readAll c (a .left ∷ a .right ∷ [])) (λ vs. compute (a .operation) (getD vs 0 0) (getD vs 1 0))
@@ -60,8 +64,8 @@ module _ (image table : List ℕ) (s : Machine) (t l : ℕ) (j : Job) (p : List 
   abbrev own : ℕ
   own = blockAt image (j .label)
 
-  abbrev pub cellsOf : Cells
-  cellsOf = record { registers = j .registers; words = window own (s .words) }
+  abbrev cellsOf : Cells
+  cellsOf = cellsAt image s j
 
   abbrev effect : Effect
   effect = actBy image table t j (window own (s .words)) (length p)

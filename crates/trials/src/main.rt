@@ -30,14 +30,38 @@ fn try_call(call: &[u8], memory: &mut Memory, lengths: &mut Lengths) {
     differences.print(call, b" lines of the vectors of subtraction agree\n");
 }
 
-// The cases of a file, each with its walks.
-fn try_cases(path: &[u8], memory: &mut Memory, lengths: &mut Lengths, of: &[u8]) {
-    try_file(path, b"run=", memory, lengths).print(b"run", of);
+// Walks from states near those of the cases.
+fn try_near(memory: &mut Memory, lengths: &mut Lengths) {
+    let held = try_file(b"102/near.txt", b"walk", memory, lengths);
+    held.print(b"walk", b" lines near states with held signals agree\n");
+    let groups = try_file(b"104/near.txt", b"walk", memory, lengths);
+    groups.print(b"walk", b" lines near states with groups agree\n");
+    let differences = try_file(b"105/near.txt", b"walk", memory, lengths);
+    differences.print(b"walk", b" lines near states after subtractions agree\n");
 }
 
-// Walks from states near those of the cases.
-fn try_near(path: &[u8], memory: &mut Memory, lengths: &mut Lengths, of: &[u8]) {
-    try_file(path, b"walk", memory, lengths).print(b"walk", of);
+// The cases, each with its walks.
+fn try_cases(memory: &mut Memory, lengths: &mut Lengths) {
+    let base = try_file(b"base/index.txt", b"run=", memory, lengths);
+    base.print(
+        b"run",
+        b" cases of the base agree, with the walks of eight threads\n",
+    );
+    let held = try_file(b"102/index.txt", b"run=", memory, lengths);
+    held.print(
+        b"run",
+        b" cases of held signals agree, with the walks of eight threads\n",
+    );
+    let groups = try_file(b"104/index.txt", b"run=", memory, lengths);
+    groups.print(
+        b"run",
+        b" cases of groups agree, with the walks of eight threads\n",
+    );
+    let differences = try_file(b"105/index.txt", b"run=", memory, lengths);
+    differences.print(
+        b"run",
+        b" cases of subtraction agree, with the walks of eight threads\n",
+    );
 }
 
 fn main() {
@@ -48,48 +72,8 @@ fn main() {
     try_call(b"fresh", &mut memory, &mut lengths);
     try_call(b"run", &mut memory, &mut lengths);
     try_call(b"walk", &mut memory, &mut lengths);
-    try_near(
-        b"102/near.txt",
-        &mut memory,
-        &mut lengths,
-        b" lines near states with held signals agree\n",
-    );
-    try_near(
-        b"104/near.txt",
-        &mut memory,
-        &mut lengths,
-        b" lines near states with groups agree\n",
-    );
-    try_near(
-        b"105/near.txt",
-        &mut memory,
-        &mut lengths,
-        b" lines near states after subtractions agree\n",
-    );
-    try_cases(
-        b"base/index.txt",
-        &mut memory,
-        &mut lengths,
-        b" cases of the base agree, with the walks of eight threads\n",
-    );
-    try_cases(
-        b"102/index.txt",
-        &mut memory,
-        &mut lengths,
-        b" cases of held signals agree, with the walks of eight threads\n",
-    );
-    try_cases(
-        b"104/index.txt",
-        &mut memory,
-        &mut lengths,
-        b" cases of groups agree, with the walks of eight threads\n",
-    );
-    try_cases(
-        b"105/index.txt",
-        &mut memory,
-        &mut lengths,
-        b" cases of subtraction agree, with the walks of eight threads\n",
-    );
+    try_near(&mut memory, &mut lengths);
+    try_cases(&mut memory, &mut lengths);
     link_counts(&mut memory, &mut lengths).print(b"link", b" record counts agree\n");
     let limits = try_file(b"limits.txt", b"link", &mut memory, &mut lengths);
     limits.print(b"link", b" lines of the limits agree\n");

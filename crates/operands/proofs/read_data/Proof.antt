@@ -8,7 +8,8 @@ use Rattle.rules.specs.Codes.{absentRegisterCode}
 use Rattle.rules.specs.Image.{operands}
 use Rattle.rules.specs.Effects.{Cells, read, trap, got}
 use Rattle.rules.specs.Statements.{operandAt}
-use Rattle.operands.specs.Readings.{reading-value, reading-trap, read-reason}
+use Rattle.step_laws.specs.Reading.{read-reason}
+use Rattle.operands.specs.Readings.{reading-value, reading-trap}
 use Rattle.operands.specs.Legal.{slot-fits}
 use Rattle.operands.specs.Gathered.{ReadSoFar, reads-none, reads-more, reads-trap, reads-all, Unstored, stored-more}
 use Rattle.operands.specs.Cells.{cellsOf}

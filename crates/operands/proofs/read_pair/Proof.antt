@@ -4,9 +4,9 @@ use Prim.Native.Nat.{ℕ}
 use native.Mathlib.Omega.{arith}
 use Rattle.rules.specs.Codes.{absentRegisterCode}
 use Rattle.rules.specs.Effects.{Cells, read, trap, got}
-use Rattle.operands.specs.Readings.{readingOf, reading-value, reading-trap, read-reason}
+use Rattle.step_laws.specs.Reading.{read-reason, pair-trap, pair-second, pair-both}
+use Rattle.operands.specs.Readings.{readingOf, reading-value, reading-trap}
 use Rattle.operands.specs.Cells.{cellsOf}
-use Rattle.operands.specs.Values.{pair-trap, pair-second, pair-both}
 use Rattle.operands.proofs.read_pair.Statement.{statement}
 use Rattle.operands.proofs.read_pair.Tie as tie
 

@@ -1,8 +1,8 @@
 use Rattle.operands.specs.Cells.{cellsOf}
 use Rattle.operands.specs.Values.{unread, both-read}
 use borrow.Author.Needs.{needs}
-use Rattle.operands.proofs.worked.Statement.{statement}
-use Rattle.operands.proofs.worked.Tie as tie
+use Rattle.operands.proofs.results_of.Statement.{statement}
+use Rattle.operands.proofs.results_of.Tie as tie
 
 returns : tie.Need-returns
 returns c =
@@ -18,5 +18,5 @@ returns-2 c =
     both-read (cellsOf (s .args .state .now) (s .args .w) (s .args .r .now)) (s .args .a) (pair .result .left) (pair .result .right) _
     (pair .ensures .values (c .before .if1 .left)) (c .computed .ensures)
 
-pub worked-spec : {M : Type 1} → statement M
-worked-spec = tie.close (tie.spec (λ c κs. search needs) (λ c κs. search needs) returns (λ c κs. search needs) returns-2)
+pub results-of-spec : {M : Type 1} → statement M
+results-of-spec = tie.close (tie.spec (λ c κs. search needs) (λ c κs. search needs) returns (λ c κs. search needs) returns-2)
