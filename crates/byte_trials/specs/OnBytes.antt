@@ -73,6 +73,10 @@ computing operator kind p =
 abbrev number : ℕ → ℕ → List ℕ
 number low high = 1 ∷ low ∷ high ∷ []
 
+-- 0 - 1, to shared word 0
+abbrev taking : List ℕ
+taking = computing 3 3 (number 0 0)
+
 -- Fresh's state where shared word 0 is 9
 abbrev nine : List ℕ → List ℕ
 nine image = freshState image table (pad 0 wordsSize (9 ∷ [])) zeros
@@ -158,9 +162,8 @@ pub record OnBytes : Type 0 where
   -- "0 - 1: 8, 7", to register 0 and to shared word 0, before it 9: after it the state is Fresh's again
   pub below-zero : answersTo (computing 3 2 (number 0 0)) 3 startAndStep ≡ 1 ∷ 0 ∷ 5 ∷ 0 ∷ 8 ∷ 7 ∷ []
   pub below-zero-left : stateAfter (computing 3 2 (number 0 0)) 3 startAndStep ≡ initial (computing 3 2 (number 0 0))
-  pub below-zero-word :
-      runState (computing 3 3 (number 0 0)) table (nine (computing 3 3 (number 0 0))) startAndStep (replicate 6 0)
-      ≡ nine (computing 3 3 (number 0 0))
+  pub below-zero-word : runAnswers taking table (nine taking) startAndStep (replicate 6 0) ≡ 1 ∷ 0 ∷ 5 ∷ 0 ∷ 8 ∷ 7 ∷ []
+  pub below-zero-word-left : runState taking table (nine taking) startAndStep (replicate 6 0) ≡ nine taking
   -- also: 1 - 1 is 0, in register 0, before it 7, and 256 - 1 is 255, in shared word 0; with the absent register 3 as p: 8, 1
   pub no-difference : part (stateAfter (computing 3 2 (number 1 0)) 3 startAndStep) presenceSet 6 ≡ 1 ∷ 0 ∷ 0 ∷ 0 ∷ 0 ∷ 0 ∷ []
   pub difference : part (stateAfter (computing 3 3 (number 0 1)) 3 startAndStep) 0 2 ≡ 255 ∷ 0 ∷ []
@@ -246,6 +249,7 @@ onBytes = record {
   below-zero = refl;
   below-zero-left = refl;
   below-zero-word = refl;
+  below-zero-word-left = refl;
   no-difference = refl;
   difference = refl;
   absent-first = refl;

@@ -205,6 +205,7 @@ fn no_result(reason: u8) -> Computation
     }
 }
 
+// p - q, or the trap of a difference below zero.
 fn difference(p: u16, q: u16) -> Computation
     ensures { λ r. ⌜ Computes (compute Subtract p q) r ⌝ }
 {
