@@ -2,13 +2,15 @@
 use mathlib.Core.Path.{_≡_, refl, sym, ap, _∙_, subst}
 use mathlib.Core.List.{List}
 use mathlib.Core.Option.{Option, some}
-use Prim.Native.Nat.{ℕ, _+_, _*_}
-use lib.ListN.{length, set, length-set}
+use Prim.Native.Nat.{ℕ, _+_, _*_, _<_}
+use lib.ListN.{length, getD, set, length-set}
+use lib.Seq.{getD-set-same, set-set}
 use Rattle.rules.specs.Sizes.{wordCount}
 use Rattle.rules.specs.Image.{blockField, labelA}
-use Rattle.rules.specs.Machine.{Machine, ThreadState, Tree, Job, running, cells, window, keep, job, withHeld, heldOf, threadAt}
+use Rattle.rules.specs.Machine.{Machine, ThreadState, Tree, Job, idle, running, window, keep, job, withHeld, heldOf, threadAt}
 use Rattle.rules.specs.Encoding.{machineFrom}
 use Rattle.rules.specs.Effects.{Cells, store, assigned}
+use Rattle.rules.specs.Storing.{length-window}
 use Rattle.rules.specs.declared.statement.Assignment.{Assignment}
 use Rattle.rules.specs.declared.statement.Operand.{Operand}
 use Rattle.rules.specs.declared.statement.Operand.the-variants.{Number, Register, Word}
@@ -35,6 +37,13 @@ withWordAt s block (Number n) v = s
 withWordAt s block (Register k) v = s
 withWordAt s block (Word k) v = withWord s (wordCount * block + k) v
 
+-- and in the machine in which thread t is w, where a register is that thread's
+abbrev pub withSecond : Machine → ℕ → ℕ → code.ThreadState → Operand → ℕ → Machine
+withSecond s t block w (Number n) v = s
+withSecond s t block w (Register k) v =
+    withJob s t (w .locks) (job (w .label .0) (returnsOf w) (registersAfter (Register k) v (registersOf w)))
+withSecond s t block w (Word k) v = withWord s (wordCount * block + k) v
+
 -- a thread that has the value, after a change of it
 pub register-stored : {x y : code.ThreadState} {locks : ℕ} {j : Job} (d : Operand) (u : ℕ) → Runs x locks j
     → Runs y (x .locks) (job (x .label .0) (returnsOf x) (registersAfter d u (registersOf x)))
@@ -52,10 +61,6 @@ length-words : (d : Operand) (v : ℕ) (ws : List ℕ) → length (wordsAfter d 
 length-words (Number n) v ws = refl
 length-words (Register k) v ws = refl
 length-words (Word k) v ws = length-set ws k v
-
-length-window : (block : ℕ) (ws : List ℕ) → length (window block ws) ≡ wordCount
-unfolding window cells
-length-window block ws = refl
 
 module _ (block : ℕ) (ws : List ℕ) (threads : List ThreadState) (trees : List Tree) where
   -- the machine with these words in the block
@@ -102,8 +107,48 @@ both-cells a u v c =
     ∙ ap (λ (q : Cells). record { registers = registersAfter (a .second) v (q .registers); words = wordsAfter (a .second) v (q .words) })
     (store-is (a .first) u c)
 
--- the thread with the first value takes the second and is written, and then the words are
-module _ (s : Machine) (t : ℕ) (w : code.ThreadState) (r : List ℕ) (a : Assignment) (u v : ℕ) where
+-- the thread with the first value is written, the first word is, and then the second value is stored
+module _ (s : Machine) (t : ℕ) (inside : t < length (s .threads)) (block locks : ℕ) where
+  -- thread t with this job
+  abbrev busy : Job → ThreadState
+  busy j = running locks (withHeld (heldOf (threadAt s t)) j)
+
+  there : (j : Job) → getD (set (s .threads) t (busy j)) t idle ≡ busy j
+  there j = getD-set-same (s .threads) t (busy j) idle inside
+
+  again : (j k : Job) (words : List ℕ)
+      → withJob (record { words = words; threads = set (s .threads) t (busy j); trees = s .trees }) t locks k
+      ≡ record { words = words; threads = set (s .threads) t (busy k); trees = s .trees }
+  again j k words =
+      ap (λ (z : ThreadState). record {
+        words = words;
+        threads = set (set (s .threads) t (busy j)) t (running locks (withHeld (heldOf z) k));
+        trees = s .trees;
+      }) (there j)
+      ∙ ap (λ (z : List ThreadState). record { words = words; threads = z; trees = s .trees }) (set-set (s .threads) t (busy j) (busy k))
+
+  threads-stay : (d : Operand) (u : ℕ) (j : Job) → withWordAt (withJob s t locks j) block d u .threads ≡ set (s .threads) t (busy j)
+  threads-stay (Number n) u j = refl
+  threads-stay (Register k) u j = refl
+  threads-stay (Word k) u j = refl
+
+  -- so it stands there before the second value is stored
+  pub standing : (d : Operand) (u : ℕ) (j : Job) (m : Machine) → m ≡ withWordAt (withJob s t locks j) block d u
+      → threadAt m t ≡ running locks (withHeld (heldOf (threadAt m t)) j)
+  standing d u j m e =
+      let f : threadAt m t ≡ busy j = ap (λ (z : Machine). threadAt z t) e
+      ∙ ap (λ (z : List ThreadState). getD z t idle) (threads-stay d u j)
+      ∙ there j in
+      f ∙ ap (λ (z : ThreadState). running locks (withHeld (heldOf z) j)) (sym f)
+
+  -- a second register is stored to before the words or after them
+  register-last : (d : Operand) (u : ℕ) (j k : Job)
+      → withJob (withWordAt (withJob s t locks j) block d u) t locks k ≡ withWordAt (withJob s t locks k) block d u
+  register-last (Number n) u j k = again j k (s .words)
+  register-last (Register i) u j k = again j k (s .words)
+  register-last (Word i) u j k = again j k _
+
+module _ (s : Machine) (t : ℕ) (inside : t < length (s .threads)) (w : code.ThreadState) (r : List ℕ) (a : Assignment) (u v : ℕ) where
   abbrev block : ℕ
   block = blockField r
 
@@ -118,14 +163,23 @@ module _ (s : Machine) (t : ℕ) (w : code.ThreadState) (r : List ℕ) (a : Assi
     trees = s .trees;
   }
 
+  second-last : (x : code.ThreadState) (d e : Operand)
+      → withSecond (withWordAt (withJob s t (x .locks) (jobOf x)) block d u) t block x e v
+      ≡ withWordAt
+      (withWordAt (withJob s t (x .locks) (job (x .label .0) (returnsOf x) (registersAfter e v (registersOf x)))) block d u) block e v
+  second-last x d (Number n) = refl
+  second-last x d (Register k) = register-last s t inside block (x .locks) d u (jobOf x) (job _ _ _)
+  second-last x d (Word k) = refl
+
   pub both-stored : (x : code.ThreadState) {b₁ b₂ b₃ : List ℕ} → Fits (a .first) → Fits (a .second)
       → Runs x (w .locks) (job (labelA r) (returnsOf w) (registersAfter (a .first) u (registersOf w)))
-      → Encodes b₁ (withJob s t (x .locks) (job (x .label .0) (returnsOf x) (registersAfter (a .second) v (registersOf x))))
-      → Encodes b₂ (withWordAt (machineFrom b₁) block (a .first) u) → Encodes b₃ (withWordAt (machineFrom b₂) block (a .second) v)
+      → Encodes b₁ (withJob s t (x .locks) (jobOf x))
+      → Encodes b₂ (withWordAt (machineFrom b₁) block (a .first) u) → Encodes b₃ (withSecond (machineFrom b₂) t block x (a .second) v)
       → Encodes b₃ (landed s t w r a u v)
   both-stored x {b₁} {b₂} {b₃} h k q e₁ e₂ e₃ =
       let m₂ = encoded-machine b₂ _ e₂ ∙ ap (λ (z : Machine). withWordAt z block (a .first) u) (encoded-machine b₁ _ e₁) in
-      let words = ap (λ (z : Machine). withWordAt z block (a .second) v) m₂
+      let words = ap (λ (z : Machine). withSecond z t block x (a .second) v) m₂
+      ∙ second-last x (a .first) (a .second)
       ∙ both-kept block (s .words) (set (s .threads) t (afterBoth (x .locks) (jobOf x))) (s .trees) (a .first) (a .second) u v h k in
       let thread = ap (λ l. afterBoth l (jobOf x)) (runs-fields q .0) ∙ ap (afterBoth (w .locks)) (runs-fields q .1) in
       let stored = wordsAfter (a .second) v (wordsAfter (a .first) u (window block (s .words))) in

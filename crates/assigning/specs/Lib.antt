@@ -1,2 +1,3 @@
 pub mod Destinations
 pub mod Assigned
+pub mod Written

@@ -24,8 +24,9 @@ ghost use Rattle.threads.specs.Threads.{Running, Runs, returnsOf, registersOf, 
 ghost use Rattle.operands.specs.Legal.{Fits};
 ghost use Rattle.step_ready.specs.Ready.{Stepped};
 ghost use Rattle.step_ready.specs.At.{At};
-ghost use Rattle.assigning.specs.Destinations.{registersAfter, withWordAt, landed};
+ghost use Rattle.assigning.specs.Destinations.{registersAfter, withWordAt, withSecond, landed};
 ghost use Rattle.assigning.specs.Assigned.{OneChanged};
+ghost use Rattle.assigning.specs.Written.{Standing};
 
 // A value whose destination is a register goes there; any other leaves the thread as it is.
 fn store_register(w: ThreadState, to: Operand, v: u16) -> ThreadState
@@ -64,28 +65,21 @@ fn write_one(state: &mut [u8], t: Thread, w: ThreadState, to: Operand, v: u16)
     }
 }
 
-// The thread w has the first value, if that goes to a register, and takes the second likewise. Its record is written once.
-fn write_both(
-    state: &mut [u8],
-    t: Thread,
-    w: ThreadState,
-    first: Operand,
-    u: u16,
-    second: Operand,
-    v: u16,
-)
-    requires { ⌜ Canonical (now state) × (t .0 < threadCount) × Running w × OneChanged (now state) (t .0) w first u × Fits second ⌝ }
-    ensures { λ _. ⌜ Encodes (now (state .exit)) (withJob (machineFrom (now (state .entry))) (t .0) (w .locks)
-        (job (w .label .0) (returnsOf w) (registersAfter second v (registersOf w)))) ⌝ }
+// The second value, after the thread w, which has the first, was written: one register, or one word, is stored by itself.
+fn store_second(state: &mut [u8], t: Thread, w: ThreadState, block: Block, to: Operand, v: u16)
+    requires { ⌜ Canonical (now state) × (t .0 < threadCount) × Running w × (block .0 < blockCount) × Fits to
+        × Standing (now state) (t .0) w ⌝ }
+    ensures { λ _. ⌜ Encodes (now (state .exit)) (withSecond (machineFrom (now (state .entry))) (t .0) (block .0) w to v) ⌝ }
 {
-    match second {
-        Operand::Number(_) => write_one(state, t, w, first, u),
-        Operand::Register(k) => write_thread(state, t, w.assign_register(k, v)),
-        Operand::Word(_) => write_one(state, t, w, first, u),
+    match to {
+        Operand::Number(_) => {}
+        Operand::Register(k) => write_assigned(state, t, w.assign_register(k, v), k, v),
+        Operand::Word(k) => write_word(state, block, k, v),
     }
 }
 
-// The thread goes on to A, and the values to their destinations: registers first, with the thread's record, then words.
+// The thread goes on to A, and the values to their destinations, the first with the thread's record. All that is asked of the first
+// destination comes before the second is looked at: an assignment of one value pays for one test more.
 fn store_both(
     image: &[u8],
     table: &[u8],
@@ -104,9 +98,9 @@ fn store_both(
     let second = a.second;
     let block = block_field(r);
     let next = store_register(w.move_on(label_a(r)), first, u);
-    write_both(state, t, next, first, u, second, v);
+    write_one(state, t, next, first, u);
     store_word(state, block, first, u);
-    store_word(state, block, second, v);
+    store_second(state, t, next, block, second, v);
 }
 
 pub fn assign(

@@ -23,7 +23,7 @@ use Rattle.invariants.specs.Groups as groups
 use Rattle.invariants.specs.Groups.{Wants}
 use Rattle.calls_one_by_one.specs.CallList.{Run, Calls, eventList, eventsOf, OneByOneCalls}
 use Rattle.calls_one_by_one.specs.Whole as whole
-use Rattle.calls_one_by_one.specs.Reached.{entriesFrom, reached, entriesTo, sound, entries}
+use Rattle.calls_one_by_one.specs.Reached.{entriesFrom, reached, entriesTo, good, entries}
 
 -- an entry that is left out has no part in the second order
 module _ {A : Type 0} (f : A → Sort) (g : A → ℕ) where
@@ -55,7 +55,7 @@ module _ (image table words state : List ℕ) (runs : List Run) (calls : Calls i
     s = reached image table words before
 
     invariant : Invariant R s
-    invariant = sound image table words state runs calls before after t split .invariant
+    invariant = good image table words state runs calls before after t split .sound .invariant
 
     told : (r : Reply) → react R s (step t) ≡ r
         → eventList runs

@@ -8,6 +8,8 @@ pub mod Joined
 pub mod Ordered
 pub mod Whole
 pub mod Reached
+pub mod Assigning
 pub mod Jobs
 pub mod Groups
 pub mod Subtraction
+pub mod Division

@@ -1,21 +1,23 @@
 -- A list of calls, parted at one step: the machine that the events before it have left, the step's entry in the event list, and what the
 -- calls leave where it is the last event.
-use mathlib.Core.Path.{_≡_, sym, ap, _∙_, subst}
+use mathlib.Core.Path.{_≡_, refl, sym, ap, _∙_, subst}
 use mathlib.Core.List.{List, [], _∷_, _++_, map, map-append}
 use Prim.Native.Nat.{ℕ}
-use Rattle.rules.specs.Machine.{Machine, fresh}
+use Rattle.rules.specs.Machine.{idle, Machine, threadAt, fresh}
 use Rattle.rules.specs.Encoding.{wordsFrom, machineFrom}
 use Rattle.rules.specs.Events.{Event, step, eventBytes}
-use Rattle.rules.specs.Answers.{answerBytes}
-use Rattle.rules.specs.Steps.{Rules, Reply, rulesBy, react, final}
+use Rattle.rules.specs.Answers.{code, detail, answerBytes}
+use Rattle.rules.specs.Steps.{Rules, Reply, rulesBy, finished, react, final}
 use Rattle.rules.specs.Order.{log, ByteEntry}
 use Rattle.rules.specs.Calls.{freshState}
+use Rattle.rules.specs.declared.answer.Answer.the-variants as answer
 use Rattle.fields.specs.Each.{Each, each-front}
 use Rattle.laws.specs.EventLists.{log-append, final-append}
-use Rattle.soundness.specs.Sound.{Sound}
-use Rattle.soundness.specs.StaysWellFormed.{Accepted, sound-final}
+use Rattle.laws.specs.Locks.{getD-set-idle}
+use Rattle.soundness.specs.StaysWellFormed.{Accepted}
 use Rattle.one_by_one.specs.ByteOrder.{bytesOf}
 use Rattle.calls_one_by_one.specs.CallList.{Run, lastLeft, Calls, eventList, eventsOf}
+use Rattle.calls_one_by_one.specs.Joined.{Good, good-final}
 use Rattle.calls_one_by_one.specs.Whole as whole
 
 -- the entries of events from a machine on
@@ -29,6 +31,21 @@ reached image table words before = final (rulesBy image table) (fresh (wordsFrom
 abbrev pub entriesTo : List ℕ → List ℕ → List ℕ → List Event → List ByteEntry
 entriesTo image table words before = entriesFrom image table (fresh (wordsFrom words)) before
 
+-- after these events a step of thread t got this answer and left this machine, which is in the bytes that the calls leave if no event comes
+-- after
+module _ (image table words state : List ℕ) (runs : List Run) (before after : List Event) (t : ℕ) where
+  pub record Stepped (c d : ℕ) (m : Machine) : Type 0 where
+    pub list : eventList runs
+        ≡ entriesTo image table words before
+        ++ record { event = eventBytes (step t); answer = c ∷ d ∷ [] } ∷ entriesFrom image table m after
+    pub left : after ≡ [] → machineFrom (lastLeft (freshState image table words state) runs) ≡ m
+
+  -- a trap with this reason: the job ended, no word changed, and the thread is idle
+  pub record Trapped (reason : ℕ) : Type 0 where
+    pub stepped : Stepped 8 reason (finished (rulesBy image table) t (reached image table words before))
+    pub unwritten : finished (rulesBy image table) t (reached image table words before) .words ≡ reached image table words before .words
+    pub cleared : threadAt (finished (rulesBy image table) t (reached image table words before)) t ≡ idle
+
 module _ (image table words state : List ℕ) (runs : List Run) (calls : Calls image table words state runs) where
   abbrev R : Rules
   R = rulesBy image table
@@ -40,10 +57,10 @@ module _ (image table words state : List ℕ) (runs : List Run) (calls : Calls i
     parted : whole.joint image table words state runs calls ≡ before ++ step t ∷ after
     parted = sym (whole.listed image table words state runs calls) ∙ split
 
-    pub sound : Sound image table (reached image table words before)
-    sound =
-        sound-final image table (whole.checked image table words state runs calls) _ before
-        (whole.first-good image table words state runs calls .sound)
+    pub good : Good image table (reached image table words before)
+    good =
+        good-final image table (whole.checked image table words state runs calls) _ before
+        (whole.first-good image table words state runs calls)
         (each-front (Accepted image) before (step t ∷ after)
         (subst (Each (Accepted image)) parted (whole.all image table words state runs calls .each)))
 
@@ -69,3 +86,14 @@ module _ (image table words state : List ℕ) (runs : List Run) (calls : Calls i
           ∙ ap (final R first) (parted ∙ ap (λ (z : List Event). before ++ step t ∷ z) e)
           ∙ final-append R first before (step t ∷ [])
           ∙ ap (λ (z : Reply). z .state) replied
+
+      pub stepped : Stepped image table words state runs before after t (code (r .answer)) (detail (r .answer)) (r .state)
+      unfolding answerBytes
+      stepped = record { list = entries; left = machine-left }
+
+    pub trapped : (reason : ℕ) → react R (reached image table words before) (step t)
+        ≡ record { state = finished R t (reached image table words before); answer = answer.Trapped reason }
+        → Trapped image table words state runs before after t reason
+    unfolding code detail
+    trapped reason e =
+        record { stepped = stepped _ e; unwritten = refl; cleared = getD-set-idle (reached image table words before .threads) t }

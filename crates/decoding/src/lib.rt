@@ -4,6 +4,7 @@ use rules::codes::ADD;
 use rules::codes::ASSIGN;
 use rules::codes::CALL;
 use rules::codes::COPY;
+use rules::codes::DIVIDE;
 use rules::codes::EQUAL;
 use rules::codes::GOTO;
 use rules::codes::IF;
@@ -34,8 +35,8 @@ ghost use Prim.Native.Nat.{_<_, _≤_};
 ghost use lib.ListN.{length};
 ghost use Rattle.rules.specs.Sizes.{recordSize, operandCount};
 ghost use Rattle.rules.specs.Image.{kind, value};
-ghost use Rattle.rules.specs.Statements.{operandOf, operandAt, operationAt, shape, optional, relationOf, assignmentOf, conditionOf};
-ghost use Rattle.rules.specs.Statements.{otherOf, statementOf};
+ghost use Rattle.rules.specs.Statements.{operandOf, operandAt, operationAt, shape, optional, relationOf, assignmentBy};
+ghost use Rattle.rules.specs.Statements.{assignmentOf, conditionOf, otherOf, statementOf};
 ghost use Rattle.decoding.specs.Assigns.{assignsOf};
 
 // The value of an operand stands after its kind.
@@ -91,6 +92,10 @@ pub fn operation_at(opcode: u8, operator: u8) -> Assigns
             MULTIPLY => Assigns::Work(Operation::Multiply),
             _ => Assigns::Nothing,
         },
+        DIVIDE => match operator {
+            0 => Assigns::Work(Operation::Divide),
+            _ => Assigns::Nothing,
+        },
         _ => Assigns::Nothing,
     }
 }
@@ -113,6 +118,10 @@ pub fn shape_of(o: Operation) -> Shape
         },
         Operation::Multiply => Shape {
             second: false,
+            right: true,
+        },
+        Operation::Divide => Shape {
+            second: true,
             right: true,
         },
     }
@@ -147,11 +156,11 @@ pub fn relation_of(operator: u8) -> Relation
     }
 }
 
-pub fn assignment_of(r: &[u8], o: Operation) -> Assignment
+// The operands of an opcode of this shape.
+pub fn assignment_by(r: &[u8], o: Operation, s: Shape) -> Assignment
     requires { ⌜ length (now r) ≡ recordSize ⌝ }
-    ensures { λ z. ⌜ z ≡ assignmentOf o (now (r .entry)) ⌝ }
+    ensures { λ z. ⌜ z ≡ assignmentBy o s (now (r .entry)) ⌝ }
 {
-    let s = shape_of(o);
     let p = destinations_of(s.second);
     let first = operand_at(r, 0);
     let second = optional_at(r, s.second, 1);
@@ -163,6 +172,33 @@ pub fn assignment_of(r: &[u8], o: Operation) -> Assignment
         second,
         left,
         right,
+    }
+}
+
+// With the number of destinations known, the places of the operands are constants.
+pub fn assignment_of(r: &[u8], o: Operation) -> Assignment
+    requires { ⌜ length (now r) ≡ recordSize ⌝ }
+    ensures { λ z. ⌜ z ≡ assignmentOf o (now (r .entry)) ⌝ }
+{
+    let s = shape_of(o);
+    if s.second {
+        assignment_by(
+            r,
+            o,
+            Shape {
+                second: true,
+                right: s.right,
+            },
+        )
+    } else {
+        assignment_by(
+            r,
+            o,
+            Shape {
+                second: false,
+                right: s.right,
+            },
+        )
     }
 }
 

@@ -6,6 +6,7 @@ use image::record_fields::label_b;
 use image::records::count_labels;
 use rules::codes::ASSIGN;
 use rules::codes::CALL;
+use rules::codes::DIVIDE;
 use rules::codes::GOTO;
 use rules::codes::IF;
 use rules::codes::SEND_BUFFERED;
@@ -42,7 +43,8 @@ const USING_A: u16 = (1 << SKIP)
     | (1 << SEND_BUFFERED)
     | (1 << CALL)
     | (1 << TRANSFER)
-    | (1 << SEND_TREE);
+    | (1 << SEND_TREE)
+    | (1 << DIVIDE);
 
 const USING_B: u16 = (1 << IF) | (1 << SEND_BUFFERED) | (1 << CALL) | (1 << SEND_TREE);
 

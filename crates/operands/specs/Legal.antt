@@ -65,12 +65,17 @@ all-at ok i (suc n) h zero l = ap ok (omega arith) ∙ and-both (ok i) (allFrom 
 all-at ok i (suc n) h (suc k) l = ap ok (omega arith) ∙ all-at ok (i + 1) n (and-both (ok i) (allFrom ok (i + 1) n) h .1) k (omega arith)
 
 -- an operand that the record has is within limits
+pub slot-ok : (r : List ℕ) → allFrom (slotOk r) 0 operandCount ≡ true → (k : ℕ) → k < operands r → k < operandCount
+    → operandOk (kind r k) (value r k) ≡ true
+unfolding slotOk
+slot-ok r h k l m =
+    let e : slotOk r k ≡ true = ap (slotOk r) (omega arith) ∙ all-at (slotOk r) 0 operandCount h k m in
+    rw (lt-ltb k (operands r) l) at e
+
 pub slot-fits : (r : List ℕ) → allFrom (slotOk r) 0 operandCount ≡ true → (k : ℕ) → k < operands r → k < operandCount
     → Fits (operandAt r k)
-unfolding slotOk operandAt
-slot-fits r h k l m =
-    let e : slotOk r k ≡ true = ap (slotOk r) (omega arith) ∙ all-at (slotOk r) 0 operandCount h k m in
-    operand-fits (kind r k) (value r k) (rw (lt-ltb k (operands r) l) at e)
+unfolding operandAt
+slot-fits r h k l m = operand-fits (kind r k) (value r k) (slot-ok r h k l m)
 
 -- a label that is used is below n
 abbrev pub Below : List ℕ → Role → ℕ → Type 0

@@ -94,7 +94,7 @@ Lands (Number v) = ⊥
 Lands (Register r) = r < registerCount
 Lands (Word w) = w < wordCount
 
-lands : (k v : ℕ) → leb 2 k ≡ true → Fits (operandOf k v) → Lands (operandOf k v)
+pub lands : (k v : ℕ) → leb 2 k ≡ true → Fits (operandOf k v) → Lands (operandOf k v)
 unfolding operandOf
 lands zero v h f = absurd (false≢true h)
 lands (suc zero) v h f = absurd (false≢true h)
@@ -119,7 +119,7 @@ module _ {image r : List ℕ} (p : Parts image r) (a : Assignment) (e : statemen
   pub assigns : (operationAt (opcode r) (operator r) ≡ some (a .operation)) × (a ≡ assignmentOf (a .operation) r)
   assigns = subst (Says r) e (says r)
 
-  has : Assigning s (operands r) (kind r 0) (value r 0) (kind r 1) (value r 1)
+  pub has : Assigning s (operands r) (kind r 0) (value r 0) (kind r 1) (value r 1)
   has = assigning s (operands r) (kind r 0) (value r 0) (kind r 1) (value r 1) (rw (assigns .0) at (head-fields r (p .head) .shaped))
 
   slot : (k : ℕ) → k < destinations s + cond (s .right) 2 1 → k < 4 → Fits (operandAt r k)

@@ -1,13 +1,13 @@
 -- Two operands read, and what is worked out from them.
 use mathlib.Core.Path.{_≡_}
 use mathlib.Core.List.{List, [], _∷_}
-use Prim.Native.Nat.{ℕ, _-_, _<_, _≤_}
+use Prim.Native.Nat.{ℕ, _-_, _/_, _%_, _<_, _≤_}
 use native.Mathlib.Omega.{arith}
-use borrow.Author.Tests.{lt-ltb, le-ltb}
-use Rattle.rules.specs.Codes.{belowZeroCode}
-use Rattle.rules.specs.Effects.{Got, trap, got, Cells, readAll, Results, one, compute}
+use borrow.Author.Tests.{lt-ltb, le-ltb, eq-eqb, ne-eqb}
+use Rattle.rules.specs.Codes.{belowZeroCode, zeroDivisorCode}
+use Rattle.rules.specs.Effects.{Got, trap, got, Cells, readAll, Results, one, both, compute}
 use Rattle.rules.specs.declared.statement.Assignment.{Assignment}
-use Rattle.rules.specs.declared.statement.Operation.the-variants.{Subtract}
+use Rattle.rules.specs.declared.statement.Operation.the-variants.{Subtract, Divide}
 use Rattle.step_laws.specs.Statements.{results}
 use Rattle.operands.specs.declared.Pair.{Pair}
 use Rattle.operands.specs.declared.Computation.{Computation}
@@ -20,9 +20,9 @@ pub record Computes (g : Got Results) (d : Computation) : Type 0 where
   pub values : d .trap ≡ 0 → g ≡ got (record { first = d .first; second = d .second })
   pub trapped : (d .trap ≡ 0 → ⊥) → g ≡ trap (d .trap)
 
-pub computes-one : (g : Got Results) (d : Computation) → g ≡ got (record { first = d .first; second = d .second }) → d .trap ≡ 0
+pub computes-values : (g : Got Results) (d : Computation) → g ≡ got (record { first = d .first; second = d .second }) → d .trap ≡ 0
     → Computes g d
-computes-one g d e z = record { values = λ q. e; trapped = λ n. absurd (n z) }
+computes-values g d e z = record { values = λ q. e; trapped = λ n. absurd (n z) }
 
 pub computes-none : (g : Got Results) (d : Computation) → g ≡ trap (d .trap) → 0 < d .trap → Computes g d
 computes-none g d e z = record { values = λ q. absurd (omega arith); trapped = λ n. e }
@@ -34,6 +34,14 @@ module _ (p q : ℕ) (d : Computation) where
 
   pub not-below-zero : q ≤ p → Computes (one (p - q)) d → Computes (compute Subtract p q) d
   not-below-zero h k = rw (le-ltb p q h) k
+
+-- a quotient and a remainder, where q is zero and where it is not
+module _ (p q : ℕ) (d : Computation) where
+  pub by-zero : q ≡ 0 → Computes (trap zeroDivisorCode) d → Computes (compute Divide p q) d
+  by-zero h k = rw (eq-eqb q 0 h) k
+
+  pub not-by-zero : (q ≡ 0 → ⊥) → Computes (both (p / q) (p % q)) d → Computes (compute Divide p q) d
+  not-by-zero h k = rw (ne-eqb q 0 h) k
 
 -- an assignment, where a source cannot be read, and where both are read
 module _ (c : Cells) (a : Assignment) where

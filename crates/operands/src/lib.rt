@@ -9,6 +9,7 @@ use rules::codes::ABSENT_REGISTER;
 use rules::codes::BELOW_ZERO;
 use rules::codes::NUMBER_OPERAND;
 use rules::codes::REGISTER_OPERAND;
+use rules::codes::ZERO_DIVISOR;
 use rules::sorts::Block;
 use rules::sorts::Thread;
 use rules::statement::Assignment;
@@ -24,7 +25,7 @@ ghost use Rattle.rules.specs.Sizes.{blockCount, operandCount, recordSize, state
 ghost use Rattle.rules.specs.Image.{operands};
 ghost use Rattle.rules.specs.Statements.{operandOf, operandAt, dataOf};
 ghost use Rattle.rules.specs.Effects.{trap, one, compute, read, readAll};
-ghost use Rattle.rules.specs.declared.statement.Operation.the-variants.{Subtract};
+ghost use Rattle.rules.specs.declared.statement.Operation.the-variants.{Subtract, Divide};
 ghost use Rattle.step_laws.specs.Statements.{results};
 ghost use Rattle.operands.specs.Readings.{readingOf, Reads};
 ghost use Rattle.operands.specs.Legal.{Fits, Readable};
@@ -216,6 +217,20 @@ fn difference(p: u16, q: u16) -> Computation
     }
 }
 
+// The quotient and the remainder of p and q, or the trap of a zero divisor.
+fn quotient_and_remainder(p: u16, q: u16) -> Computation
+    ensures { λ r. ⌜ Computes (compute Divide p q) r ⌝ }
+{
+    if q == 0 {
+        return no_result(ZERO_DIVISOR);
+    }
+    Computation {
+        first: p / q,
+        second: p % q,
+        trap: 0,
+    }
+}
+
 fn computed(o: Operation, p: u16, q: u16) -> Computation
     ensures { λ r. ⌜ Computes (compute o p q) r ⌝ }
 {
@@ -226,6 +241,7 @@ fn computed(o: Operation, p: u16, q: u16) -> Computation
         Operation::Add => one_result(((left + right) % 65536) as u16),
         Operation::Subtract => difference(p, q),
         Operation::Multiply => one_result((left * right % 65536) as u16),
+        Operation::Divide => quotient_and_remainder(p, q),
     }
 }
 

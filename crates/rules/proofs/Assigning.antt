@@ -16,10 +16,11 @@ use Rattle.rules.specs.Sizes.{wordCount}
 use Rattle.rules.specs.Codes.{assignCode, addCode, subtractCode, multiplyCode}
 use Rattle.rules.specs.Image.{recordAt, opcode, operator}
 use Rattle.rules.specs.Statements.{operandAt, operationAt, shape, optional, assignmentBy, assignmentOf, statementOf}
-use Rattle.rules.specs.Machine.{Job, job, withHeld, idle, running, Machine, threadAt, cells, stores, window, keep}
+use Rattle.rules.specs.Machine.{Job, job, withHeld, idle, running, Machine, threadAt, stores, window, keep}
 use Rattle.rules.specs.Answers.{code, detail}
 use Rattle.rules.specs.Events.{step}
 use Rattle.rules.specs.Effects.{trap, got, Cells, read, readAll, one, compute, store, perform}
+use Rattle.rules.specs.Storing.{length-window}
 use Rattle.rules.specs.Steps.{Reply, blockAt, rulesBy, blocked}
 use Rattle.rules.specs.declared.statement.Operand.{Operand}
 use Rattle.rules.specs.declared.statement.Operand.the-variants.{Number, Register, Word}
@@ -33,7 +34,7 @@ use Rattle.rules.proofs.Opcodes.{stepOf, A, register}
 use Rattle.rules.proofs.Ends.{ends, trap-state}
 
 -- operand i of the record at a job's label
-abbrev operand : List ℕ → Job → ℕ → Operand
+abbrev pub operand : List ℕ → Job → ℕ → Operand
 operand image j i = operandAt (recordAt image (j .label)) i
 
 -- thread t holds these locks and runs this job, at whose label a record of ASSIGN with this operator stands: operand 0 is the
@@ -79,11 +80,6 @@ pub record TrapsWith (reply : Reply) (s : Machine) (t reason : ℕ) : Type 0 whe
 
 -- ---- the words of a block, written and read
 
-length-cells : (n i : ℕ) (words : List ℕ) → length (cells n i words) ≡ n
-unfolding cells
-length-cells zero i words = refl
-length-cells (suc n) i words = let e : length (cells n (suc i) words) ≡ n = length-cells n (suc i) words in omega arith
-
 length-stores : (n i : ℕ) (vs words : List ℕ) → length (stores n i vs words) ≡ length words
 unfolding stores
 length-stores zero i vs words = refl
@@ -103,20 +99,16 @@ stored (suc n) i (suc k) (v ∷ vs) words a b c =
     stored n (suc i) k vs words (omega arith) (omega arith) (omega arith) in
     rw e (getD-set-other (stores n (suc i) vs words) i (suc i + k) v 0 (omega arith) ∙ rest)
 
--- word w of block b, set
-kept : (b w v : ℕ) (words : List ℕ) → w < wordCount → wordCount * b + w < length words
-    → getD (keep b (set (window b words) w v) words) (wordCount * b + w) 0 ≡ v
-unfolding keep window
-kept b w v words h l =
-    let z : length (cells wordCount (wordCount * b) words) ≡ wordCount = length-cells wordCount (wordCount * b) words in
-    stored wordCount (wordCount * b) w (set (cells wordCount (wordCount * b) words) w v) words h
-    (omega (arith, length-set (cells wordCount (wordCount * b) words) w v)) l
-    ∙ getD-set-same (cells wordCount (wordCount * b) words) w v 0 (omega arith)
+-- word w of block b, whose words are these
+pub kept : (b w : ℕ) (vs words : List ℕ) → w < wordCount → w < length vs → wordCount * b + w < length words
+    → getD (keep b vs words) (wordCount * b + w) 0 ≡ getD vs w 0
+unfolding keep
+kept b w vs words = stored wordCount (wordCount * b) w vs words
 
 -- ---- traps
 
 -- a trap stores nothing
-traps-with : (image table : List ℕ) (s : Machine) (t locks : ℕ) (j : Job) (reason : ℕ) → threadAt s t ≡ running locks j
+pub traps-with : (image table : List ℕ) (s : Machine) (t locks : ℕ) (j : Job) (reason : ℕ) → threadAt s t ≡ running locks j
     → stepOf image table s t .answer ≡ Trapped reason → TrapsWith (stepOf image table s t) s t reason
 unfolding code detail
 traps-with image table s t locks j reason runs e = record {
@@ -126,7 +118,7 @@ traps-with image table s t locks j reason runs e = record {
 }
 
 -- an absent register read second: whatever was read first, the trap is that of an absent register
-second-absent : (c : Cells) (p q : Operand) → read c q ≡ trap 1 → readAll c (p ∷ q ∷ []) ≡ trap 1
+pub second-absent : (c : Cells) (p q : Operand) → read c q ≡ trap 1 → readAll c (p ∷ q ∷ []) ≡ trap 1
 unfolding readAll
 second-absent c (Number v) q e = rw e
 second-absent c (Register r) q e = case (getD (c .registers) r none) refl
@@ -179,7 +171,11 @@ module _ (image table : List ℕ) (s : Machine) (t locks : ℕ) (j : Job) (o : �
     word = λ w l n h.
         let m = after p q (Word w) h v computed in
         let e = words p q (Word w) h v computed in
-        record { answer = m .answer; value = rw e (kept (blockAt image (j .label)) w v (s .words) l n) };
+        let b = blockAt image (j .label) in
+        let own = window b (s .words) in
+        let z : w < length own = omega (arith, length-window b (s .words)) in
+        let there = kept b w (set own w v) (s .words) l (omega (arith, length-set own w v)) n in
+        record { answer = m .answer; value = rw e (there ∙ getD-set-same own w v 0 z) };
   }
 
   -- an absent register is found before anything is computed

@@ -3,6 +3,7 @@ pub mod Running
 pub mod Ends
 pub mod Opcodes
 pub mod Assigning
+pub mod Dividing
 pub mod Waits
 pub mod Founding
 pub mod Trials

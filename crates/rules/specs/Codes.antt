@@ -36,6 +36,9 @@ exitCode = 10
 abbrev pub sendTreeCode : ℕ
 sendTreeCode = 11
 
+abbrev pub divideCode : ℕ
+divideCode = 12
+
 -- ---- operators of ASSIGN, and of IF
 
 abbrev pub copyCode : ℕ
@@ -147,6 +150,9 @@ heldFullCode = 6
 
 abbrev pub belowZeroCode : ℕ
 belowZeroCode = 7
+
+abbrev pub zeroDivisorCode : ℕ
+zeroDivisorCode = 8
 
 -- ---- numbers of a refusal
 

@@ -4,18 +4,18 @@
 use mathlib.Core.Bool.{Bool, true, cond}
 use mathlib.Core.Option.{Option, none, some}
 use mathlib.Core.List.{List, [], _∷_, _++_, map}
-use Prim.Native.Nat.{ℕ, _+_, _-_, _*_, _%_}
+use Prim.Native.Nat.{ℕ, _+_, _-_, _*_, _/_, _%_}
 use lib.ListN.{length, getD, set, drop}
 use lib.Dec.{eqb, leb, ltb}
 use Rattle.rules.specs.Sizes.{returnCount, heldCount, pendingCount}
-use Rattle.rules.specs.Codes.{absentRegisterCode, returnsFullCode, pendingFullCode, heldFullCode, belowZeroCode}
+use Rattle.rules.specs.Codes.{absentRegisterCode, returnsFullCode, pendingFullCode, heldFullCode, belowZeroCode, zeroDivisorCode}
 use Rattle.rules.specs.Machine.{fill}
 use Rattle.rules.specs.Statements.{Way, following, branching, transferring, entering, posting, founding, calling, returning, ending}
 use Rattle.rules.specs.Statements.{way, reads}
 use Rattle.rules.specs.declared.statement.Operand.{Operand}
 use Rattle.rules.specs.declared.statement.Operand.the-variants.{Number, Register, Word}
 use Rattle.rules.specs.declared.statement.Operation.{Operation}
-use Rattle.rules.specs.declared.statement.Operation.the-variants.{Copy, Add, Subtract, Multiply}
+use Rattle.rules.specs.declared.statement.Operation.the-variants.{Copy, Add, Subtract, Multiply, Divide}
 use Rattle.rules.specs.declared.statement.Assignment.{Assignment}
 use Rattle.rules.specs.declared.statement.Relation.{Relation}
 use Rattle.rules.specs.declared.statement.Relation.the-variants.{Equal, Less}
@@ -69,12 +69,17 @@ pub record Results : Type 0 where
 abbrev pub one : ℕ → Got Results
 one v = got (record { first = v; second = 0 })
 
--- copy; add and multiply, each modulo 65,536; subtract, where q above p is reason 7
+abbrev pub both : ℕ → ℕ → Got Results
+both u v = got (record { first = u; second = v })
+
+-- copy; add and multiply, each modulo 65,536; subtract, where q above p is reason 7; divide, where a zero q is reason 8, and otherwise the
+-- results are the quotient and the remainder (`Divided` of Division says what they are, and that there are no others)
 abbrev pub compute : Operation → ℕ → ℕ → Got Results
 compute Copy p q = one p
 compute Add p q = one ((p + q) % 65536)
 compute Subtract p q = cond (ltb p q) (trap belowZeroCode) (one (p - q))
 compute Multiply p q = one (p * q % 65536)
+compute Divide p q = cond (eqb q 0) (trap zeroDivisorCode) (both (p / q) (p % q))
 
 abbrev pub holds : Relation → ℕ → ℕ → Bool
 holds Equal p q = eqb p q

@@ -11,6 +11,8 @@ pub mod Encoding
 pub mod Answers
 pub mod Events
 pub mod Effects
+pub mod Division
+pub mod Storing
 pub mod Steps
 pub mod WellFormed
 pub mod Order

@@ -6,12 +6,12 @@ use Prim.Native.Nat.{ℕ, zero, suc, _+_}
 use lib.Dec.{eqb}
 use Rattle.rules.specs.Codes.{skipCode, assignCode, gotoCode, ifCode, sendDirectCode, sendBufferedCode, callCode, returnCode}
 use Rattle.rules.specs.Codes.{transferCode, copyCode, addCode, subtractCode, multiplyCode, equalCode, lessCode, exitCode}
-use Rattle.rules.specs.Codes.{sendTreeCode, numberOperandCode, registerOperandCode}
+use Rattle.rules.specs.Codes.{sendTreeCode, divideCode, numberOperandCode, registerOperandCode}
 use Rattle.rules.specs.Image.{opcode, operator, operands, kind, value}
 use Rattle.rules.specs.declared.statement.Operand.{Operand}
 use Rattle.rules.specs.declared.statement.Operand.the-variants.{Number, Register, Word}
 use Rattle.rules.specs.declared.statement.Operation.{Operation}
-use Rattle.rules.specs.declared.statement.Operation.the-variants.{Copy, Add, Subtract, Multiply}
+use Rattle.rules.specs.declared.statement.Operation.the-variants.{Copy, Add, Subtract, Multiply, Divide}
 use Rattle.rules.specs.declared.statement.Shape.{Shape}
 use Rattle.rules.specs.declared.statement.Assignment.{Assignment}
 use Rattle.rules.specs.declared.statement.Relation.{Relation}
@@ -43,8 +43,9 @@ shape Copy = record { second = false; right = false }
 shape Add = record { second = false; right = true }
 shape Subtract = record { second = false; right = true }
 shape Multiply = record { second = false; right = true }
+shape Divide = record { second = true; right = true }
 
--- opcode and operator of each: 2 ASSIGN, operators 1 copy p, 2 add, 3 subtract, 4 multiply
+-- opcode and operator of each: 2 ASSIGN, operators 1 copy p, 2 add, 3 subtract, 4 multiply; 12 DIVIDE, which has no operator
 pub record Form : Type 0 where
   pub opcode : ℕ
   pub operator : ℕ
@@ -56,7 +57,7 @@ form op o k = record { opcode = op; operator = o; operation = k }
 abbrev pub forms : List Form
 forms =
     form assignCode copyCode Copy ∷ form assignCode addCode Add ∷ form assignCode subtractCode Subtract
-    ∷ form assignCode multiplyCode Multiply ∷ []
+    ∷ form assignCode multiplyCode Multiply ∷ form divideCode 0 Divide ∷ []
 
 abbrev pub operationIn : List Form → ℕ → ℕ → Option Operation
 operationIn [] op o = none

@@ -24,6 +24,8 @@ pub const EXIT: u8 = 10;
 
 pub const SEND_TREE: u8 = 11;
 
+pub const DIVIDE: u8 = 12;
+
 // Operators of ASSIGN, and of IF.
 pub const COPY: u8 = 1;
 
@@ -96,6 +98,8 @@ pub const FOREIGN_FD_BLOCK: u8 = 5;
 pub const HELD_FULL: u8 = 6;
 
 pub const BELOW_ZERO: u8 = 7;
+
+pub const ZERO_DIVISOR: u8 = 8;
 
 // Numbers of a refusal.
 pub const BAD_IMAGE_LENGTH: u32 = 1;

@@ -14,6 +14,7 @@ pub enum Operation {
     Add,
     Subtract,
     Multiply,
+    Divide,
 }
 
 // The operands of such an opcode besides a destination and a left source: a second destination, and a right source.

@@ -1,45 +1,19 @@
-use native.Mathlib.Omega.{arith}
-use Rattle.rules.specs.Statements.{assignmentBy}
+use mathlib.Core.Path.{_∙_}
+use Rattle.decoding.specs.Assigns.{shaped}
 use borrow.Author.Needs.{needs}
 use Rattle.decoding.proofs.assignment_of.Statement.{statement}
 use Rattle.decoding.proofs.assignment_of.Tie as tie
 
-operand-at-requires-2 : tie.Need-operand-at-requires-2
-operand-at-requires-2 c κs = (
-  c .before .before .before .before .before .pre,
-  omega
-      (arith, c .before .before .destinations-of .ensures .0),
-)
-
-optional-at-requires-2 : tie.Need-optional-at-requires-2
-optional-at-requires-2 c κs = (
-  c .before .before .before .before .before .before .pre,
-  omega
-      (arith, c .before .before .before .destinations-of .ensures .0),
-)
-
 returns : tie.Need-returns
-unfolding assignmentBy
-returns c = simp (
-  c .optional-at2 .ensures,
-  c .before .operand-at2 .ensures,
-  c .before .before .optional-at .ensures,
-  c .before .before
-      .before .operand-at .ensures,
-  c .before .before .before .before .destinations-of .ensures .1,
-  c .before .before .before .before .before
-      .shape-of .ensures,
-)
+returns c =
+    let s = c .before .before .before .before in
+    c .assignment-by .ensures ∙ shaped (s .args .o) (s .args .r .now) (c .before .before .shape-of .ensures) (c .before .if1 .taken)
+
+returns-2 : tie.Need-returns-2
+returns-2 c =
+    let s = c .before .before .before .before in
+    c .assignment-by2 .ensures ∙ shaped (s .args .o) (s .args .r .now) (c .before .before .shape-of .ensures) (c .before .if1 .left)
 
 pub assignment-of-spec : {M : Type 1} → statement M
 assignment-of-spec =
-    tie.close
-    (tie.spec
-    (λ c κs. search needs)
-    (λ c κs. search needs)
-    (λ c κs. search needs)
-    (λ c κs. search needs)
-    operand-at-requires-2
-    (λ c. search needs)
-    optional-at-requires-2
-    returns)
+    tie.close (tie.spec (λ c κs. search needs) (λ c κs. search needs) (λ c κs. search needs) returns returns-2)

@@ -27,7 +27,15 @@ returns-5 c =
 
 returns-6 : tie.Need-returns-6
 unfolding operationAt
-returns-6 c = simp (ne-eqb _ 2 (c .match .rest .1))
+returns-6 c = rw (c .before .match .keys2, c .match3 .keys1)
+
+returns-7 : tie.Need-returns-7
+unfolding operationAt
+returns-7 c = simp (c .before .match .keys2, ne-eqb _ 0 (c .match3 .rest .1))
+
+returns-8 : tie.Need-returns-8
+unfolding operationAt
+returns-8 c = let no = c .match .rest in simp (ne-eqb _ 2 (no .0 .1), ne-eqb _ 12 (no .1))
 
 pub operation-at-spec : {M : Type 1} → statement M
 operation-at-spec =
@@ -38,4 +46,6 @@ operation-at-spec =
     returns-3
     returns-4
     returns-5
-    returns-6)
+    returns-6
+    returns-7
+    returns-8)

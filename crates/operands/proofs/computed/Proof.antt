@@ -27,6 +27,9 @@ returns-3 c = rw (c .before .enum-told3 .given .1) (c .difference .ensures)
 returns-4 : tie.Need-returns-4
 returns-4 c = rw (c .before .enum-told4 .given .1) (c .one-result3 .ensures)
 
+returns-5 : tie.Need-returns-5
+returns-5 c = rw (c .before .enum-told5 .given .1) (c .quotient-and-remainder .ensures)
+
 pub computed-spec : {M : Type 1} → statement M
 computed-spec =
     tie.close
@@ -43,7 +46,10 @@ computed-spec =
     mul-one-result
     (λ c. search needs)
     (λ c κs. search needs)
+    (λ c. search needs)
+    (λ c κs. search needs)
     returns
     returns-2
     returns-3
-    returns-4)
+    returns-4
+    returns-5)

@@ -1,10 +1,10 @@
 use mathlib.Core.Path.{refl}
-use Rattle.operands.specs.Values.{computes-one}
+use Rattle.operands.specs.Values.{computes-values}
 use Rattle.operands.proofs.one_result.Statement.{statement}
 use Rattle.operands.proofs.one_result.Tie as tie
 
 returns : tie.Need-returns
-returns c = computes-one _ _ refl refl
+returns c = computes-values _ _ refl refl
 
 pub one-result-spec : {M : Type 1} → statement M
 one-result-spec = tie.close (tie.spec returns)

@@ -1,0 +1,75 @@
+-- A step of ASSIGN's kind in a list of calls: what it works out is stored, and the job goes on to A; or it traps, and nothing is stored.
+use mathlib.Core.Path.{_≡_, refl, ap}
+use mathlib.Core.Logic.{_⊎_, inl, inr}
+use mathlib.Core.Option.{none, some}
+use mathlib.Core.List.{List, [], _∷_, _++_}
+use Prim.Native.Nat.{ℕ}
+use lib.ListN.{getD, set}
+use Rattle.rules.specs.Image.{recordAt, labelA}
+use Rattle.rules.specs.Statements.{operandAt, statementOf}
+use Rattle.rules.specs.Machine.{Signal, Job, job, withHeld, running, Machine, threadAt, jobOf, first, keep}
+use Rattle.rules.specs.Effects.{Got, trap, got, Cells, Results, read, readAll, assigned}
+use Rattle.rules.specs.Events.{Event, step}
+use Rattle.rules.specs.Answers.{code, detail}
+use Rattle.rules.specs.Steps.{blockAt}
+use Rattle.rules.specs.declared.statement.Assignment.{Assignment}
+use Rattle.rules.specs.declared.statement.Operand.{Operand}
+use Rattle.rules.specs.declared.statement.Operand.the-variants.{Register}
+use Rattle.rules.specs.declared.statement.Statement.the-variants.{Assign}
+use Rattle.step_laws.specs.Reading.{pair-absent}
+use Rattle.step_laws.specs.Statements as law
+use Rattle.step_laws.specs.Statements.{cellsAt, results}
+use Rattle.calls_one_by_one.specs.CallList.{Run, Calls, eventList, eventsOf}
+use Rattle.calls_one_by_one.specs.Reached.{reached, good, Stepped, Trapped, stepped, trapped}
+
+-- operand i of the record at a job's label
+abbrev pub operand : List ℕ → Job → ℕ → Operand
+operand image j i = operandAt (recordAt image (j .label)) i
+
+-- operands i and k of that record, read left to right
+abbrev pub sources : List ℕ → Machine → Job → ℕ → ℕ → Got (List ℕ)
+sources image s j i k = readAll (cellsAt image s j) (operand image j i ∷ operand image j k ∷ [])
+
+-- the machine s where that job has left these cells and gone on to A
+abbrev pub leaving : List ℕ → Machine → ℕ → ℕ → Job → Cells → Machine
+leaving image s t locks j c = record {
+  words = keep (blockAt image (j .label)) (c .words) (s .words);
+  threads =
+      set (s .threads) t (running locks (withHeld (j .held) (job (labelA (recordAt image (j .label))) (j .returns) (c .registers))));
+  trees = s .trees;
+}
+
+module _ (image table words state : List ℕ) (runs : List Run) (calls : Calls image table words state runs) (before after : List Event)
+    (t : ℕ) (split : eventsOf (eventList runs) ≡ before ++ step t ∷ after) (locks : ℕ) (j : Job)
+    (busy : threadAt (reached image table words before) t ≡ running locks j) (a : Assignment)
+    (statement : statementOf (recordAt image (j .label)) ≡ Assign a) where
+  abbrev s : Machine
+  s = reached image table words before
+
+  tree : (p : List Signal) × (first t (s .trees) ≡ some p)
+  tree = good image table words state runs calls before after t split .sound .invariant .rooted t j (ap jobOf busy)
+
+  pub stores : (z : Results) → results (cellsAt image s j) a ≡ got z
+      → Stepped image table words state runs before after t 6 0 (leaving image s t locks j (assigned a z (cellsAt image s j)))
+  unfolding code detail
+  stores z e =
+      stepped image table words state runs calls before after t split _
+      (law.assigns image table s t locks j (tree .0) busy (tree .1) a statement z e)
+
+  pub unworked : (reason : ℕ) → results (cellsAt image s j) a ≡ trap reason → Trapped image table words state runs before after t reason
+  unworked reason e =
+      trapped image table words state runs calls before after t split reason
+      (law.unworked image table s t locks j (tree .0) busy (tree .1) a statement reason e)
+
+  -- an absent register is found before anything is worked out
+  pub absent-source : (r : ℕ) → (a .left ≡ Register r) ⊎ (a .right ≡ Register r) → getD (j .registers) r none ≡ none
+      → Trapped image table words state runs before after t 1
+  absent-source r place absent = unworked 1 (rw (pair-absent (cellsAt image s j) (a .left) (a .right) (one place)) refl)
+    where
+      unread : (p : Operand) → p ≡ Register r → read (cellsAt image s j) p ≡ trap 1
+      unread p e = rw (e, absent)
+
+      one : (a .left ≡ Register r) ⊎ (a .right ≡ Register r)
+          → (read (cellsAt image s j) (a .left) ≡ trap 1) ⊎ (read (cellsAt image s j) (a .right) ≡ trap 1)
+      one (inl e) = inl (unread (a .left) e)
+      one (inr e) = inr (unread (a .right) e)

@@ -1,0 +1,273 @@
+-- A step at a record of DIVIDE: the quotient and the remainder, each in its own destination, over any operands; its traps, which store
+-- nothing; and which records of it are faulty.
+use mathlib.Core.Path.{_≡_, refl, ap, _∙_}
+use mathlib.Core.Logic.{_≢_, _⊎_, inl, inr}
+use mathlib.Core.Bool.{Bool, true, false, not, _&&_, and-false}
+use mathlib.Core.Option.{Option, none, some}
+use mathlib.Core.List.{List, [], _∷_}
+use Prim.Native.Nat.{ℕ, zero, suc, _+_, _*_, _≤_, _<_}
+use native.Mathlib.Omega.{arith}
+use lib.ListN.{length, getD, length-set}
+use lib.Dec.{eqb}
+use borrow.Author.Tests.{eq-eqb, ne-eqb, lt-ltb, le-leb}
+use Rattle.rules.specs.Sizes.{wordCount}
+use Rattle.rules.specs.Bytes.{firstBad}
+use Rattle.rules.specs.Image.{labels, recordAt, opcode, operator, blockField, entry, operands, kind, value}
+use Rattle.rules.specs.Statements.{shape, operationAt, otherAt, optional, assignmentBy, assignmentOf, statementOf}
+use Rattle.rules.specs.Check.{assignOk, otherOk, shapeOk, headOk, ruleOk, recordOk, imageLengthFault, tableLengthFault, tableFault}
+use Rattle.rules.specs.Check.{recordFault, firstOf}
+use Rattle.rules.specs.Calls.{checkReturn}
+use Rattle.rules.specs.Machine.{Job, job, withHeld, running, Machine, threadAt, keep}
+use Rattle.rules.specs.Effects.{trap, got, Cells, present, read, readAll, both, compute, store, perform}
+use Rattle.rules.specs.Steps.{Reply, blockAt, blocked}
+use Rattle.rules.specs.Division.{computed, by-zero}
+use Rattle.rules.specs.Storing.{Place, length-window, place-stored, first-stored, second-stored}
+use Rattle.rules.specs.declared.statement.Operand.{Operand}
+use Rattle.rules.specs.declared.statement.Operand.the-variants.{Number, Register, Word}
+use Rattle.rules.specs.declared.statement.Operation.{Operation}
+use Rattle.rules.specs.declared.statement.Operation.the-variants.{Divide}
+use Rattle.rules.specs.declared.statement.Assignment.{Assignment}
+use Rattle.rules.specs.declared.statement.Statement.the-variants.{Assign}
+use Rattle.rules.proofs.Running.{cellsOf, Runs, Answered, MovesOn, unread, trapped, moves-on, own-words}
+use Rattle.rules.proofs.Opcodes.{stepOf, A, register}
+use Rattle.rules.proofs.Assigning.{operand, TrapsWith, kept, traps-with, second-absent}
+
+-- thread t holds these locks and runs this job, at whose label a record of opcode 12 stands, which has no operator
+pub record AtDivide (image : List ℕ) (s : Machine) (t locks : ℕ) (j : Job) : Type 0 where
+  pub thread : threadAt s t ≡ running locks j
+  pub divide : opcode (recordAt image (j .label)) ≡ 12
+  pub plain : operator (recordAt image (j .label)) ≡ 0
+
+-- operands 0 and 1 of that record are the destinations d and e, and operands 2 and 3 are read as p and q
+pub record Divides (image : List ℕ) (s : Machine) (t locks : ℕ) (j : Job) (d e : Operand) (p q : ℕ) : Type 0 where
+  pub here : AtDivide image s t locks j
+  pub quotient : operand image j 0 ≡ d
+  pub remainder : operand image j 1 ≡ e
+  pub left : read (cellsOf image s j) (operand image j 2) ≡ got p
+  pub right : read (cellsOf image s j) (operand image j 3) ≡ got q
+
+-- a register of thread t, or a word of block b, has this value
+abbrev pub Stands : Machine → ℕ → ℕ → Operand → ℕ → Type 0
+Stands m t b (Number n) v = ⊥
+Stands m t b (Register r) v = register (threadAt m t) r ≡ some v
+Stands m t b (Word w) v = getD (m .words) (wordCount * b + w) 0 ≡ v
+
+-- an answer of 6, 0, after which both values stand in their destinations
+pub record BothStand (reply : Reply) (t b : ℕ) (d e : Operand) (u v : ℕ) : Type 0 where
+  pub answer : Answered reply 6 0
+  pub quotient : Stands (reply .state) t b d u
+  pub remainder : Stands (reply .state) t b e v
+
+-- ---- where a value stands
+
+present-some : (o : Option ℕ) (v : ℕ) → present o ≡ got v → o ≡ some v
+present-some none v h = cc
+present-some (some u) v h = cc
+
+length-words : (c : Cells) (d : Operand) (v : ℕ) → length (store d v c .words) ≡ length (c .words)
+length-words c (Number n) v = refl
+length-words c (Register r) v = refl
+length-words c (Word w) v = length-set (c .words) w v
+
+-- what the cells of a step have, the machine after it has
+stands : (m : Machine) (t b : ℕ) (c : Cells) (words : List ℕ) (d : Operand) (v : ℕ) → ((r : ℕ) → register (threadAt m t) r
+    ≡ getD (c .registers) r none) → m .words ≡ keep b (c .words) words → length (c .words) ≡ wordCount
+    → wordCount * b + wordCount ≤ length words → Place c d → read c d ≡ got v → Stands m t b d v
+stands m t b c words (Number n) v f g l h p e = absurd p
+stands m t b c words (Register r) v f g l h p e = f r ∙ present-some (getD (c .registers) r none) v e
+stands m t b c words (Word w) v f g l h p e =
+    let value : getD (c .words) w 0 ≡ v = cc in
+    rw g (kept b w (c .words) words (omega arith) p (omega arith) ∙ value)
+
+-- ---- a step of DIVIDE
+
+module _ (image table : List ℕ) (s : Machine) (t locks : ℕ) (j : Job) where
+  abbrev a : Assignment
+  a = assignmentOf Divide (recordAt image (j .label))
+
+  abbrev own : ℕ
+  own = blockAt image (j .label)
+
+  statement : AtDivide image s t locks j → statementOf (recordAt image (j .label)) ≡ Assign a
+  unfolding statementOf operationAt
+  statement h = rw (h .divide, h .plain)
+
+  module _ (d e : Operand) (p q : ℕ) (h : Divides image s t locks j d e p q) where
+    runs : Runs image s t locks j (Assign a) (p ∷ q ∷ [])
+    unfolding readAll assignmentBy optional
+    runs = record { thread = h .here .thread; statement = statement (h .here); reading = rw (h .left, h .right) }
+
+    module _ (u v : ℕ) (f : compute Divide p q ≡ both u v) where
+      abbrev left : Cells
+      left = store e v (store d u (cellsOf image s j))
+
+      abbrev next : Job
+      next = withHeld (j .held) (job (A image j) (j .returns) (left .registers))
+
+      after : MovesOn (stepOf image table s t) t locks next
+      unfolding perform blocked assignmentBy optional
+      after = moves-on image table runs next (left .words) none none (rw (f, h .quotient, h .remainder)) refl
+
+      words : stepOf image table s t .state .words ≡ keep own (left .words) (s .words)
+      unfolding perform blocked assignmentBy optional
+      words = own-words image table runs next (left .words) none none (rw (f, h .quotient, h .remainder)) refl
+
+      sized : length (left .words) ≡ wordCount
+      sized = length-words (store d u (cellsOf image s j)) e v ∙ length-words (cellsOf image s j) d u ∙ length-window own (s .words)
+
+      -- of two destinations that are not equal
+      module _ (differ : d ≢ e) (inside : wordCount * own + wordCount ≤ length (s .words)) (x : Place (cellsOf image s j) d)
+          (y : Place (cellsOf image s j) e) where
+        placed : (z : Operand) (n : ℕ) → Place (cellsOf image s j) z → read left z ≡ got n
+            → Stands (stepOf image table s t .state) t own z n
+        placed z n k =
+            stands (stepOf image table s t .state) t own left (s .words) z n (λ r. rw (after .thread)) words sized inside
+            (place-stored (store d u (cellsOf image s j)) z e v (place-stored (cellsOf image s j) z d u k))
+
+        both-stand : BothStand (stepOf image table s t) t own d e u v
+        both-stand = record {
+          answer = after .answer;
+          quotient = placed d u x (first-stored (cellsOf image s j) d e u v differ x);
+          remainder = placed e v y (second-stored (cellsOf image s j) d e u v differ y);
+        }
+
+    traps : (reason : ℕ) → compute Divide p q ≡ trap reason → TrapsWith (stepOf image table s t) s t reason
+    unfolding perform assignmentBy optional
+    traps reason f = traps-with image table s t locks j reason (h .here .thread) (trapped image table runs reason (rw f))
+
+-- ---- faulty records
+
+-- the first place at which a test fails, where it holds before
+first-bad : (ok : ℕ → Bool) (i n l : ℕ) → l < n → ((k : ℕ) → k < l → ok (i + k) ≡ true) → ok (i + l) ≡ false → firstBad ok i n ≡ i + l
+unfolding firstBad
+first-bad ok i zero l h before here = absurd (omega arith)
+first-bad ok i (suc n) zero h before here =
+    let e : ok i ≡ false = ap ok (omega arith) ∙ here in
+    let z : i ≡ i + zero = omega arith in
+    rw e z
+first-bad ok i (suc n) (suc l) h before here =
+    let e : ok i ≡ true = ap ok (omega arith) ∙ before 0 (omega arith) in
+    let next : (k : ℕ) → k < l → ok (i + 1 + k) ≡ true = λ k m. ap ok (omega arith) ∙ before (suc k) (omega arith) in
+    let there : ok (i + 1 + l) ≡ false = ap ok (omega arith) ∙ here in
+    let z : i + 1 + l ≡ i + suc l = omega arith in
+    rw e (first-bad ok (i + 1) n l (omega arith) next there ∙ z)
+
+-- a record of opcode 12 whose destinations have the same kind and the same number
+pub record Equal (r : List ℕ) : Type 0 where
+  pub divide : opcode r ≡ 12
+  pub kinds : kind r 0 ≡ kind r 1
+  pub numbers : value r 0 ≡ value r 1
+
+-- with an operator it is no opcode
+no-other : (r : List ℕ) → opcode r ≡ 12 → otherOk r ≡ false
+unfolding otherOk otherAt
+no-other r e = rw e
+
+-- a record of opcode 12 is faulty if its operands are
+faulty : (r : List ℕ) → opcode r ≡ 12 → assignOk (shape Divide) (operands r) (kind r 0) (value r 0) (kind r 1) (value r 1) ≡ false
+    → headOk r ≡ false
+unfolding headOk operationAt
+faulty r e h = rw (case (eqb (operator r) 0) refl, and-false)
+  where
+    case : (b : Bool) → eqb (operator r) 0 ≡ b → shapeOk (operationAt (opcode r) (operator r)) r ≡ false
+    case true f = rw (e, f, h)
+    case false f =
+        let none-found : operationAt (opcode r) (operator r) ≡ none = rw (e, f) in
+        ap (λ (k : Option Operation). shapeOk k r) none-found ∙ no-other r e
+
+equal-faulty : (image : List ℕ) (l : ℕ) → Equal (recordAt image l) → recordOk image l ≡ false
+unfolding recordOk ruleOk assignOk
+equal-faulty image l h =
+    let r = recordAt image l in
+    let same : not (eqb (kind r 0) (kind r 1) && eqb (value r 0) (value r 1)) ≡ false =
+    rw (eq-eqb (kind r 0) (kind r 1) (h .kinds), eq-eqb (value r 0) (value r 1) (h .numbers)) in
+    rw (faulty r (h .divide) (rw (same, and-false, and-false)))
+
+number-faulty : (r : List ℕ) → opcode r ≡ 12 → (kind r 0 ≡ 1) ⊎ (kind r 1 ≡ 1) → headOk r ≡ false
+unfolding assignOk
+number-faulty r e (inl k) = faulty r e (rw (k, and-false))
+number-faulty r e (inr k) = faulty r e (rw (k, and-false))
+
+count-faulty : (r : List ℕ) → opcode r ≡ 12 → operands r ≢ 4 → headOk r ≡ false
+unfolding assignOk
+count-faulty r e n = faulty r e (rw (ne-eqb (operands r) 4 n))
+
+-- ---- the trials
+
+pub record Divisions (image table : List ℕ) (s : Machine) (t locks : ℕ) (j : Job) : Type 0 where
+  -- "stores both results together, with p = q × quotient + remainder and remainder below q": to any two destinations that are not equal
+  pub divides : (p q u v : ℕ) → p ≡ q * u + v → v < q → (d e : Operand) → d ≢ e → Place (cellsOf image s j) d → Place (cellsOf image s j) e
+      → 16 * blockAt image (j .label) + 16 ≤ length (s .words) → Divides image s t locks j d e p q
+      → BothStand (stepOf image table s t) t (blockAt image (j .label)) d e u v
+  -- "A zero q traps with reason 8, after 7, and stores neither": and an absent register, operand 2 or 3, is found before it
+  pub zero-divisor : (p : ℕ) (d e : Operand) → Divides image s t locks j d e p 0 → TrapsWith (stepOf image table s t) s t 8
+  pub absent-first : (i r : ℕ) → (i ≡ 2) ⊎ (i ≡ 3) → AtDivide image s t locks j → operand image j i ≡ Register r
+      → getD (j .registers) r none ≡ none → TrapsWith (stepOf image table s t) s t 1
+  -- "Equal destinations make the record faulty under number 4": at the first label that has them, if no record before it is faulty
+  pub equal-destinations : (l : ℕ) → l < labels image → Equal (recordAt image l) → ((i : ℕ) → i < l → recordOk image i ≡ true)
+      → imageLengthFault image ≡ 0 → tableLengthFault table ≡ 0 → tableFault table ≡ 0 → checkReturn image table ≡ 65536 * 4 + l
+  -- a number as a destination, and another count of operands than four, make it faulty too
+  pub number-destination : (r : List ℕ) → opcode r ≡ 12 → (kind r 0 ≡ 1) ⊎ (kind r 1 ≡ 1) → headOk r ≡ false
+  pub operand-count : (r : List ℕ) → opcode r ≡ 12 → operands r ≢ 4 → headOk r ≡ false
+  -- and others do not: registers or words of different numbers, and a register and a word of any numbers
+  pub other-destinations : (r : List ℕ) → opcode r ≡ 12 → operator r ≡ 0 → blockField r < 16 → entry r < 4 → operands r ≡ 4
+      → 2 ≤ kind r 0 → 2 ≤ kind r 1 → (kind r 0 ≢ kind r 1) ⊎ (value r 0 ≢ value r 1) → headOk r ≡ true
+
+module _ (image table : List ℕ) (s : Machine) (t locks : ℕ) (j : Job) where
+  absent : (i r : ℕ) → (i ≡ 2) ⊎ (i ≡ 3) → AtDivide image s t locks j → operand image j i ≡ Register r
+      → getD (j .registers) r none ≡ none → TrapsWith (stepOf image table s t) s t 1
+  unfolding readAll assignmentBy optional
+  absent i r place h source none-there =
+      traps-with image table s t locks j 1 (h .thread)
+      (unread image table s t locks j (Assign (a image table s t locks j)) 1 (h .thread) (statement image table s t locks j h)
+      (either place))
+    where
+      either : (i ≡ 2) ⊎ (i ≡ 3) → readAll (cellsOf image s j) (operand image j 2 ∷ operand image j 3 ∷ []) ≡ trap 1
+      either (inl e) = let f : operand image j 2 ≡ Register r = rw e at source in rw (f, none-there)
+      either (inr e) =
+          let f : operand image j 3 ≡ Register r = rw e at source in
+          second-absent (cellsOf image s j) (operand image j 2) (operand image j 3) (rw (f, none-there))
+
+equal-refused : (image table : List ℕ) (l : ℕ) → l < labels image → Equal (recordAt image l) → ((i : ℕ) → i < l → recordOk image i ≡ true)
+    → imageLengthFault image ≡ 0 → tableLengthFault table ≡ 0 → tableFault table ≡ 0 → checkReturn image table ≡ 65536 * 4 + l
+unfolding checkReturn recordFault firstOf
+equal-refused image table l h f before x y z =
+    let bad : firstBad (recordOk image) 0 (labels image) ≡ l =
+    first-bad (recordOk image) 0 (labels image) l h (λ k m. ap (recordOk image) (omega arith) ∙ before k m)
+    (ap (recordOk image) (omega arith) ∙ equal-faulty image l f)
+    ∙ omega arith in
+    let some-bad : eqb l (labels image) ≡ false = ne-eqb l (labels image) (λ e. absurd (omega arith)) in
+    let refused : eqb (65536 * 4 + l) 0 ≡ false = ne-eqb (65536 * 4 + l) 0 (λ e. absurd (omega arith)) in
+    rw (x, y, z, bad, some-bad, refused)
+
+others-pass : (r : List ℕ) → opcode r ≡ 12 → operator r ≡ 0 → blockField r < 16 → entry r < 4 → operands r ≡ 4
+    → 2 ≤ kind r 0 → 2 ≤ kind r 1 → (kind r 0 ≢ kind r 1) ⊎ (value r 0 ≢ value r 1) → headOk r ≡ true
+unfolding headOk operationAt assignOk
+others-pass r e o b f c k l n =
+    rw (
+      e,
+      o,
+      lt-ltb (blockField r) 16 b,
+      lt-ltb (entry r) 4 f,
+      c,
+      le-leb 2 (kind r 0) k,
+      le-leb 2 (kind r 1) l,
+      differ n,
+    )
+  where
+    differ : (kind r 0 ≢ kind r 1) ⊎ (value r 0 ≢ value r 1) → (eqb (kind r 0) (kind r 1) && eqb (value r 0) (value r 1)) ≡ false
+    differ (inl h) = rw (ne-eqb (kind r 0) (kind r 1) h)
+    differ (inr h) = rw (ne-eqb (value r 0) (value r 1) h, and-false)
+
+pub divisions : (image table : List ℕ) (s : Machine) (t locks : ℕ) (j : Job) → Divisions image table s t locks j
+divisions image table s t locks j = record {
+  divides = λ p q u v w b d e differ x y inside h.
+      let f = computed p q u v (record { whole = w; below = b }) in
+      both-stand image table s t locks j d e p q h u v f differ inside x y;
+  zero-divisor = λ p d e h. traps image table s t locks j d e p 0 h 8 (by-zero p);
+  absent-first = absent image table s t locks j;
+  equal-destinations = equal-refused image table;
+  number-destination = number-faulty;
+  operand-count = count-faulty;
+  other-destinations = others-pass;
+}
