@@ -25,12 +25,12 @@ SOURCES_demo = $(wildcard host/demo/*.c) $(COMMON)
 SOURCES_plex = $(wildcard host/command/*.c) $(COMMON)
 SOURCES_bench = $(wildcard host/bench/*.c) host/common/build.c
 SOURCES_words = tests/words.c $(COMMON)
-SOURCES_explanations = tests/explanations.c tests/damage.c $(wildcard host/command/explain*.c) \
+SOURCES_explanations = tests/explanations.c tests/faults.c tests/damage.c $(wildcard host/command/explain*.c) \
     host/bench/bench_image.c $(COMMON)
 SOURCES_plain = $(wildcard tests/plain*.c) tests/damage.c host/bench/bench_image.c host/common/build.c $(wildcard host/bench/plain_*.c)
 SOURCES_lending = tests/lending.c tests/cases.c host/common/build.c
 SOURCES_stack = tests/stack.c tests/cases.c host/common/build.c
-SOURCES_header = tests/header.c
+SOURCES_header = $(wildcard tests/header*.c)
 SOURCES_terminal = tests/terminal.c
 SOURCES_pictures = tests/pictures.c tests/svg.c host/bench/bench_plot.c $(wildcard host/command/waits_*.c)
 SOURCES_one_by_one = examples/one_by_one.c $(COMMON)
@@ -49,8 +49,8 @@ build/%-safe: $$(SOURCES_$$*) $(HEADERS) $(LIBRARY) | build
 build/%-race: $$(SOURCES_$$*) $(HEADERS) $(LIBRARY) | build
 	$(COMPILE) -g -fsanitize=thread -o $@ $(SOURCES_$*) $(LIBRARY) $(LDLIBS)
 
-build/header++: tests/header.c include/plex.h $(LIBRARY) | build
-	$(CXX) $(CXXFLAGS) -Iinclude -o $@ -x c++ tests/header.c -x none $(LIBRARY)
+build/header++: $(SOURCES_header) include/plex.h $(LIBRARY) | build
+	$(CXX) $(CXXFLAGS) -Iinclude -o $@ -x c++ $(SOURCES_header) -x none $(LIBRARY)
 
 build/%: $$(SOURCES_$$*) $(HEADERS) $(LIBRARY) | build
 	$(COMPILE) -o $@ $(SOURCES_$*) $(LIBRARY) $(LDLIBS)
@@ -92,7 +92,7 @@ map:
 	dot -Tsvg -o docs/map.svg docs/map.dot
 
 # what the library asks of a host and of the system; the demo's output is held to a file
-CASES = $(sort $(basename $(foreach set,base 102 104 105,$(wildcard crates/trials/data/$(set)/*.image))))
+CASES = $(sort $(basename $(foreach set,base 102 104 105 106,$(wildcard crates/trials/data/$(set)/*.image))))
 HOST_TESTS = header header++ words-safe explanations-safe plain-safe lending lending-safe pictures-safe
 host: $(addprefix build/,$(HOST_TESTS) stack demo-safe)
 	sh tests/progress.sh

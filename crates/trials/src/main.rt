@@ -17,7 +17,7 @@ use lines::try_file;
 use memory::Lengths;
 use memory::Memory;
 
-// The lines that name `call`, a call of a machine: of the limits, and of the vectors of the base and of three requests.
+// The lines that name `call`, a call of a machine: of the limits, and of the vectors of the base and of four requests.
 fn try_call(call: &[u8], memory: &mut Memory, lengths: &mut Lengths) {
     try_file(b"limits.txt", call, memory, lengths).print(call, b" lines of the limits agree\n");
     let base = try_file(b"base/damaged.txt", call, memory, lengths);
@@ -28,6 +28,8 @@ fn try_call(call: &[u8], memory: &mut Memory, lengths: &mut Lengths) {
     groups.print(call, b" lines of the vectors of groups agree\n");
     let differences = try_file(b"105/damaged.txt", call, memory, lengths);
     differences.print(call, b" lines of the vectors of subtraction agree\n");
+    let divisions = try_file(b"106/damaged.txt", call, memory, lengths);
+    divisions.print(call, b" lines of the vectors of division agree\n");
 }
 
 // Walks from states near those of the cases.
@@ -38,6 +40,8 @@ fn try_near(memory: &mut Memory, lengths: &mut Lengths) {
     groups.print(b"walk", b" lines near states with groups agree\n");
     let differences = try_file(b"105/near.txt", b"walk", memory, lengths);
     differences.print(b"walk", b" lines near states after subtractions agree\n");
+    let divisions = try_file(b"106/near.txt", b"walk", memory, lengths);
+    divisions.print(b"walk", b" lines near states after divisions agree\n");
 }
 
 // The cases, each with its walks.
@@ -61,6 +65,11 @@ fn try_cases(memory: &mut Memory, lengths: &mut Lengths) {
     differences.print(
         b"run",
         b" cases of subtraction agree, with the walks of eight threads\n",
+    );
+    let divisions = try_file(b"106/index.txt", b"run=", memory, lengths);
+    divisions.print(
+        b"run",
+        b" cases of division agree, with the walks of eight threads\n",
     );
 }
 
