@@ -4,7 +4,9 @@ use crate::bytes::Writer;
 use crate::events::Event;
 use crate::image::Record;
 use crate::sorts::Block;
-use crate::statement::{Fields, Formula, Operand, Place, Statement, Test, OPERANDS, OPERAND_WIDTH};
+use crate::statement::{
+    Division, Fields, Formula, Operand, Place, Statement, Test, OPERANDS, OPERAND_WIDTH,
+};
 
 pub fn image_bytes(records: &[Record]) -> Vec<u8> {
     let mut writer = Writer::default();
@@ -52,10 +54,7 @@ fn fields(statement: &Statement) -> Fields {
         }
         Statement::Goto { on } => fields(3, on.number(), 0, &[]),
         Statement::If { test, holds, fails } => {
-            let (operator, operands) = match *test {
-                Test::Equal(p, q) => (1, [p, q]),
-                Test::Less(p, q) => (2, [p, q]),
-            };
+            let (operator, operands) = test_fields(test);
             Fields { operator, ..fields(4, holds.number(), fails.number(), &operands) }
         }
         Statement::SendDirect { signal, data } => fields(5, signal.number(), 0, data),
@@ -69,6 +68,17 @@ fn fields(statement: &Statement) -> Fields {
         Statement::SendJobTree { signal, data, on } => {
             fields(11, signal.number(), on.number(), data)
         }
+        Statement::Divide { division: Division { quotient, remainder, p, q }, on } => {
+            let operands = [Operand::Kept(*quotient), Operand::Kept(*remainder), *p, *q];
+            fields(12, on.number(), 0, &operands)
+        }
+    }
+}
+
+fn test_fields(test: &Test) -> (u8, [Operand; 2]) {
+    match *test {
+        Test::Equal(p, q) => (1, [p, q]),
+        Test::Less(p, q) => (2, [p, q]),
     }
 }
 

@@ -57,6 +57,7 @@ pub enum Trap {
     HeldFull,
     /// A subtraction takes more than there is.
     BelowZero,
+    DivisionByZero,
 }
 
 impl Trap {
@@ -69,6 +70,7 @@ impl Trap {
             Trap::ForeignBlock => 5,
             Trap::HeldFull => 6,
             Trap::BelowZero => 7,
+            Trap::DivisionByZero => 8,
         }
     }
 }

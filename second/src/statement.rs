@@ -6,7 +6,7 @@ use crate::registers::Registers;
 use crate::sorts::{Block, Label};
 
 /// Where a value is kept: register 0..24, or shared word 16 x block + word.
-#[derive(Clone, Copy, Debug)]
+#[derive(Clone, Copy, Debug, PartialEq, Eq)]
 pub enum Place {
     Register(u8),
     Word(u8),
@@ -28,6 +28,15 @@ pub enum Formula {
     Multiply(Operand, Operand),
 }
 
+/// p divided by q. The two places are different; either may be an operand too.
+#[derive(Clone, Copy, Debug)]
+pub struct Division {
+    pub quotient: Place,
+    pub remainder: Place,
+    pub p: Operand,
+    pub q: Operand,
+}
+
 #[derive(Clone, Copy, Debug)]
 pub enum Test {
     Equal(Operand, Operand),
@@ -39,6 +48,7 @@ pub enum Test {
 pub enum Statement {
     Skip { on: Label },
     Assign { to: Place, formula: Formula, on: Label },
+    Divide { division: Division, on: Label },
     Goto { on: Label },
     If { test: Test, holds: Label, fails: Label },
     SendDirect { signal: Label, data: Vec<Operand> },
@@ -67,6 +77,7 @@ impl Statement {
             | Statement::Transfer { data, .. } => data,
             Statement::Skip { .. }
             | Statement::Assign { .. }
+            | Statement::Divide { .. }
             | Statement::Goto { .. }
             | Statement::If { .. }
             | Statement::Exit => &[],
@@ -75,9 +86,10 @@ impl Statement {
 
     fn labels(&mut self) -> Vec<&mut Label> {
         match self {
-            Statement::Skip { on } | Statement::Assign { on, .. } | Statement::Goto { on } => {
-                vec![on]
-            }
+            Statement::Skip { on }
+            | Statement::Assign { on, .. }
+            | Statement::Divide { on, .. }
+            | Statement::Goto { on } => vec![on],
             Statement::If { holds, fails, .. } => vec![holds, fails],
             Statement::SendDirect { signal, .. } | Statement::Transfer { signal, .. } => {
                 vec![signal]
@@ -150,6 +162,7 @@ impl Fields {
             2 | 4 => self.computing(links),
             _ if self.operator != 0 => None,
             5..=9 | 11 => self.signalling(links),
+            12 => self.dividing(links),
             _ if !self.operands.is_empty() => None,
             1 => Some(Statement::Skip { on: links.inside(self.a)? }),
             3 => Some(Statement::Goto { on: links.inside(self.a)? }),
@@ -177,6 +190,17 @@ impl Fields {
             (4, 2, &[p, q]) => choose(Test::Less(p, q)),
             _ => None,
         }
+    }
+
+    /// Opcode 12. Equal destinations are of one kind and one number.
+    fn dividing(self, links: &Links) -> Option<Statement> {
+        let &[Operand::Kept(quotient), Operand::Kept(remainder), p, q] = self.operands.as_slice()
+        else {
+            return None;
+        };
+        let division = Division { quotient, remainder, p, q };
+        let on = links.inside(self.a)?;
+        (quotient != remainder).then_some(Statement::Divide { division, on })
     }
 
     /// The opcodes that carry data, 5 to 9 and 11.

@@ -6,7 +6,7 @@ use crate::job::Job;
 use crate::registers::Registers;
 use crate::sorts::{Label, Lock, Thread};
 use crate::state::State;
-use crate::statement::{Formula, Operand, Place, Statement, Test};
+use crate::statement::{Division, Formula, Operand, Place, Statement, Test};
 use crate::tree::{Signal, Tree};
 
 pub fn carry_out(program: &Program, state: &mut State, event: &Event) -> Answer {
@@ -127,6 +127,11 @@ fn advance(program: &Program, state: &mut State, thread: Thread, job: Job) -> Re
             let value = sight.compute(formula)?;
             Ok(store(state, job, *to, value).at(*on))
         }
+        Statement::Divide { division, on } => {
+            let (quotient, remainder) = sight.divide(division)?;
+            let job = store(state, job, division.quotient, quotient);
+            Ok(store(state, job, division.remainder, remainder).at(*on))
+        }
         Statement::If { test, holds, fails } => {
             let next = if sight.holds(test)? { holds } else { fails };
             Ok(job.at(*next))
@@ -142,10 +147,7 @@ fn advance(program: &Program, state: &mut State, thread: Thread, job: Job) -> Re
             Ok(hold(job, Signal { label: *signal, values })?.at(*on))
         }
         Statement::Call { signal, back, .. } => {
-            if job.returns.len() == Job::RETURNS {
-                return Err(Trap::ReturnLabelsFull.into());
-            }
-            enter(program, state, thread, job.calling(*back), *signal, &values)
+            enter(program, state, thread, go_out(job, *back)?, *signal, &values)
         }
         Statement::Return { .. } => Ok(go_back(job, &values)?),
         Statement::Transfer { signal, .. } => {
@@ -175,6 +177,14 @@ fn enter(
         return Err(Stop::Wait(lock));
     }
     Ok(job.at(signal).taking(lock).with(Registers::filled(values)))
+}
+
+/// CALL adds its return label as the newest.
+fn go_out(job: Job, back: Label) -> Result<Job, Trap> {
+    if job.returns.len() == Job::RETURNS {
+        return Err(Trap::ReturnLabelsFull);
+    }
+    Ok(job.calling(back))
 }
 
 /// RETURN takes the newest return label and keeps every lock.
@@ -250,6 +260,15 @@ impl Sight<'_> {
                 self.read(p)?.checked_sub(self.read(q)?).ok_or(Trap::BelowZero)
             }
             Formula::Multiply(p, q) => Ok(self.read(p)?.wrapping_mul(self.read(q)?)),
+        }
+    }
+
+    /// The quotient and the remainder. Both operands are read before q is found
+    /// zero.
+    fn divide(&self, division: &Division) -> Result<(u16, u16), Trap> {
+        match (self.read(&division.p)?, self.read(&division.q)?) {
+            (_, 0) => Err(Trap::DivisionByZero),
+            (p, q) => Ok((p / q, p % q)),
         }
     }
 

@@ -1,5 +1,6 @@
 //! Damage to what a call is lent. Some damaged calls are still accepted.
 
+use super::division_damage::change_image;
 use super::events::thread;
 use super::lock_damage::change_locks;
 use super::random::Random;
@@ -20,7 +21,7 @@ use std::ops::Range;
 pub fn damage(random: &mut Random, lent: &mut Lent) {
     for _ in 0..random.one_of([1, 1, 1, 2, 3]) {
         match random.weighted(&[6, 4, 12, 4, 5, 1, 2, 8]) {
-            0 => change_records(random, &mut lent.image, Record::WIDTH),
+            0 => change_image(random, &mut lent.image),
             1 => change_table(random, &mut lent.table),
             2 => change_state(random, &mut lent.state, &lent.image),
             3 => change_locks(random, &mut lent.state, &lent.image, &lent.table),
@@ -165,7 +166,7 @@ pub fn change_table(random: &mut Random, table: &mut [u8]) {
 /// A byte at or beside a limit, or any.
 fn telling_byte(random: &mut Random) -> u8 {
     let any = random.byte();
-    random.one_of([0, 1, 2, 3, 4, 5, 7, 8, 9, 10, 11, 12, 15, 16, 17, 24, 25, 26, 255, any])
+    random.one_of([0, 1, 2, 3, 4, 5, 7, 8, 9, 10, 11, 12, 13, 15, 16, 17, 24, 25, 26, 255, any])
 }
 
 fn change_length(random: &mut Random, lent: &mut Lent) {

@@ -47,12 +47,12 @@ struct Draft {
 }
 
 /// The weights of the opcodes, 1 first, at each position.
-type Weights = [[usize; 11]; 3];
+type Weights = [[usize; 12]; 3];
 
 const USUAL_WEIGHTS: Weights = [
-    [1, 6, 1, 3, 1, 5, 12, 0, 1, 0, 5],
-    [0, 0, 0, 0, 3, 0, 0, 8, 2, 1, 0],
-    [0, 0, 0, 0, 4, 0, 0, 1, 2, 5, 0],
+    [1, 6, 1, 3, 1, 6, 13, 0, 1, 0, 7, 3],
+    [0, 0, 0, 0, 3, 0, 0, 8, 2, 1, 0, 0],
+    [0, 0, 0, 0, 4, 0, 0, 1, 2, 5, 0, 0],
 ];
 /// By what an image multiplies a usual weight.
 const MOODS: [usize; 10] = [0, 1, 1, 1, 1, 2, 2, 2, 4, 4];
@@ -70,16 +70,15 @@ impl Draft {
     }
 
     /// Within a routine, what the record before has set to a number is mostly
-    /// subtracted or subtracted from.
+    /// an operand of a subtraction or a division.
     fn record(&self, random: &mut Random, at: Label, before: Option<&Record>) -> Record {
         let Slot { block, entry, position } = *self.slot(at);
         let next = self.next_inside(random, at);
         let opcode = 1 + random.weighted(&self.weights[position as usize]);
         let known = before.and_then(|record| Known::set_by(&record.statement));
         let drawn = match (position, known, opcode) {
-            (Position::Within, Some(known), _) if !random.once_in(4) => {
-                let (to, formula) = (self.operands(block).place(random), known.subtraction(random));
-                Some(Statement::Assign { to, formula, on: next })
+            (Position::Within, Some(known), _) if !random.once_in(8) => {
+                Some(self.with_known(random, &known, block, next))
             }
             (_, _, 5..=9 | 11) => self.signalling(random, opcode, block, next),
             _ => Some(self.computing(random, opcode, at, next)),
@@ -95,7 +94,18 @@ impl Draft {
         Operands { block, register_odds: self.register_odds }
     }
 
-    /// A statement without data, opcodes 1 to 4 and 10.
+    /// A subtraction or, less often, a division of or by the known operand.
+    fn with_known(&self, random: &mut Random, known: &Known, block: Block, on: Label) -> Statement {
+        let operands = self.operands(block);
+        if random.once_in(4) {
+            let pair = known.divided(random);
+            return Statement::Divide { division: operands.divided(random, pair), on };
+        }
+        let (to, formula) = (operands.place(random), known.subtraction(random));
+        Statement::Assign { to, formula, on }
+    }
+
+    /// A statement without data, opcodes 1 to 4, 10 and 12.
     fn computing(&self, random: &mut Random, opcode: usize, at: Label, next: Label) -> Statement {
         let operands = self.operands(self.slot(at).block);
         match opcode {
@@ -109,6 +119,7 @@ impl Draft {
                 let (test, fails) = (operands.test(random), self.next_inside(random, at));
                 Statement::If { test, holds: next, fails }
             }
+            12 => Statement::Divide { division: operands.division(random), on: next },
             _ => Statement::Exit,
         }
     }
@@ -165,8 +176,8 @@ impl Draft {
 }
 
 /// The usual weights in this image's mood. EXIT is always possible, one image
-/// in three is fond of ASSIGN, IF, buffered SEND, CALL or TRANSFER, and one in
-/// four of signals that found new trees, with an EXIT to follow them.
+/// in three is fond of ASSIGN, IF, buffered SEND, CALL, TRANSFER or division,
+/// and one in four of signals that found new trees, with an EXIT to follow them.
 fn weights(random: &mut Random) -> Weights {
     let mut weights = USUAL_WEIGHTS.map(|row| row.map(|weight| weight * random.one_of(MOODS)));
     for row in &mut weights {
@@ -174,11 +185,11 @@ fn weights(random: &mut Random) -> Weights {
     }
     let within = &mut weights[Position::Within as usize];
     if random.once_in(3) {
-        let fond_of = random.one_of([2, 2, 4, 6, 6, 7, 7, 9]);
+        let fond_of = random.one_of([2, 2, 4, 6, 6, 7, 7, 9, 12]);
         within[fond_of - 1] += 40;
     }
     if random.once_in(4) {
-        within[11 - 1] += random.one_of([10, 20, 40]);
+        within[11 - 1] += random.one_of([20, 30, 40]);
         weights[Position::EndOfStarting as usize][10 - 1] += 20;
     }
     weights

@@ -1,4 +1,4 @@
-//! Subtractions of known values, at random.
+//! Subtractions and divisions of known values, at random.
 
 use super::random::Random;
 use crate::registers::Registers;
@@ -30,13 +30,35 @@ impl Known {
     pub fn subtraction(&self, random: &mut Random) -> Formula {
         let (below, above) = (self.value.saturating_sub(1), self.value.saturating_add(1));
         let beside = Operand::Number(random.one_of([self.value, below, above]));
-        let any_register = Place::Register(random.below(Registers::COUNT) as u8);
         let (p, q) = match random.weighted(&[2, 5, 8, 3]) {
             0 => (self.operand, self.operand),
             1 => (self.operand, beside),
             2 => (beside, self.operand),
-            _ => (Operand::Kept(any_register), self.operand),
+            _ => (any_register(random), self.operand),
         };
         Formula::Subtract(p, q)
     }
+
+    /// p and q at the edge of another quotient: the operand and itself, or a
+    /// number at a multiple of it or beside it; at times the operand and any
+    /// register, mostly absent. A known 0 is q less often than another value.
+    pub fn divided(&self, random: &mut Random) -> [Operand; 2] {
+        let times = random.one_of([1, 1, 2, 3, 100]);
+        let multiple = self.value.saturating_mul(times);
+        let (below, above) = (multiple.saturating_sub(1), multiple.saturating_add(1));
+        let any = random.value();
+        let beside = Operand::Number(random.one_of([multiple, below, above, 0, 1, any]));
+        let weights = if self.value == 0 { [1, 8, 4, 4, 1] } else { [1, 4, 8, 1, 1] };
+        match random.weighted(&weights) {
+            0 => [self.operand, self.operand],
+            1 => [self.operand, beside],
+            2 => [beside, self.operand],
+            3 => [any_register(random), self.operand],
+            _ => [self.operand, any_register(random)],
+        }
+    }
+}
+
+fn any_register(random: &mut Random) -> Operand {
+    Operand::Kept(Place::Register(random.below(Registers::COUNT) as u8))
 }

@@ -2,6 +2,9 @@
 //! seed, to compare engines byte for byte.
 
 mod damage;
+mod division_damage;
+#[cfg(test)]
+mod division_trials;
 mod events;
 #[cfg(test)]
 mod held_trials;

@@ -4,7 +4,7 @@ use super::known::Known;
 use super::random::Random;
 use crate::registers::Registers;
 use crate::sorts::Block;
-use crate::statement::{Formula, Operand, Place, Test};
+use crate::statement::{Division, Formula, Operand, Place, Test};
 
 /// The operands of the records of one block.
 pub struct Operands {
@@ -34,6 +34,38 @@ impl Operands {
             2 => Formula::Subtract(p, q),
             3 => Known::number(random.value()).subtraction(random),
             _ => Formula::Multiply(p, q),
+        }
+    }
+
+    pub fn division(&self, random: &mut Random) -> Division {
+        let any = [self.operand(random), self.operand(random)];
+        let edge = Known::number(random.value()).divided(random);
+        let pair = random.one_of([any, edge]);
+        self.divided(random, pair)
+    }
+
+    /// The division of these operands, p first. Its results go to the places of
+    /// operands or to any, at times to a register and the word of its number.
+    pub fn divided(&self, random: &mut Random, [p, q]: [Operand; 2]) -> Division {
+        let mut destination = || match random.one_of([p, q]) {
+            Operand::Kept(place) if random.once_in(2) => place,
+            _ => self.place(random),
+        };
+        let (quotient, other) = (destination(), destination());
+        let twin = quotient == other || random.once_in(4);
+        let remainder = if twin { self.twin(quotient) } else { other };
+        Division { quotient, remainder, p, q }
+    }
+
+    /// The word of a register's number, or the register of a word's; a register
+    /// from 16 on has that of a word 16 lower.
+    fn twin(&self, place: Place) -> Place {
+        let words = Block::WORDS as u8;
+        match place {
+            Place::Register(register) => {
+                Place::Word(words * self.block.number() + register % words)
+            }
+            Place::Word(word) => Place::Register(word % words),
         }
     }
 

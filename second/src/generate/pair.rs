@@ -1,6 +1,7 @@
 //! Pairs of guests to be linked, and damage to them.
 
-use super::damage::{change_records, change_table, resize, resize_table};
+use super::damage::{change_table, resize, resize_table};
+use super::division_damage::change_image;
 use super::image::{image_in, record_count};
 use super::random::Random;
 use super::table::table;
@@ -57,7 +58,7 @@ pub fn damage_pair(random: &mut Random, pair: &mut Pair) {
             (&mut pair.second.image, &pair.first.image)
         };
         match random.weighted(&[8, 3, 4, 3, 3]) {
-            0 => change_records(random, one, Record::WIDTH),
+            0 => change_image(random, one),
             1 => change_table(random, &mut pair.table),
             2 => change_length(random, pair),
             3 => share_block(random, one, other),

@@ -1,11 +1,11 @@
 //! Trials that generated machines meet every case of subtraction.
 
-use super::trials::each_event;
+use super::trials::{each_event, kind, value};
 use crate::events::Event;
 use crate::image::Program;
 use crate::sorts::Thread;
 use crate::state::State;
-use crate::statement::{Formula, Operand, Place, Statement};
+use crate::statement::{Formula, Operand, Statement};
 use crate::step::carry_out;
 use std::collections::BTreeSet;
 
@@ -50,24 +50,6 @@ impl Subtraction {
     fn cases(&self) -> [[&'static str; 3]; 2] {
         let edge = edge(self.p, self.q);
         [[edge, "from", kind(self.from)], [edge, "to", kind(self.to)]]
-    }
-}
-
-/// The value of the operand for the thread's job, if it runs.
-fn value(state: &State, thread: Thread, operand: Operand) -> Option<u16> {
-    let job = state.job(thread)?;
-    match operand {
-        Operand::Number(number) => Some(number),
-        Operand::Kept(Place::Register(register)) => job.registers.get(register),
-        Operand::Kept(Place::Word(word)) => Some(state.words[usize::from(word)]),
-    }
-}
-
-fn kind(operand: Operand) -> &'static str {
-    match operand {
-        Operand::Number(_) => "number",
-        Operand::Kept(Place::Register(_)) => "register",
-        Operand::Kept(Place::Word(_)) => "word",
     }
 }
 

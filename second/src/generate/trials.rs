@@ -3,7 +3,9 @@
 use super::{damage, damage_pair, lent, pair, Lent, Pair, Random};
 use crate::events::Event;
 use crate::image::Program;
+use crate::sorts::Thread;
 use crate::state::State;
+use crate::statement::{Operand, Place};
 use crate::{check, fresh, link, relocated_events, relocated_state, run, second_order};
 use std::collections::BTreeSet;
 use std::ops::Range;
@@ -24,6 +26,24 @@ pub fn each_event(seeds: Range<u64>, mut act: impl FnMut(&Program, &mut State, &
         for event in Event::decode_list(&program, &lent.events).unwrap() {
             act(&program, &mut state, &event);
         }
+    }
+}
+
+/// The value of the operand for the thread's job, if it runs.
+pub fn value(state: &State, thread: Thread, operand: Operand) -> Option<u16> {
+    let job = state.job(thread)?;
+    match operand {
+        Operand::Number(number) => Some(number),
+        Operand::Kept(Place::Register(register)) => job.registers.get(register),
+        Operand::Kept(Place::Word(word)) => Some(state.words[usize::from(word)]),
+    }
+}
+
+pub fn kind(operand: Operand) -> &'static str {
+    match operand {
+        Operand::Number(_) => "number",
+        Operand::Kept(Place::Register(_)) => "register",
+        Operand::Kept(Place::Word(_)) => "word",
     }
 }
 
