@@ -7,12 +7,14 @@
 
 mod both;
 mod cases;
+mod divisions;
 mod groups;
 mod held;
 mod library;
 mod links;
 mod seen;
 mod sizes;
+mod steps;
 mod subtractions;
 
 use seen::Seen;
@@ -36,12 +38,13 @@ fn main() -> ExitCode {
         _ => Err("use: compare | compare soak SECONDS | compare replay SEED".into()),
     };
     let Seen { calls, events, in_two_blocks, rings, longest_walk, links, largest_link, .. } = seen;
-    let (lost, below_zero) = (seen.lost(), seen.below_zero());
+    let (lost, below_zero, by_zero) = (seen.lost(), seen.below_zero(), seen.by_zero());
     match compared {
         Ok(what) => {
             println!(
                 "compare: {what}, {calls} calls, {events} events, \
-                 {below_zero} subtractions below zero, {lost} held signals lost, \
+                 {below_zero} subtractions below zero, {by_zero} divisions by zero, \
+                 {lost} held signals lost, \
                  {in_two_blocks} threads in two blocks of a group, {rings} rings, \
                  walks of up to {longest_walk} threads, \
                  {links} links of up to {largest_link} records: no difference"

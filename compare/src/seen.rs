@@ -1,10 +1,12 @@
 //! What the calls of a comparison have shown, to tell an idle one from a good one.
 
 use crate::both::Call;
+use crate::divisions::{refused_for_equal_destinations, Division};
 use crate::groups::{locks_of_two, share_lock};
 use crate::held::held_counts;
 use crate::sizes::{ANSWER, BLOCKS, LOCKS, MOST_HELD, RECORD, RECORDS, THREADS};
-use crate::subtractions::{first_subtractions, Subtraction};
+use crate::steps::{first_steps, Step};
+use crate::subtractions::Subtraction;
 use second::generate::{Lent, Pair};
 
 /// What a call returns that refuses the last row of the table.
@@ -17,10 +19,14 @@ pub struct Seen {
     refusals: [u64; 16],
     /// Of the refusals those for the lock of the table's last row alone.
     last_locks: u64,
+    /// Of the refusals those for equal destinations alone.
+    equal_destinations: u64,
     codes: [u64; 11],
-    traps: [u64; 8],
+    traps: [u64; 9],
     /// Subtractions by sort, of those that Runs did as their threads' first events.
     subtractions: [u64; Subtraction::ALL.len()],
+    /// What was seen of divisions among the same.
+    divisions: [u64; Division::ALL.len()],
     /// Waits by lock.
     waits: [u64; LOCKS],
     /// EXITs by how many held signals they lost.
@@ -68,11 +74,12 @@ impl Seen {
     /// What a call returned, was lent as its state, and left.
     pub fn note(&mut self, call: Call, returned: u32, state_before: &[u8], lent: &Lent) {
         self.note_return(returned, &lent.table);
+        let equal = refused_for_equal_destinations(returned, &lent.image, &lent.table);
+        self.equal_destinations += u64::from(equal);
         match call {
             Call::Run if returned == 0 => {
-                for sort in first_subtractions(&lent.image, state_before, &lent.events) {
-                    self.subtractions[sort as usize] += 1;
-                }
+                first_steps(&lent.image, state_before, &lent.events)
+                    .for_each(|step| self.note_step(&step));
                 lent.answers.chunks(ANSWER).for_each(|answer| self.note_answer(answer));
                 held_counts(&lent.state).for_each(|count| self.held[count] += 1);
                 self.in_two_blocks += locks_of_two(&lent.image, &lent.table, &lent.state).count();
@@ -82,6 +89,15 @@ impl Seen {
                 self.longest_walk = self.longest_walk.max(returned % 256);
             }
             _ => {}
+        }
+    }
+
+    fn note_step(&mut self, step: &Step) {
+        if let Some(sort) = Subtraction::of(step) {
+            self.subtractions[sort as usize] += 1;
+        }
+        for sight in Division::all_of(step) {
+            self.divisions[sight as usize] += 1;
         }
     }
 
@@ -141,6 +157,11 @@ impl Seen {
         self.traps[7]
     }
 
+    /// How many jobs a division ended.
+    pub fn by_zero(&self) -> u64 {
+        self.traps[8]
+    }
+
     /// What should have been seen in a comparison of many cases and was not.
     pub fn missing(&self) -> Vec<String> {
         [self.missing_numbers(), self.missing_sights()].concat()
@@ -168,8 +189,11 @@ impl Seen {
     fn missing_sights(&self) -> Vec<String> {
         let subtractions =
             Subtraction::ALL.map(|sort| (self.subtractions[sort as usize] > 0, sort.name().into()));
+        let divisions =
+            Division::ALL.map(|sight| (self.divisions[sight as usize] > 0, sight.name().into()));
         let others = [
             (self.last_locks > 0, "a refusal for the last row's lock alone".into()),
+            (self.equal_destinations > 0, "a refusal for equal destinations alone".into()),
             (self.in_two_blocks > 0, "a thread in two blocks of one group".into()),
             (self.damaged_locks[0] > 0, "other lock sets that are accepted".into()),
             (self.damaged_locks[1] > 0, "damaged lock sets that are refused".into()),
@@ -182,7 +206,8 @@ impl Seen {
             (self.rings > 0 && self.longest_walk == 8, "a ring and a walk of 8 threads".into()),
             (self.largest_link == RECORDS, format!("a link of {RECORDS} records")),
         ];
-        let unseen = subtractions.into_iter().chain(others).filter(|(seen, _)| !seen);
+        let sights = subtractions.into_iter().chain(divisions).chain(others);
+        let unseen = sights.filter(|(seen, _)| !seen);
         unseen.map(|(_, what)| what).collect()
     }
 }
