@@ -44,7 +44,7 @@ extern "C" {
 
 /* ---- Versions: of the library and its papers, and of the formats. The latter is raised by each
  * change of a format; no buffer holds it, so a host notes it beside the bytes that it keeps. */
-#define PLEX_VERSION "0.6.0"
+#define PLEX_VERSION "0.7.0"
 #define PLEX_FORMAT_VERSION 3
 
 /* ---- Limits. */
@@ -135,7 +135,8 @@ enum {
     PLEX_RETURN = 8,        /* to the newest return label */
     PLEX_TRANSFER = 9,      /* to A, in its own block */
     PLEX_EXIT = 10,
-    PLEX_SEND_TREE = 11 /* SEND JOBTREE to A, on to B: the signal is held, and founds a tree at EXIT */
+    PLEX_SEND_TREE = 11, /* SEND JOBTREE to A, on to B: the signal is held, and founds a tree at EXIT */
+    PLEX_DIVIDE = 12     /* operands quotient destination, remainder destination (a different one), p, q; on to A */
 };
 
 /* Operators of ASSIGN and of IF. Sum and product go modulo 65,536; a difference below zero is a trap. */
@@ -168,6 +169,7 @@ enum {
 enum {
     PLEX_ABSENT_REGISTER = 1, /* an absent register is read */
     PLEX_BELOW_ZERO = 7,      /* ASSIGN subtract with q above p */
+    PLEX_ZERO_DIVISOR = 8,    /* DIVIDE with q zero */
     PLEX_NO_RETURN_LABEL = 2, /* RETURN with no return label */
     PLEX_RETURNS_FULL = 3,    /* CALL with 8 return labels */
     PLEX_PENDING_FULL = 4,    /* buffered SEND with 8 pending in the job's own tree */

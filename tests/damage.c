@@ -1,5 +1,9 @@
 #include "damage.h"
-#include "plex.h"
+#include "fields.h"
+
+#include <string.h>
+
+enum { QUOTIENT, REMAINDER, P, Q, DIVIDE_OPERANDS };
 
 uint32_t below(uint32_t limit)
 {
@@ -12,7 +16,7 @@ uint32_t below(uint32_t limit)
 
 void damage(uint8_t *bytes, size_t size)
 {
-    static const uint8_t telling[] = {0, 1, 2, 3, 4, 5, 7, 8, 9, 10, 11, 12, 15, 16, 24, 25, 26, 255};
+    static const uint8_t telling[] = {0, 1, 2, 3, 4, 5, 7, 8, 9, 10, 11, 12, 13, 15, 16, 24, 25, 26, 255};
     uint8_t *byte = bytes + below((uint32_t)size);
     if (below(2) == 0)
         *byte = telling[below(sizeof telling)];
@@ -25,6 +29,84 @@ void make_tree_sends(uint8_t *image, uint32_t records)
     for (uint8_t *record = image; record < image + PLEX_RECORD_SIZE * records; record += PLEX_RECORD_SIZE)
         if (record[PLEX_RECORD_OPCODE] == PLEX_SEND_BUFFERED && below(2) == 0)
             record[PLEX_RECORD_OPCODE] = PLEX_SEND_TREE;
+}
+
+static uint8_t *operand_of(uint8_t *record, uint32_t index)
+{
+    return record + PLEX_RECORD_OPERANDS + PLEX_OPERAND_SIZE * index;
+}
+
+static void copy_operand(uint8_t *record, uint32_t to, uint32_t from)
+{
+    memcpy(operand_of(record, to), operand_of(record, from), PLEX_OPERAND_SIZE);
+}
+
+/* Half of the numbers and of the words are 0 or 1. */
+static void make_operand(uint8_t *operand, uint32_t kind)
+{
+    static const uint32_t limits[] = {[PLEX_NUMBER_OPERAND] = 65536,
+                                      [PLEX_REGISTER_OPERAND] = PLEX_REGISTERS,
+                                      [PLEX_WORD_OPERAND] = PLEX_BLOCK_WORDS};
+    operand[PLEX_OPERAND_KIND] = (uint8_t)kind;
+    put16(operand + PLEX_OPERAND_VALUE, below(kind != PLEX_REGISTER_OPERAND && below(2) == 0 ? 2 : limits[kind]));
+}
+
+/* Given a record without operands. */
+static void make_division(uint8_t *record)
+{
+    record[PLEX_RECORD_OPCODE] = PLEX_DIVIDE;
+    record[PLEX_RECORD_COUNT] = DIVIDE_OPERANDS;
+    do {
+        make_operand(operand_of(record, QUOTIENT), PLEX_REGISTER_OPERAND + below(2));
+        make_operand(operand_of(record, REMAINDER), PLEX_REGISTER_OPERAND + below(2));
+    } while (memcmp(operand_of(record, QUOTIENT), operand_of(record, REMAINDER), PLEX_OPERAND_SIZE) == 0);
+    make_operand(operand_of(record, P), PLEX_NUMBER_OPERAND + below(3));
+    make_operand(operand_of(record, Q), PLEX_NUMBER_OPERAND + below(3));
+    if (below(4) == 0)
+        copy_operand(record, P + below(2), QUOTIENT + below(2));
+}
+
+void make_divisions(uint8_t *image, uint32_t records)
+{
+    for (uint8_t *record = image; record < image + PLEX_RECORD_SIZE * records; record += PLEX_RECORD_SIZE) {
+        uint32_t opcode = record[PLEX_RECORD_OPCODE];
+        if ((opcode == PLEX_SKIP || opcode == PLEX_GOTO) && below(4) != 0)
+            make_division(record);
+    }
+}
+
+uint32_t find_division(const uint8_t *image, uint32_t records)
+{
+    uint32_t others = records - 1, first = below(others);
+    for (uint32_t i = 0; i < others; i++) {
+        uint32_t label = 1 + (first + i) % others;
+        if (record_at(image, label)[PLEX_RECORD_OPCODE] == PLEX_DIVIDE)
+            return label;
+    }
+    return 0;
+}
+
+void break_division(uint8_t *image, uint32_t records, uint32_t label, enum division_fault fault)
+{
+    uint8_t *record = image + PLEX_RECORD_SIZE * label;
+    if (fault == EQUAL_DESTINATIONS)
+        copy_operand(record, REMAINDER, QUOTIENT);
+    else if (fault == NUMBER_FOR_QUOTIENT)
+        operand_of(record, QUOTIENT)[PLEX_OPERAND_KIND] = PLEX_NUMBER_OPERAND;
+    else if (fault == NUMBER_FOR_REMAINDER)
+        operand_of(record, REMAINDER)[PLEX_OPERAND_KIND] = PLEX_NUMBER_OPERAND;
+    else if (fault == OPERAND_TOO_FEW)
+        memset(operand_of(record, --record[PLEX_RECORD_COUNT]), 0, PLEX_OPERAND_SIZE);
+    else if (fault == OPERAND_TOO_MANY)
+        copy_operand(record, record[PLEX_RECORD_COUNT]++, Q);
+    else if (fault == OPERATOR_GIVEN)
+        record[PLEX_RECORD_OPERATOR] = (uint8_t)(PLEX_COPY + below(PLEX_MULTIPLY));
+    else if (fault == LABEL_A_ELSEWHERE)
+        put16(record + PLEX_RECORD_A, label - 1);
+    else if (fault == LABEL_A_BEYOND)
+        put16(record + PLEX_RECORD_A, records);
+    else
+        put16(record + PLEX_RECORD_B, label);
 }
 
 void make_table(uint8_t *table)

@@ -1,45 +1,9 @@
-/* The header by itself, in the part of the language that C and C++ share: its numbers fit together, and
- * the five calls carry out the whole-list trial, subtract, found trees, wait for a lock of two blocks and
- * link two guests. */
+/* The header by itself, in the part of the language that C and C++ share: the five calls carry out the
+ * whole-list trial, subtract and divide, found trees, wait for a lock of two blocks and link two guests. */
 #include "plex.h"
 
 #include <stdio.h>
 #include <string.h>
-
-#ifdef __cplusplus
-#define HOLDS(fact) static_assert(fact, #fact)
-#else
-#define HOLDS(fact) _Static_assert(fact, #fact)
-#endif
-
-HOLDS(PLEX_RECORD_OPERANDS + PLEX_OPERAND_SIZE * PLEX_REGISTERS == PLEX_RECORD_SIZE);
-HOLDS(PLEX_ROW_SIZE *PLEX_BLOCKS == PLEX_TABLE_SIZE);
-HOLDS(PLEX_ROW_LOCK + 1 == PLEX_ROW_SIZE);
-HOLDS(PLEX_THREAD_LOCKS + PLEX_LOCKS / 8 == PLEX_THREAD_RETURN_COUNT);
-HOLDS(2 * PLEX_BLOCKS * PLEX_BLOCK_WORDS == PLEX_WORDS_SIZE);
-HOLDS(PLEX_STATE_WORDS + PLEX_WORDS_SIZE == PLEX_STATE_THREADS);
-HOLDS(PLEX_STATE_THREADS + PLEX_THREADS * PLEX_THREAD_SIZE == PLEX_STATE_TREE_COUNT);
-HOLDS(PLEX_STATE_TREE_COUNT + 1 == PLEX_STATE_TREES);
-HOLDS(PLEX_STATE_TREES + PLEX_TREES_MAX * PLEX_TREE_SIZE == PLEX_STATE_SIZE);
-HOLDS(PLEX_THREAD_RETURNS + 2 * PLEX_RETURNS_MAX == PLEX_THREAD_PRESENCE);
-HOLDS(PLEX_THREAD_VALUES + 2 * PLEX_REGISTERS == PLEX_THREAD_HELD_COUNT);
-HOLDS(PLEX_THREAD_HELD_COUNT + 1 == PLEX_THREAD_HELD);
-HOLDS(PLEX_THREAD_HELD + PLEX_HELD_MAX * PLEX_SIGNAL_SIZE == PLEX_THREAD_SIZE);
-HOLDS(PLEX_TREE_SIGNALS + PLEX_PENDING_MAX * PLEX_SIGNAL_SIZE == PLEX_TREE_SIZE);
-HOLDS(PLEX_SIGNAL_VALUES + 2 * PLEX_REGISTERS == PLEX_SIGNAL_SIZE);
-HOLDS(PLEX_EVENT_SIGNAL + PLEX_SIGNAL_SIZE == PLEX_EVENT_SIZE);
-
-/* Version 3 of the formats: whoever changes one of them raises the version. */
-HOLDS(PLEX_FORMAT_VERSION == 3);
-HOLDS(PLEX_RECORD_SIZE == 84 && PLEX_TABLE_SIZE == 48 && PLEX_WORDS_SIZE == 512);
-HOLDS(PLEX_ROW_THREAD == 0 && PLEX_ROW_KIND == 1 && PLEX_ROW_LOCK == 2 && PLEX_LOCKS == 16);
-HOLDS(PLEX_STATE_SIZE == 9633 && PLEX_EVENT_SIZE == 55 && PLEX_ANSWER_SIZE == 2);
-HOLDS(PLEX_THREAD_SIZE == 288 && PLEX_HELD_MAX == 4 && PLEX_STATE_TREE_COUNT == 2816);
-HOLDS(PLEX_EXIT == 10 && PLEX_SEND_TREE == 11 && PLEX_CUT == 3 && PLEX_NOTHING_TO_CUT == 10);
-
-/* The numbers of reasons and refusals: those that there are stay, and a release may add some. */
-HOLDS(PLEX_ABSENT_REGISTER == 1 && PLEX_FOREIGN_FD_BLOCK == 5 && PLEX_HELD_FULL == 6 && PLEX_BELOW_ZERO == 7);
-HOLDS(PLEX_BAD_MET_LENGTH == 12 && PLEX_SHARED_BLOCK == 13 && PLEX_BAD_OUTPUT_LENGTH == 15);
 
 enum { RECORDS = 2, EVENTS = 5, FOUNDER_EVENTS = 7, MANY = PLEX_RECORDS_MAX - 1 };
 
@@ -57,19 +21,24 @@ static void expect(const char *what, int holds)
     }
 }
 
+static void put_operand(uint8_t *record, int index, uint8_t kind, uint8_t value)
+{
+    uint8_t *operand = record + PLEX_RECORD_OPERANDS + index * PLEX_OPERAND_SIZE;
+    operand[PLEX_OPERAND_KIND] = kind;
+    operand[PLEX_OPERAND_VALUE] = value;
+}
+
 /* Label 0: block 0, entry external, ASSIGN copy shared word 0 from 7, on to 1. Label 1: EXIT. One
  * arrival at 0, and steps of thread 0: four, and some for the founder. */
 static void fill(void)
 {
-    uint8_t *operand = image + PLEX_RECORD_OPERANDS;
     image[PLEX_RECORD_OPCODE] = PLEX_ASSIGN;
     image[PLEX_RECORD_ENTRY] = PLEX_EXTERNAL;
     image[PLEX_RECORD_OPERATOR] = PLEX_COPY;
     image[PLEX_RECORD_A] = 1;
     image[PLEX_RECORD_COUNT] = 2;
-    operand[PLEX_OPERAND_KIND] = PLEX_WORD_OPERAND;
-    operand[PLEX_OPERAND_SIZE + PLEX_OPERAND_KIND] = PLEX_NUMBER_OPERAND;
-    operand[PLEX_OPERAND_SIZE + PLEX_OPERAND_VALUE] = 7;
+    put_operand(image, 0, PLEX_WORD_OPERAND, 0);
+    put_operand(image, 1, PLEX_NUMBER_OPERAND, 7);
     image[PLEX_RECORD_SIZE + PLEX_RECORD_OPCODE] = PLEX_EXIT;
     events[PLEX_EVENT_KIND] = PLEX_ARRIVAL;
     for (int i = 1; i < FOUNDER_EVENTS; i++)
@@ -106,25 +75,49 @@ static void run_afresh(const char *what, const uint8_t *records, size_t size, in
 static void subtract(void)
 {
     static uint8_t charging[sizeof image];
-    uint8_t *p = charging + PLEX_RECORD_OPERANDS + PLEX_OPERAND_SIZE, *q = p + PLEX_OPERAND_SIZE;
     const uint8_t *word = state + PLEX_STATE_WORDS, *label = state + PLEX_STATE_THREADS + PLEX_THREAD_LABEL;
     memcpy(charging, image, sizeof image);
     charging[PLEX_RECORD_OPERATOR] = PLEX_SUBTRACT;
     charging[PLEX_RECORD_COUNT] = 3;
-    q[PLEX_OPERAND_KIND] = PLEX_NUMBER_OPERAND;
-    q[PLEX_OPERAND_VALUE] = 1;
+    put_operand(charging, 1, PLEX_REGISTER_OPERAND, 0);
+    put_operand(charging, 2, PLEX_NUMBER_OPERAND, 1);
     words[0] = 9;
-    p[PLEX_OPERAND_KIND] = PLEX_REGISTER_OPERAND;
-    p[PLEX_OPERAND_VALUE] = 0;
     run_afresh("an absent register - 1", charging, sizeof charging, 3, PLEX_TRAPPED, PLEX_ABSENT_REGISTER);
-    p[PLEX_OPERAND_KIND] = PLEX_NUMBER_OPERAND;
+    put_operand(charging, 1, PLEX_NUMBER_OPERAND, 0);
     run_afresh("0 - 1", charging, sizeof charging, 3, PLEX_TRAPPED, PLEX_BELOW_ZERO);
     expect("the word after 0 - 1", word[0] == 9 && word[1] == 0);
     expect("idle after 0 - 1", label[0] + 256 * label[1] == PLEX_IDLE);
-    p[PLEX_OPERAND_VALUE] = 1;
+    put_operand(charging, 1, PLEX_NUMBER_OPERAND, 1);
     run_afresh("1 - 1", charging, sizeof charging, 3, PLEX_MOVED_ON, 0);
     expect("1 - 1 is 0", word[0] == 0 && word[1] == 0);
     words[0] = 0;
+}
+
+/* Label 0 is now DIVIDE: shared words 0 and 1, which are 9, are to become p / q and what is left of p.
+ * Where p is an absent register or q is 0, the job traps; both words stay. One destination for both
+ * results is refused. */
+static void divide(void)
+{
+    static uint8_t tariff[sizeof image];
+    const uint8_t *word = state + PLEX_STATE_WORDS;
+    memcpy(tariff, image, sizeof image);
+    tariff[PLEX_RECORD_OPCODE] = PLEX_DIVIDE;
+    tariff[PLEX_RECORD_OPERATOR] = 0;
+    tariff[PLEX_RECORD_COUNT] = 4;
+    put_operand(tariff, 1, PLEX_WORD_OPERAND, 1);
+    put_operand(tariff, 2, PLEX_REGISTER_OPERAND, 0);
+    put_operand(tariff, 3, PLEX_NUMBER_OPERAND, 0);
+    words[0] = words[2] = 9;
+    run_afresh("an absent register / 0", tariff, sizeof tariff, 3, PLEX_TRAPPED, PLEX_ABSENT_REGISTER);
+    put_operand(tariff, 2, PLEX_NUMBER_OPERAND, 23);
+    run_afresh("23 / 0", tariff, sizeof tariff, 3, PLEX_TRAPPED, PLEX_ZERO_DIVISOR);
+    expect("the words after 23 / 0", word[0] == 9 && word[2] == 9);
+    put_operand(tariff, 3, PLEX_WORD_OPERAND, 1);
+    run_afresh("23 / 9", tariff, sizeof tariff, 3, PLEX_MOVED_ON, 0);
+    expect("23 / 9 is 2, and 5 are left", word[0] == 2 && word[1] == 0 && word[2] == 5 && word[3] == 0);
+    put_operand(tariff, 1, PLEX_WORD_OPERAND, 0);
+    expect("one destination", PLEX_NUMBER(plex_check(tariff, sizeof tariff, table, sizeof table)) == PLEX_BAD_RECORD);
+    words[0] = words[2] = 0;
 }
 
 /* Label 0: block 0, entry external, SEND JOBTREE to 2, on to 0 again or to 1. Label 1: EXIT. Label 2:
@@ -281,6 +274,7 @@ int main(void)
     fill();
     carry_out();
     subtract();
+    divide();
     hold_signals();
     share_lock();
     link_guests();

@@ -19,7 +19,7 @@ rm -rf "$place" build/staged build/install.log
 put '' install
 export PKG_CONFIG_PATH="$libdir/pkgconfig"
 # shellcheck disable=SC2046
-$CC -std=c11 -Wall -Wextra -Werror -o build/header-installed tests/header.c $(pkg-config --cflags --libs plex)
+$CC -std=c11 -Wall -Wextra -Werror -o build/header-installed tests/header*.c $(pkg-config --cflags --libs plex)
 ./build/header-installed
 "$place/bin/plex" --help >>build/install.log
 [ "$(pkg-config --modversion plex)" = "$version" ] || { echo "installed: the version is not $version"; exit 1; }

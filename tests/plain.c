@@ -1,6 +1,6 @@
 /* The plain engine of the benchmark does what the library does: on good and damaged bytes the calls of
- * both return the same, and leave the same bytes. Each number of check and link has to be met, and the last
- * byte of a table refused. */
+ * both return the same, and leave the same bytes. Each number of check and link has to be met, the last
+ * byte of a table refused, a division that breaks any one rule refused, and one moved by a link. */
 #include "plain_runs.h"
 #include "plain.h"
 #include "bench_image.h"
@@ -10,7 +10,7 @@
 #include <stdio.h>
 #include <string.h>
 
-enum { TRIALS = 6000, LONGEST = PLEX_RECORDS_MAX * PLEX_RECORD_SIZE };
+enum { TRIALS = 6000, DIVISION_TRIALS = 100, LONGEST = PLEX_RECORDS_MAX * PLEX_RECORD_SIZE };
 
 /* Bytes that are lent, with room for one record too many. */
 struct lent {
@@ -21,24 +21,31 @@ struct lent {
 static struct lent first, second, table;
 static uint8_t by_plex[2 * sizeof first.bytes + PLEX_RECORD_SIZE], by_plain[sizeof by_plex];
 static uint32_t failures, checks[PLEX_BAD_OUTPUT_LENGTH + 1], links[PLEX_BAD_OUTPUT_LENGTH + 1];
-static uint32_t refused_last_locks;
+static uint32_t refused_last_locks, linked_divisions;
 
-static void expect(const char *what, uint32_t of_plex, uint32_t of_plain)
+static void expect(const char *what, uint32_t expected, uint32_t found)
 {
-    if (of_plex == of_plain)
+    if (expected == found)
         return;
     failures++;
-    printf("plain: %s: number %u, place %u, expected %u, %u\n", what, PLEX_NUMBER(of_plain), PLEX_PLACE(of_plain),
-           PLEX_NUMBER(of_plex), PLEX_PLACE(of_plex));
+    printf("plain: %s: number %u, place %u, expected %u, %u\n", what, PLEX_NUMBER(found), PLEX_PLACE(found),
+           PLEX_NUMBER(expected), PLEX_PLACE(expected));
 }
 
-/* A guest of any length, mostly a short one, in 8 blocks. */
-static void make_guest(struct lent *image, uint32_t first_block)
+/* A guest of so many records in 8 blocks. */
+static void make_whole_guest(struct lent *image, uint32_t records, uint32_t first_block)
 {
-    uint32_t records = 32 * (1 + below(below(4) == 0 ? 16 : 2));
     bench_guest_image(image->bytes, records, first_block);
     image->size = PLEX_RECORD_SIZE * records;
     make_tree_sends(image->bytes, records);
+    make_divisions(image->bytes, records);
+}
+
+/* Of any length, mostly a short one, and at times damaged. */
+static void make_guest(struct lent *image, uint32_t first_block)
+{
+    uint32_t records = 32 * (1 + below(below(4) == 0 ? 16 : 2));
+    make_whole_guest(image, records, first_block);
     if (below(3) == 0)
         damage_record(image->bytes, records);
 }
@@ -78,9 +85,26 @@ static void try_pair(void)
     memset(by_plain, 7, sizeof by_plain);
     result = plex_link(first.bytes, first.size, second.bytes, second.size, table.bytes, table.size, by_plex, size);
     links[PLEX_NUMBER(result)]++;
+    linked_divisions += result == 0 && find_division(second.bytes, (uint32_t)(second.size / PLEX_RECORD_SIZE)) != 0;
     expect("link", result,
            plain_link(first.bytes, first.size, second.bytes, second.size, table.bytes, table.size, by_plain, size));
     expect("bytes of a link", 0, memcmp(by_plex, by_plain, sizeof by_plex) != 0);
+}
+
+/* Each rule of a division is broken by itself: of a guest that is else whole, its record is refused. */
+static void try_division(void)
+{
+    make_whole_guest(&first, PLEX_RECORDS_MAX, 0);
+    make_table(table.bytes);
+    expect("a guest", 0, plex_check(first.bytes, first.size, table.bytes, PLEX_TABLE_SIZE));
+    for (enum division_fault fault = 0; fault < DIVISION_FAULTS; fault++) {
+        second = first;
+        uint32_t label = find_division(second.bytes, PLEX_RECORDS_MAX);
+        break_division(second.bytes, PLEX_RECORDS_MAX, label, fault);
+        uint32_t result = plex_check(second.bytes, second.size, table.bytes, PLEX_TABLE_SIZE);
+        expect("a faulty division", 65536 * PLEX_BAD_RECORD + label, result);
+        expect("check", result, plain_check(second.bytes, second.size, table.bytes, PLEX_TABLE_SIZE));
+    }
 }
 
 /* Whether calls that may refuse with numbers in this range were accepted, and refused by each of them. */
@@ -96,9 +120,12 @@ int main(void)
 {
     for (uint32_t trial = 0; trial < TRIALS; trial++)
         try_pair();
+    for (uint32_t trial = 0; trial < DIVISION_TRIALS; trial++)
+        try_division();
     int all_met = were_met(checks, PLEX_BAD_IMAGE_LENGTH, PLEX_BAD_RECORD) &&
                   were_met(links, PLEX_BAD_IMAGE_LENGTH, PLEX_BAD_RECORD) &&
-                  were_met(links, PLEX_SHARED_BLOCK, PLEX_BAD_OUTPUT_LENGTH) && refused_last_locks != 0;
+                  were_met(links, PLEX_SHARED_BLOCK, PLEX_BAD_OUTPUT_LENGTH) && refused_last_locks != 0 &&
+                  linked_divisions != 0;
     printf("plain: %u checks and links, %u and %u of them accepted%s; %u failures\n", TRIALS, checks[0], links[0],
            all_met ? ", refused by every number" : ", NOT refused by every number", failures);
     return !do_runs_agree() || failures != 0 || !all_met;

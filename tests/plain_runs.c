@@ -26,8 +26,8 @@ static const struct machine machine = {image, table};
 static uint32_t failures, codes[256], reasons[256], losing_exits, group_jobs;
 static uint32_t refusals[PLEX_BAD_OUTPUT_LENGTH + 1];
 
-/* Steps that are their thread's first event in a run, by what they subtract. */
-static uint32_t subtractions[SUBTRACTIONS];
+/* Steps that are their thread's first event in a run, by what they subtract, and by what is seen of their division. */
+static uint32_t subtractions[SUBTRACTIONS], divisions[DIVISIONS];
 
 /* Walks over states that this part alone was changed in. */
 static uint32_t refused_parts[DAMAGED_PARTS], accepted_parts[DAMAGED_PARTS];
@@ -57,17 +57,20 @@ static void fill_registers(uint32_t records)
     }
 }
 
-/* One subtraction in four has p for q. */
+/* One subtraction in four and one division in four has p for q: they are its last operands. */
 static void make_equal_operands(uint32_t records)
 {
     for (uint8_t *record = image; record < image + PLEX_RECORD_SIZE * records; record += PLEX_RECORD_SIZE) {
-        uint8_t *p = record + PLEX_RECORD_OPERANDS + PLEX_OPERAND_SIZE;
-        if (record[PLEX_RECORD_OPCODE] == PLEX_ASSIGN && record[PLEX_RECORD_OPERATOR] == PLEX_SUBTRACT && below(4) == 0)
-            memcpy(p + PLEX_OPERAND_SIZE, p, PLEX_OPERAND_SIZE);
+        uint32_t opcode = record[PLEX_RECORD_OPCODE];
+        bool subtracts = opcode == PLEX_ASSIGN && record[PLEX_RECORD_OPERATOR] == PLEX_SUBTRACT;
+        if ((subtracts || opcode == PLEX_DIVIDE) && below(4) == 0) {
+            uint8_t *q = record + PLEX_RECORD_OPERANDS + PLEX_OPERAND_SIZE * (record[PLEX_RECORD_COUNT] - 1);
+            memcpy(q, q - PLEX_OPERAND_SIZE, PLEX_OPERAND_SIZE);
+        }
     }
 }
 
-/* Any words, or small ones, whose differences are near zero. */
+/* Any words, or small ones, which are zero and equal at times, and whose differences are near zero. */
 static void make_words(void)
 {
     uint32_t limit = below(2) == 0 ? 4 : 65536;
@@ -83,6 +86,7 @@ static void make_machine(void)
     make_tree_sends(image, records);
     if (below(4) != 0)
         fill_registers(records);
+    make_divisions(image, records);
     make_equal_operands(records);
     make_table(table);
     make_words();
@@ -132,15 +136,23 @@ static void count_answers(void)
     }
 }
 
+static void count_step(const uint8_t *state, uint32_t thread)
+{
+    subtractions[next_subtraction(&machine, state, thread)]++;
+    uint32_t seen = next_division(&machine, state, thread);
+    for (uint32_t sight = 0; sight < DIVISIONS; sight++)
+        divisions[sight] += seen >> sight & 1;
+}
+
 /* A thread's p and q are in its registers and in a block whose lock it holds: until its first event, what others
  * do leaves them as they were before the run. */
-static void count_subtractions(const uint8_t *before)
+static void count_first_steps(const uint8_t *before)
 {
     uint32_t threads_met = 0;
     for (const uint8_t *event = events; event < events + events_len; event += PLEX_EVENT_SIZE) {
         uint32_t kind = event[PLEX_EVENT_KIND], thread = event[PLEX_EVENT_THREAD];
         if (kind == PLEX_STEP && !(threads_met >> thread & 1))
-            subtractions[next_subtraction(&machine, before, thread)]++;
+            count_step(before, thread);
         if (kind != PLEX_ARRIVAL)
             threads_met |= 1u << thread;
     }
@@ -157,7 +169,7 @@ static void try_run(void)
                      by_plain.answers, answers_len));
     if (result == 0) {
         count_answers();
-        count_subtractions(before.state);
+        count_first_steps(before.state);
     }
     group_jobs += is_job_twice_in_group(&machine, by_plex.state);
 }
@@ -200,8 +212,9 @@ bool do_runs_agree(void)
         }
     }
     bool all_met = are_all_met(codes, PLEX_ARRIVED, PLEX_NOTHING_TO_CUT) &&
-                   are_all_met(reasons, PLEX_ABSENT_REGISTER, PLEX_BELOW_ZERO) &&
-                   are_all_met(subtractions, P_ABOVE_Q, ABSENT_BELOW_Q) && losing_exits != 0 && group_jobs != 0 &&
+                   are_all_met(reasons, PLEX_ABSENT_REGISTER, PLEX_ZERO_DIVISOR) &&
+                   are_all_met(subtractions, P_ABOVE_Q, ABSENT_BELOW_Q) &&
+                   are_all_met(divisions, ABSENT_BY_NUMBER, REMAINDER_TO_Q) && losing_exits != 0 && group_jobs != 0 &&
                    refusals[PLEX_BAD_EVENT] != 0 && are_all_met(refused_parts, HELD_SIGNALS, ANY_BYTES) &&
                    are_all_met(accepted_parts, HELD_SIGNALS, ANY_BYTES);
     printf("plain: %d runs and walks%s; %u failures\n", MACHINES * RUNS,

@@ -16,6 +16,10 @@ static const struct {
     {{0, 0, PLEX_ASSIGN, PLEX_SUBTRACT, 511, 0, 3, {REGISTER(2), NUMBER(65535), WORD(0)}},
      "ASSIGN r2 := 65535 - w0, on to 511"},
     {{0, 0, PLEX_ASSIGN, PLEX_MULTIPLY, 1, 0, 3, {WORD(0), WORD(0), WORD(0)}}, "ASSIGN w0 := w0 * w0, on to 1"},
+    {{0, 0, PLEX_DIVIDE, 0, 1, 0, 4, {REGISTER(24), WORD(15), WORD(3), NUMBER(10)}},
+     "DIVIDE r24, w15 := w3 / 10, on to 1"},
+    {{0, 0, PLEX_DIVIDE, 0, 511, 0, 4, {WORD(3), REGISTER(3), REGISTER(0), REGISTER(3)}},
+     "DIVIDE w3, r3 := r0 / r3, on to 511"},
     {{0, 0, PLEX_GOTO, 0, 300, 0, 0, {NUMBER(0)}}, "GOTO 300"},
     {{0, 0, PLEX_IF, PLEX_EQUAL, 3, 4, 2, {REGISTER(0), NUMBER(1)}}, "IF r0 = 1 THEN 3 ELSE 4"},
     {{0, 0, PLEX_IF, PLEX_LESS, 3, 4, 2, {REGISTER(0), WORD(1)}}, "IF r0 < w1 THEN 3 ELSE 4"},
@@ -50,6 +54,7 @@ static const struct {
     {{PLEX_TRAPPED, PLEX_HELD_FULL}, "trap 6, SEND JOBTREE with 4 signals held"},
     {{PLEX_TRAPPED, PLEX_RETURNS_FULL}, "trap 3, CALL with 8 return labels"},
     {{PLEX_TRAPPED, PLEX_BELOW_ZERO}, "trap 7, subtraction below zero"},
+    {{PLEX_TRAPPED, PLEX_ZERO_DIVISOR}, "trap 8, division by zero"},
     {{PLEX_WAS_CUT, 0}, "cut"},
     {{PLEX_NOTHING_TO_CUT, 0}, "nothing to cut"},
     {{11, 0}, "unknown"},
@@ -141,7 +146,7 @@ static void try_any_bytes(void)
     uint8_t bytes[PLEX_THREAD_SIZE];
     struct line line = {0};
     memset(bytes, 255, sizeof bytes);
-    for (uint8_t opcode = PLEX_SKIP; opcode <= PLEX_SEND_TREE; opcode++) {
+    for (uint8_t opcode = PLEX_SKIP; opcode <= PLEX_DIVIDE; opcode++) {
         bytes[PLEX_RECORD_OPCODE] = opcode;
         add_statement(&line, bytes);
         add_thread(&line, bytes);
@@ -169,8 +174,8 @@ int main(void)
     try_events();
     try_threads();
     try_groups();
-    try_names("opcode", opcode_name, PLEX_SEND_TREE);
-    try_names("trap", trap_name, PLEX_BELOW_ZERO);
+    try_names("opcode", opcode_name, PLEX_DIVIDE);
+    try_names("trap", trap_name, PLEX_ZERO_DIVISOR);
     try_names("refusal", refusal_name, PLEX_BAD_OUTPUT_LENGTH);
     try_any_bytes();
     return failed;

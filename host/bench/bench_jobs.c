@@ -97,14 +97,24 @@ void bench_send_image(uint8_t *image, size_t records, uint8_t blocks, uint8_t va
     }
 }
 
-void bench_send_start(uint8_t *events, uint8_t values)
+void bench_divide_image(uint8_t *image, size_t records)
+{
+    struct statement divide = {
+        0, PLEX_EXTERNAL, PLEX_DIVIDE, 0, 0, 0, 4, {REGISTER(2), WORD(0), REGISTER(0), REGISTER(1)}};
+    for (size_t label = 0; label < records; label++) {
+        divide.a = (uint16_t)((label + 1) % records);
+        put_statement(image + PLEX_RECORD_SIZE * label, &divide);
+    }
+}
+
+void bench_loop_start(uint8_t *events, uint8_t values)
 {
     static const uint16_t numbers[PLEX_REGISTERS] = {300, 7, 5};
     put_arrival(events, 0, numbers, values);
     put_step(events + PLEX_EVENT_SIZE, 0);
 }
 
-void bench_send_events(uint8_t *events, size_t count)
+void bench_loop_events(uint8_t *events, size_t count)
 {
     for (size_t i = 0; i < count; i++)
         put_step(events + PLEX_EVENT_SIZE * i, 0);

@@ -20,11 +20,14 @@ void bench_job_events(uint8_t *events, size_t count, size_t records);
  * blocks by turns. */
 void bench_send_image(uint8_t *image, size_t records, uint8_t blocks, uint8_t values);
 
-/* For an image of bench_send_image with as many values: 2 events that start its job on thread 0, and
- * so many that each do one SEND. */
-enum { SEND_START_EVENTS = 2 };
-void bench_send_start(uint8_t *events, uint8_t values);
-void bench_send_events(uint8_t *events, size_t count);
+/* 1 record or more: a job of two values that does nothing but divide one by the other, without end. */
+void bench_divide_image(uint8_t *image, size_t records);
+
+/* For an image of either, whose job has so many values: 2 events that start the job on thread 0, and so many
+ * that each do one statement. */
+enum { LOOP_START_EVENTS = 2 };
+void bench_loop_start(uint8_t *events, uint8_t values);
+void bench_loop_events(uint8_t *events, size_t count);
 
 /* A multiple of 16 records, up to 512: each of 8 blocks sends to the next one's second record. */
 void bench_ring_image(uint8_t *image, size_t records);

@@ -163,17 +163,23 @@ static void prepare_ring(const struct bench_row *row)
     begin_after_events();
 }
 
+/* Given the image of a job without end that has so many values: each event does one of its statements. */
+static void begin_loop(const struct bench_row *row, uint8_t values)
+{
+    bench_loop_start(work.events, values);
+    work.event_count = LOOP_START_EVENTS;
+    begin_after_events();
+    bench_loop_events(work.events, row->events);
+    work.event_count = row->events;
+}
+
 /* Each event is a direct SEND of so many values, within a block or from one to the other of a group. */
 static void prepare_sends(const struct bench_row *row, uint8_t blocks, uint8_t values)
 {
     begin(row);
     bench_send_image(work.image, row->records, blocks, values);
     bench_group_table(work.table);
-    bench_send_start(work.events, values);
-    work.event_count = SEND_START_EVENTS;
-    begin_after_events();
-    bench_send_events(work.events, row->events);
-    work.event_count = row->events;
+    begin_loop(row, values);
 }
 
 static void prepare_sends_of_0(const struct bench_row *row)
@@ -196,7 +202,15 @@ static void prepare_sends_in_group(const struct bench_row *row)
     prepare_sends(row, 2, 3);
 }
 
-/* Two guests with every sort of statement, in blocks of their own. */
+/* Each event is a division. */
+static void prepare_divisions(const struct bench_row *row)
+{
+    begin(row);
+    bench_divide_image(work.image, row->records);
+    begin_loop(row, 2);
+}
+
+/* Two guests with the opcodes up to EXIT, in blocks of their own. */
 static void prepare_guests(const struct bench_row *row)
 {
     begin(row);
@@ -242,6 +256,7 @@ const struct bench_row bench_rows[] = {
     {"run, SEND of 25 values", 16, 1024, NO_PLOT, prepare_sends_of_25, plex_run_call, plain_run_call},
     {"run, SEND in a group", 16, 1024, NO_PLOT, prepare_sends_in_group, plex_run_call, plain_run_call},
     {"run, new trees", 16, 1024, NO_PLOT, prepare_founders, plex_run_call, plain_run_call},
+    {"run, DIVIDE", 16, 1024, NO_PLOT, prepare_divisions, plex_run_call, plain_run_call},
 };
 const size_t bench_row_count = sizeof bench_rows / sizeof bench_rows[0];
 

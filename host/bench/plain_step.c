@@ -97,13 +97,33 @@ static uint32_t assign(const struct job *job, const uint8_t *record)
     return move_on(job, get16(record + PLEX_RECORD_A));
 }
 
+/* The values of the operand and of the one behind it; returns whether no absent register was read. */
+static inline bool read_two(const struct job *job, const uint8_t *record, const uint8_t *operand, uint32_t *p,
+                            uint32_t *q)
+{
+    uint32_t block = record[PLEX_RECORD_BLOCK], read = 0;
+    *p = operand_value(job->state, job->bytes, block, operand, &read);
+    *q = operand_value(job->state, job->bytes, block, operand + PLEX_OPERAND_SIZE, &read);
+    return (read & ~get32(job->bytes + PLEX_THREAD_PRESENCE)) == 0;
+}
+
+/* A destination may be a source too: both are read before either result is stored. */
+static uint32_t divide(const struct job *job, const uint8_t *record)
+{
+    uint32_t p, q;
+    if (!read_two(job, record, operand_at(record, 2), &p, &q))
+        return trap(job, PLEX_ABSENT_REGISTER);
+    if (q == 0)
+        return trap(job, PLEX_ZERO_DIVISOR);
+    store(job, record[PLEX_RECORD_BLOCK], operand_at(record, 0), p / q);
+    store(job, record[PLEX_RECORD_BLOCK], operand_at(record, 1), p % q);
+    return move_on(job, get16(record + PLEX_RECORD_A));
+}
+
 static uint32_t branch(const struct job *job, const uint8_t *record)
 {
-    const uint8_t *operand = record + PLEX_RECORD_OPERANDS;
-    uint32_t block = record[PLEX_RECORD_BLOCK], read = 0;
-    uint32_t p = operand_value(job->state, job->bytes, block, operand, &read);
-    uint32_t q = operand_value(job->state, job->bytes, block, operand + PLEX_OPERAND_SIZE, &read);
-    if ((read & ~get32(job->bytes + PLEX_THREAD_PRESENCE)) != 0)
+    uint32_t p, q;
+    if (!read_two(job, record, operand_at(record, 0), &p, &q))
         return trap(job, PLEX_ABSENT_REGISTER);
     bool holds = record[PLEX_RECORD_OPERATOR] == PLEX_EQUAL ? p == q : p < q;
     return move_on(job, get16(record + (holds ? PLEX_RECORD_A : PLEX_RECORD_B)));
@@ -222,6 +242,8 @@ uint32_t plain_step(const struct job *job)
         return leave(job);
     case PLEX_SEND_TREE:
         return send_tree(job, record);
+    case PLEX_DIVIDE:
+        return divide(job, record);
     default:
         return move_on(job, get16(record + PLEX_RECORD_A));
     }

@@ -2,6 +2,8 @@
 #include "explain.h"
 #include "names.h"
 
+#include <string.h>
+
 /* What an opcode does with a label: nothing, go on inside the block, or send to a signal. */
 enum label_use { UNUSED, INSIDE, SIGNAL };
 
@@ -10,9 +12,10 @@ static const struct opcode_rule {
     uint8_t entry_at_a; /* the entry of the signal, or none asked for */
     uint8_t operators;  /* 1 to this many; 0 if the opcode has none */
     uint8_t fewest, most;
+    uint8_t destinations; /* of the operands, the first so many are stored to */
 } rules[] = {
     [PLEX_SKIP] = {.a = INSIDE},
-    [PLEX_ASSIGN] = {.a = INSIDE, .operators = PLEX_MULTIPLY, .fewest = 2, .most = 3},
+    [PLEX_ASSIGN] = {.a = INSIDE, .operators = PLEX_MULTIPLY, .fewest = 2, .most = 3, .destinations = 1},
     [PLEX_GOTO] = {.a = INSIDE},
     [PLEX_IF] = {.a = INSIDE, .b = INSIDE, .operators = PLEX_LESS, .fewest = 2, .most = 2},
     [PLEX_SEND_DIRECT] = {.a = SIGNAL, .entry_at_a = PLEX_DIRECT, .most = PLEX_REGISTERS},
@@ -22,6 +25,7 @@ static const struct opcode_rule {
     [PLEX_TRANSFER] = {.a = INSIDE, .entry_at_a = PLEX_DIRECT, .most = PLEX_REGISTERS},
     [PLEX_EXIT] = {.a = UNUSED},
     [PLEX_SEND_TREE] = {.a = SIGNAL, .b = INSIDE, .entry_at_a = PLEX_BUFFERED, .most = PLEX_REGISTERS},
+    [PLEX_DIVIDE] = {.a = INSIDE, .fewest = 4, .most = 4, .destinations = 2},
 };
 
 bool is_zero(const uint8_t *part, size_t size)
@@ -46,8 +50,8 @@ void explain_row(struct line *why, const uint8_t *table, uint32_t block)
 static void explain_head(struct line *why, const uint8_t *record)
 {
     uint32_t opcode = record[PLEX_RECORD_OPCODE];
-    if (opcode < PLEX_SKIP || opcode > PLEX_SEND_TREE)
-        add(why, "opcode %u is none of %d to %d", opcode, PLEX_SKIP, PLEX_SEND_TREE);
+    if (opcode < PLEX_SKIP || opcode > PLEX_DIVIDE)
+        add(why, "opcode %u is none of %d to %d", opcode, PLEX_SKIP, PLEX_DIVIDE);
     else if (record[PLEX_RECORD_BLOCK] >= PLEX_BLOCKS)
         add(why, "its block is %u, and blocks are 0 to %d", record[PLEX_RECORD_BLOCK], PLEX_BLOCKS - 1);
     else if (record[PLEX_RECORD_ENTRY] > PLEX_EXTERNAL)
@@ -109,18 +113,37 @@ static void explain_label(struct line *why, const uint8_t *image, uint32_t recor
             target[PLEX_RECORD_BLOCK], own);
 }
 
+static const char *destination_name(uint32_t destinations, uint32_t index)
+{
+    return destinations == 1 ? "the destination"
+           : index == 0      ? "the quotient's destination"
+                             : "the remainder's destination";
+}
+
 static void explain_operand(struct line *why, const uint8_t *record, uint32_t index)
 {
     const uint8_t *operand = operand_at(record, index);
     uint32_t kind = operand[PLEX_OPERAND_KIND], value = get16(operand + PLEX_OPERAND_VALUE);
+    uint32_t destinations = rules[record[PLEX_RECORD_OPCODE]].destinations;
     if (kind < PLEX_NUMBER_OPERAND || kind > PLEX_WORD_OPERAND)
         add(why, "operand %u has kind %u, and kinds are 1 to 3", index, kind);
     else if (kind == PLEX_REGISTER_OPERAND && value >= PLEX_REGISTERS)
         add(why, "operand %u is register %u, and registers are 0 to %d", index, value, PLEX_REGISTERS - 1);
     else if (kind == PLEX_WORD_OPERAND && value >= PLEX_BLOCK_WORDS)
         add(why, "operand %u is shared word %u, and a block's words are 0 to %d", index, value, PLEX_BLOCK_WORDS - 1);
-    else if (index == 0 && record[PLEX_RECORD_OPCODE] == PLEX_ASSIGN && kind == PLEX_NUMBER_OPERAND)
-        add(why, "the destination is a number, and it is a register or a shared word");
+    else if (kind == PLEX_NUMBER_OPERAND && index < destinations)
+        add(why, "%s is a number, and it is a register or a shared word", destination_name(destinations, index));
+}
+
+/* Given operands that each keep the rules by themselves. */
+static void explain_destinations(struct line *why, const uint8_t *record)
+{
+    const uint8_t *first = operand_at(record, 0), *second = operand_at(record, 1);
+    uint32_t opcode = record[PLEX_RECORD_OPCODE];
+    if (rules[opcode].destinations == 2 && memcmp(first, second, PLEX_OPERAND_SIZE) == 0)
+        add(why, "both destinations are %s %u, and %s has two different ones",
+            first[PLEX_OPERAND_KIND] == PLEX_REGISTER_OPERAND ? "register" : "shared word",
+            get16(first + PLEX_OPERAND_VALUE), opcode_name(opcode));
 }
 
 /* Given a count of at most 25: the operands, and the bytes after the last. */
@@ -129,6 +152,8 @@ static void explain_operands(struct line *why, const uint8_t *record)
     uint32_t count = record[PLEX_RECORD_COUNT];
     for (uint32_t i = 0; i < count && why->length == 0; i++)
         explain_operand(why, record, i);
+    if (why->length == 0)
+        explain_destinations(why, record);
     size_t after = PLEX_RECORD_OPERANDS + PLEX_OPERAND_SIZE * count;
     if (why->length == 0 && !is_zero(record + after, PLEX_RECORD_SIZE - after))
         add(why, "a byte after its last operand is not 0");

@@ -19,7 +19,8 @@ static const struct part {
      "are refused, says which record or block is at fault and which rule it seems to break.\n"},
     {"show", show_command, "IMAGE",
      "Lists an image as statements, block by block: label, entry, statement. r0 is register 0 and\n"
-     "w0 shared word 0 of the record's block.\n"},
+     "w0 shared word 0 of the record's block. DIVIDE r0, w0 := p / q has the quotient in r0 and the\n"
+     "remainder in w0.\n"},
     {"link", link_command, "FIRST SECOND TABLE --out IMAGE",
      "Links two images that are meant for one block table: the second is laid behind the first, and\n"
      "its labels become higher by the first's number of records. If they are refused, says which\n"

@@ -64,6 +64,17 @@ static void add_assign(struct line *line, const uint8_t *record)
     add(line, ", on to %u", get16(record + PLEX_RECORD_A));
 }
 
+static void add_divide(struct line *line, const uint8_t *record)
+{
+    add(line, "DIVIDE ");
+    add_operand(line, operand_at(record, 0));
+    add(line, ", ");
+    add_operand(line, operand_at(record, 1));
+    add(line, " := ");
+    add_pair(line, operand_at(record, 2), "/");
+    add(line, ", on to %u", get16(record + PLEX_RECORD_A));
+}
+
 static void add_if(struct line *line, const uint8_t *record)
 {
     add(line, "IF ");
@@ -96,6 +107,9 @@ void add_statement(struct line *line, const uint8_t *record)
         break;
     case PLEX_ASSIGN:
         add_assign(line, record);
+        break;
+    case PLEX_DIVIDE:
+        add_divide(line, record);
         break;
     case PLEX_IF:
         add_if(line, record);

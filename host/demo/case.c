@@ -24,7 +24,8 @@ static const struct statement program[CASE_RECORDS] = {
 };
 
 /* East's guest adds up what it is sent. Its ledger keeps the sum, in a job of a tree of its own. Its
- * charging takes what it is sent from a prepaid subscriber's balance. */
+ * charging takes what it is sent from a prepaid subscriber's balance. Its tariff is sent pulses, and how
+ * many a unit has: it adds those that it has kept, counts the units, and keeps the pulses left. */
 static const struct statement east_program[EAST_RECORDS] = {
     {EAST_GUEST, PLEX_EXTERNAL, PLEX_ASSIGN, PLEX_ADD, 1, 0, 3, {WORD(0), WORD(0), REGISTER(0)}},
     {EAST_GUEST, PLEX_NO_ENTRY, PLEX_SEND_TREE, 0, 3, 2, 1, {WORD(0)}},
@@ -33,6 +34,10 @@ static const struct statement east_program[EAST_RECORDS] = {
     {EAST_LEDGER, PLEX_NO_ENTRY, PLEX_EXIT, 0, 0, 0, 0, {NUMBER(0)}},
     {EAST_CHARGING, PLEX_EXTERNAL, PLEX_ASSIGN, PLEX_SUBTRACT, 6, 0, 3, {WORD(0), WORD(0), REGISTER(0)}},
     {EAST_CHARGING, PLEX_NO_ENTRY, PLEX_EXIT, 0, 0, 0, 0, {NUMBER(0)}},
+    {EAST_TARIFF, PLEX_EXTERNAL, PLEX_ASSIGN, PLEX_ADD, 8, 0, 3, {REGISTER(0), REGISTER(0), WORD(KEPT)}},
+    {EAST_TARIFF, PLEX_NO_ENTRY, PLEX_DIVIDE, 0, 9, 0, 4, {REGISTER(0), WORD(KEPT), REGISTER(0), REGISTER(1)}},
+    {EAST_TARIFF, PLEX_NO_ENTRY, PLEX_ASSIGN, PLEX_ADD, 10, 0, 3, {WORD(UNITS), WORD(UNITS), REGISTER(0)}},
+    {EAST_TARIFF, PLEX_NO_ENTRY, PLEX_EXIT, 0, 0, 0, 0, {NUMBER(0)}},
 };
 
 static const struct {
@@ -48,13 +53,15 @@ static const struct {
     [EAST_GUEST] = {"East's guest", 2, EAST_GUEST, 0},
     [EAST_LEDGER] = {"East's ledger", 3, EAST_LEDGER, 0},
     [EAST_CHARGING] = {"East's charging", 2, EAST_CHARGING, 20},
+    [EAST_TARIFF] = {"East's tariff", 2, EAST_TARIFF, KEPT_PULSES},
 };
 
 /* The thread of each step after the case's three arrivals. */
 static const uint8_t stepped[] = {0, 0, 1, 1, 0, 0, 1, 0, 0, 1, 1, 1};
 
-/* The same after each of East's two arrivals. */
+/* The same after each of East's four arrivals. */
 static const uint8_t stepped_for_guest[] = {2, 2, 2, 2, 3, 3, 3}, stepped_for_charge[] = {2, 2};
+static const uint8_t stepped_for_units[] = {2, 2, 2, 2, 2}, stepped_without_units[] = {2, 2, 2};
 
 static const char *const notes[LINKED_EVENTS] = {
     [0] = "North's guest, to be charged for 25 pulses",
@@ -72,6 +79,12 @@ static const char *const notes[LINKED_EVENTS] = {
     [20] = "East's ledger",
     [23] = "East's charging, a charge that is above the prepaid balance",
     [25] = "nothing goes below zero, and the balance stays",
+    [26] = "East's tariff, 25 pulses and 10 pulses a unit",
+    [28] = "the 7 pulses kept before are counted in",
+    [29] = "32 pulses are 3 units, and the 2 that are left are kept",
+    [30] = "the 3 units are charged",
+    [32] = "East's tariff, where a unit has 0 pulses",
+    [35] = "nobody is charged, and the pulses kept stay",
 };
 
 const char *case_event_note(uint32_t index)
@@ -95,6 +108,7 @@ static uint8_t *put_steps(uint8_t *event, const uint8_t *threads, size_t count)
 static void make_events(uint8_t *event)
 {
     static const uint16_t north_pulses[] = {25}, south_value[] = {999}, east_value[] = {40}, east_charge[] = {90};
+    static const uint16_t east_pulses[] = {SENT_PULSES, UNIT_PULSES}, without_unit[] = {SENT_PULSES, 0};
     put_arrival(event, 0, north_pulses, 1);
     put_arrival(event += PLEX_EVENT_SIZE, 8, south_value, 1);
     put_arrival(event += PLEX_EVENT_SIZE, 9, NULL, 0);
@@ -102,7 +116,11 @@ static void make_events(uint8_t *event)
     put_arrival(event, CASE_RECORDS, east_value, 1);
     event = put_steps(event + PLEX_EVENT_SIZE, stepped_for_guest, sizeof stepped_for_guest);
     put_arrival(event, CASE_RECORDS + 5, east_charge, 1);
-    put_steps(event + PLEX_EVENT_SIZE, stepped_for_charge, sizeof stepped_for_charge);
+    event = put_steps(event + PLEX_EVENT_SIZE, stepped_for_charge, sizeof stepped_for_charge);
+    put_arrival(event, CASE_RECORDS + 7, east_pulses, 2);
+    event = put_steps(event + PLEX_EVENT_SIZE, stepped_for_units, sizeof stepped_for_units);
+    put_arrival(event, CASE_RECORDS + 7, without_unit, 2);
+    put_steps(event + PLEX_EVENT_SIZE, stepped_without_units, sizeof stepped_without_units);
 }
 
 void make_case(struct field_case *made)

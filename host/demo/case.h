@@ -1,5 +1,6 @@
 /* The case from the field: two customers' guests on one thread, and an audit on another; and a
- * third customer's guest with its ledger and its charging, which come as an image of their own. */
+ * third customer's guest with its ledger, its charging and its tariff, which come as an image of their
+ * own. */
 #ifndef CASE_H
 #define CASE_H
 
@@ -7,11 +8,27 @@
 
 /* The blocks. North's charging and the tariffs are a family with one lock; each of the others has the
  * lock of its own number. */
-enum { NORTH_GUEST, NORTH_CHARGING, TARIFFS, SOUTH_GUEST, AUDIT, EAST_GUEST, EAST_LEDGER, EAST_CHARGING, CASE_BLOCKS };
+enum {
+    NORTH_GUEST,
+    NORTH_CHARGING,
+    TARIFFS,
+    SOUTH_GUEST,
+    AUDIT,
+    EAST_GUEST,
+    EAST_LEDGER,
+    EAST_CHARGING,
+    EAST_TARIFF,
+    CASE_BLOCKS
+};
 enum { FAMILY_LOCK = 9 };
 
-enum { CASE_RECORDS = 13, EAST_RECORDS = 7, LINKED_RECORDS = CASE_RECORDS + EAST_RECORDS };
-enum { CASE_EVENTS = 15, EAST_EVENTS = 11, LINKED_EVENTS = CASE_EVENTS + EAST_EVENTS };
+enum { CASE_RECORDS = 13, EAST_RECORDS = 11, LINKED_RECORDS = CASE_RECORDS + EAST_RECORDS };
+enum { CASE_EVENTS = 15, EAST_EVENTS = 21, LINKED_EVENTS = CASE_EVENTS + EAST_EVENTS };
+
+/* The words of East's tariff: pulses kept, and units charged. How many pulses it keeps at first, how many
+ * it is sent, and how many a unit has. */
+enum { KEPT, UNITS };
+enum { KEPT_PULSES = 7, SENT_PULSES = 25, UNIT_PULSES = 10 };
 
 struct field_case {
     uint8_t image[CASE_RECORDS * PLEX_RECORD_SIZE], east_image[EAST_RECORDS * PLEX_RECORD_SIZE];

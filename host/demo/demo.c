@@ -2,12 +2,13 @@
  * next guest on the same thread does RETURN. The two blocks that the job calls have one lock, for
  * which an audit on another thread waits. An engine that kept the return labels of the ended
  * job would let South's RETURN go on at label 4 and charge North for it; one that kept its locks
- * would let the audit wait for ever. East's guest, its ledger and its charging, which come as an image
- * of their own, are linked behind the case first, and run after it: the guest's job founds a tree for
- * the ledger; the charging is sent a charge of 90 and has a prepaid balance of 20, of which an engine
- * that subtracts modulo 65,536 would make 65,466.
+ * would let the audit wait for ever. East's guest, its ledger, its charging and its tariff, which come
+ * as an image of their own, are linked behind the case first, and run after it: the guest's job founds a
+ * tree for the ledger; the charging is sent a charge of 90 and has a prepaid balance of 20, of which an
+ * engine that subtracts modulo 65,536 would make 65,466; the tariff splits pulses into units and keeps
+ * those left over, and where a unit has no pulses its job traps and charges nobody.
  *
- * Use: demo          prints the trace; the status is 1 if a charging word changed
+ * Use: demo          prints the trace; the status is 1 if a charging word changed or a pulse is lost
  *      demo FOLDER   writes the case and East's image there, as files of the command plex */
 #include "case.h"
 #include "fields.h"
@@ -60,6 +61,16 @@ static uint32_t south_charge(void)
 static uint32_t east_balance(void)
 {
     return get16(word_at(state, EAST_CHARGING, 0));
+}
+
+static uint32_t east_units(void)
+{
+    return get16(word_at(state, EAST_TARIFF, UNITS));
+}
+
+static uint32_t east_kept(void)
+{
+    return get16(word_at(state, EAST_TARIFF, KEPT));
 }
 
 static void print_event(uint32_t index, const uint8_t *event)
@@ -129,7 +140,8 @@ static int replay(uint32_t index)
     print_answer(answer);
     if (!is_arrival)
         print_thread("after", thread);
-    printf("    charges   North %u, South %u; balance East %u\n", north_charge(), south_charge(), east_balance());
+    printf("    charges   North %u, South %u; balance East %u; units East %u, pulses kept %u\n", north_charge(),
+           south_charge(), east_balance(), east_units(), east_kept());
     return answer[PLEX_ANSWER_CODE] != PLEX_WAITING || print_walk(thread);
 }
 
@@ -150,6 +162,17 @@ static int begin(void)
     return 1;
 }
 
+/* Whether each pulse that East's tariff kept at first, and each that it was sent where a unit has pulses,
+ * is charged or kept. */
+static int print_units(void)
+{
+    uint32_t pulses = KEPT_PULSES + SENT_PULSES;
+    int none_lost = UNIT_PULSES * east_units() + east_kept() == pulses && east_kept() < UNIT_PULSES;
+    printf("Of %u pulses East's tariff has charged %u units of %d, and it keeps %u: %s.\n", pulses, east_units(),
+           UNIT_PULSES, east_kept(), none_lost ? "none is lost" : "some are LOST");
+    return none_lost;
+}
+
 static int trace(void)
 {
     if (!begin())
@@ -157,6 +180,8 @@ static int trace(void)
     uint32_t north = north_charge(), south = south_charge(), east = east_balance();
     printf("charges: North %u (block %d, word 0), South %u (block %d, word 0); balance: East %u (block %d, word 0)\n",
            north, NORTH_CHARGING, south, SOUTH_GUEST, east, EAST_CHARGING);
+    printf("units: East %u (block %d, word %d); pulses kept: %u (block %d, word %d)\n", east_units(), EAST_TARIFF,
+           UNITS, east_kept(), EAST_TARIFF, KEPT);
     for (uint32_t index = 0; index < LINKED_EVENTS; index++)
         if (!replay(index))
             return 1;
@@ -166,7 +191,7 @@ static int trace(void)
            kept ? "are as they were" : "CHANGED", north_charge(), south_charge(), east_balance(),
            get16(word_at(state, AUDIT, 0)), get16(word_at(state, EAST_GUEST, 0)),
            get16(word_at(state, EAST_LEDGER, 0)));
-    return kept ? 0 : 1;
+    return print_units() && kept ? 0 : 1;
 }
 
 static int write_part(const char *folder, const char *name, const uint8_t *bytes, size_t size)

@@ -33,11 +33,14 @@ byte "$table" 47 20 bad
 tried 'lock' 1 'bad: block 15 (thread 0, kind 0, lock 16) has a field out of range' check "$image" bad
 tried 'why' 1 'its lock is 16, and locks are 0 to 15' check "$image" bad
 tried 'its number' 1 'refused with number 3, place 15' check "$image" bad
+# faulty OFFSET OCTAL PATTERN: a copy of the whole image with one byte changed is refused
+whole=$image
 faulty() {
-    byte "$image" "$1" "$2" bad
-    tried "image byte $1 set to octal $2" 1 "$3" check bad "$table"
+    byte "$whole" "$1" "$2" bad
+    tried "byte $1 of $whole set to octal $2" 1 "$3" check bad "$table"
 }
-faulty 0 14 'opcode 12 is none of 1 to 11'
+faulty 0 15 'opcode 13 is none of 1 to 12'
+faulty 0 14 'its operand count is 1, and DIVIDE has 4'
 faulty 0 13 'label A is 3, whose entry is direct, and the signal of SEND JOBTREE has entry buffered'
 faulty 84 0 'opcode 0 is none of'
 faulty 1 20 'its block is 16, and blocks are 0 to 15'
@@ -56,3 +59,17 @@ faulty 94 20 'operand 0 is shared word 16'
 faulty 93 1 'the destination is a number'
 faulty 83 1 'a byte after its last operand is not 0'
 faulty 508 143 'record at label 6 (block 2) breaks a rule: ASSIGN r0 := r0 \* r1, on to 99'
+
+# ---- a division, at label 8 of East's image
+whole=$east
+faulty 675 1 'DIVIDE has no operator, so byte 3 is 0 and not 1'
+faulty 676 5 'label A is 5, in block 7, and here it is in the record.s block 8'
+faulty 678 1 'DIVIDE uses no label B, so it is 0 and not 1'
+faulty 680 3 'its operand count is 3, and DIVIDE has 4'
+faulty 681 1 'the quotient.s destination is a number, and it is a register or a shared word'
+faulty 684 1 'the remainder.s destination is a number, and it is a register or a shared word'
+faulty 681 3 'both destinations are shared word 0, and DIVIDE has two different ones'
+faulty 684 2 'both destinations are register 0, and DIVIDE has two different ones'
+faulty 684 2 'record at label 8 (block 8) breaks a rule: DIVIDE r0, r0 := r0 / r1, on to 9$'
+faulty 684 2 'refused with number 4, place 8$'
+faulty 693 1 'a byte after its last operand is not 0'

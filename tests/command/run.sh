@@ -62,6 +62,28 @@ tried 'the whole balance' 0 'label 5: ASSIGN w0 := w0 - r0, on to 6 *moved on; a
 tried 'what was not charged' 0 '^  block 1: w0=120$' state left-2
 holds 'a balance that is left' lacks said 'block 7'
 
+# ---- division: East's tariff keeps 7 pulses and is sent 25, at 10 a unit, at none, and without a number
+altered arrival pulses 2:7 4:2 7:12
+cat pulses step-2 step-2 step-2 >to-units
+cat to-units step-2 step-2 >divided
+tried 'a division' 0 \
+    'label 8: DIVIDE r0, w0 := r0 / r1, on to 9 *moved on; at label 9, locks 8, return labels none$' \
+    run "$east" "$table" "$words" to-units --out left-2
+tried 'its quotient' 0 '^  2  at label 9, .*, registers r0=3 r1=10$' state left-2
+tried 'its remainder' 0 '^  block 8: w0=2$' state left-2
+tried 'units charged' 0 '^           1  EXIT$' run "$east" "$table" "$words" divided --summary --out left-2
+tried 'and pulses kept' 0 '^  block 8: w0=2 w1=3$' state left-2
+altered divided by-zero 7:0
+tried 'a division by zero' 0 \
+    'label 8: DIVIDE r0, w0 := r0 / r1, on to 9 *trap 8, division by zero; idle, locks none, return labels none$' \
+    run "$east" "$table" "$words" by-zero --out left-2
+tried 'what it leaves' 0 '^  block 8: w0=7$' state left-2
+tried 'in the summary' 0 '^           1  of the traps: 8, division by zero$' \
+    run "$east" "$table" "$words" by-zero --summary
+altered to-units without-unit 4:1 7:0
+tried 'no number of pulses' 0 'label 8: DIVIDE .* trap 1, an absent register is read; idle' \
+    run "$east" "$table" "$words" without-unit
+
 tried '4,500 events' 0 '^4500 events in 5 calls$' \
     run "$image" "$table" "$words" many --summary --out left --answers answers
 tried 'the same one by one' 0 '^4500 events in 4500 calls$' \
