@@ -1,5 +1,6 @@
 -- A statement of ASSIGN's kind, where a running thread comes to it.
-use mathlib.Core.Path.{_≡_, refl, sym, subst}
+use mathlib.Core.Path.{_≡_, refl, sym, ap, _∙_, subst}
+use mathlib.Core.Bool.{Bool, false, cond}
 use mathlib.Core.List.{List}
 use Prim.Native.Nat.{ℕ, _<_}
 use native.Mathlib.Omega.{arith}
@@ -8,7 +9,7 @@ use borrow.Author.Tests.{ne-eqb}
 use Rattle.rules.specs.Machine.{job}
 use Rattle.rules.specs.Sizes.{registerCount, idleLabel}
 use Rattle.rules.specs.Image.{recordAt}
-use Rattle.rules.specs.Statements.{statementOf, operandAt, assignmentBy}
+use Rattle.rules.specs.Statements.{shape, optional, statementOf, operandAt, assignmentBy}
 use Rattle.rules.specs.Effects.{Got, trap, got, Cells, Results}
 use Rattle.rules.specs.Encoding.{machineFrom}
 use Rattle.rules.specs.Steps.{rulesBy, finished}
@@ -70,6 +71,13 @@ module _ {image table b : List ℕ} {t : ℕ} {w : ThreadState} {r : List ℕ} (
           left = subst (λ (q : Assignment). Fits (q .left)) k (left-fits (h .parts) a e);
           right = subst (λ (q : Assignment). Fits (q .right)) k (right-fits (h .parts) a e);
         }
+
+    -- an operation with one destination
+    pub one-destination : shape (a .operation) .second ≡ false → a .second ≡ Number 0
+    unfolding assignmentBy optional
+    one-destination f =
+        ap (λ (q : Assignment). q .second) (assigns (h .parts) a e .1)
+        ∙ ap (λ (q : Bool). cond q (operandAt r 1) (Number 0)) f
 
     -- what the assignment works out, from the law's cells
     results-here : (g : Got Results) → law.results (cellsOf b w r) a ≡ g → law.results (lawCells h) a ≡ g

@@ -14,7 +14,7 @@ use Rattle.rules.specs.Storing.{length-window}
 use Rattle.rules.specs.declared.statement.Assignment.{Assignment}
 use Rattle.rules.specs.declared.statement.Operand.{Operand}
 use Rattle.rules.specs.declared.statement.Operand.the-variants.{Number, Register, Word}
-use Rattle.encoding.specs.Encoded.{Encodes, encoded-machine}
+use Rattle.encoding.specs.Encoded.{Encodes, encoded-machine, encoded-canonical}
 use Rattle.encoding.specs.Stores.{withWord}
 use Rattle.step_laws.specs.Same.{keep-window, keep-more}
 use Rattle.threads.specs.Threads.{Runs, jobOf, returnsOf, registersOf, runs-fields, runs-then, withJob}
@@ -37,7 +37,17 @@ withWordAt s block (Number n) v = s
 withWordAt s block (Register k) v = s
 withWordAt s block (Word k) v = withWord s (wordCount * block + k) v
 
--- and in the machine in which thread t is w, where a register is that thread's
+-- the machine s where thread t has become w, which has the first value if that goes to a register, and else the block's word has it
+abbrev pub withFirst : Machine → ℕ → ℕ → code.ThreadState → Operand → ℕ → Machine
+withFirst s t block w d u = withWordAt (withJob s t (w .locks) (jobOf w)) block d u
+
+-- the thread is written, and then the word
+pub first-written : (s : Machine) (t block : ℕ) (w : code.ThreadState) (d : Operand) (u : ℕ) {b c : List ℕ}
+    → Encodes b (withJob s t (w .locks) (jobOf w)) → Encodes c (withWordAt (machineFrom b) block d u) → Encodes c (withFirst s t block w d u)
+first-written s t block w d u {b} {c} e f =
+    subst (Encodes c) (ap (λ (z : Machine). withWordAt z block d u) (encoded-machine b _ e)) f
+
+-- the machine s, in which thread t is w, with the second value in a register of that thread or in a word of the block
 abbrev pub withSecond : Machine → ℕ → ℕ → code.ThreadState → Operand → ℕ → Machine
 withSecond s t block w (Number n) v = s
 withSecond s t block w (Register k) v =
@@ -171,19 +181,22 @@ module _ (s : Machine) (t : ℕ) (inside : t < length (s .threads)) (w : code.Th
   second-last x d (Register k) = register-last s t inside block (x .locks) d u (jobOf x) (job _ _ _)
   second-last x d (Word k) = refl
 
-  pub both-stored : (x : code.ThreadState) {b₁ b₂ b₃ : List ℕ} → Fits (a .first) → Fits (a .second)
-      → Runs x (w .locks) (job (labelA r) (returnsOf w) (registersAfter (a .first) u (registersOf w)))
-      → Encodes b₁ (withJob s t (x .locks) (jobOf x))
-      → Encodes b₂ (withWordAt (machineFrom b₁) block (a .first) u) → Encodes b₃ (withSecond (machineFrom b₂) t block x (a .second) v)
-      → Encodes b₃ (landed s t w r a u v)
-  both-stored x {b₁} {b₂} {b₃} h k q e₁ e₂ e₃ =
-      let m₂ = encoded-machine b₂ _ e₂ ∙ ap (λ (z : Machine). withWordAt z block (a .first) u) (encoded-machine b₁ _ e₁) in
-      let words = ap (λ (z : Machine). withSecond z t block x (a .second) v) m₂
-      ∙ second-last x (a .first) (a .second)
-      ∙ both-kept block (s .words) (set (s .threads) t (afterBoth (x .locks) (jobOf x))) (s .trees) (a .first) (a .second) u v h k in
-      let thread = ap (λ l. afterBoth l (jobOf x)) (runs-fields q .0) ∙ ap (afterBoth (w .locks)) (runs-fields q .1) in
-      let stored = wordsAfter (a .second) v (wordsAfter (a .first) u (window block (s .words))) in
-      subst (Encodes b₃)
-      (words
-      ∙ ap (λ (z : ThreadState). record { words = keep block stored (s .words); threads = set (s .threads) t z; trees = s .trees }) thread
-      ∙ ap machineWith (sym (both-cells a u v (record { registers = registersOf w; words = window block (s .words) })))) e₃
+  module _ (x : code.ThreadState) {b : List ℕ} (h : Fits (a .first)) (k : Fits (a .second))
+      (q : Runs x (w .locks) (job (labelA r) (returnsOf w) (registersAfter (a .first) u (registersOf w))))
+      (e : Encodes b (withFirst s t block x (a .first) u)) where
+    pub both-stored : {c : List ℕ} → Encodes c (withSecond (machineFrom b) t block x (a .second) v) → Encodes c (landed s t w r a u v)
+    both-stored {c} f =
+        let words = ap (λ (z : Machine). withSecond z t block x (a .second) v) (encoded-machine b _ e)
+        ∙ second-last x (a .first) (a .second)
+        ∙ both-kept block (s .words) (set (s .threads) t (afterBoth (x .locks) (jobOf x))) (s .trees) (a .first) (a .second) u v h k in
+        let thread = ap (λ l. afterBoth l (jobOf x)) (runs-fields q .0) ∙ ap (afterBoth (w .locks)) (runs-fields q .1) in
+        let stored = wordsAfter (a .second) v (wordsAfter (a .first) u (window block (s .words))) in
+        subst (Encodes c)
+        (words
+        ∙ ap (λ (z : ThreadState). record { words = keep block stored (s .words); threads = set (s .threads) t z; trees = s .trees }) thread
+        ∙ ap machineWith (sym (both-cells a u v (record { registers = registersOf w; words = window block (s .words) })))) f
+
+    -- an operation with one destination has stored all that it has
+    pub one-stored : (n : ℕ) → a .second ≡ Number n → Encodes b (landed s t w r a u v)
+    one-stored n f =
+        both-stored (subst (λ (d : Operand). Encodes b (withSecond (machineFrom b) t block x d v)) (sym f) (encoded-canonical b _ e))

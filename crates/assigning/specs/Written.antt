@@ -7,7 +7,7 @@ use Prim.Native.Nat.{ℕ, _<_}
 use lib.Dec.{eqb}
 use lib.ListN.{set, drop}
 use Rattle.rules.specs.Sizes.{threadCount, idleLabel}
-use Rattle.rules.specs.Machine.{Job, job, withHeld, heldOf, running, threadAt}
+use Rattle.rules.specs.Machine.{Job, job, running, threadAt}
 use Rattle.rules.specs.Encoding.{machineFrom}
 use Rattle.encoding.specs.Encoded.{Canonical}
 use Rattle.encoding.specs.Slots.{returnsIn, registersIn}
@@ -15,18 +15,18 @@ use Rattle.threads.specs.Threads.{Runs, Says, jobOf, returnsOf, registersOf, ru
 use Rattle.threads.specs.Records.{threadPlace, rawThread, same-returns, set-registers}
 use Rattle.threads.specs.declared.thread.ThreadState.{ThreadState}
 use Rattle.thread_records.specs.Records.{thread-read}
+use Rattle.step_ready.specs.At.{jobAt}
 
 -- thread t of the bytes b is w, with the signals that it holds
 abbrev pub Standing : List ℕ → ℕ → ThreadState → Type 0
-Standing b t w =
-    threadAt (machineFrom b) t ≡ running (w .locks) (withHeld (heldOf (threadAt (machineFrom b) t)) (jobOf w))
+Standing b t w = threadAt (machineFrom b) t ≡ running (w .locks) (jobAt b t w)
 
 module _ (b : List ℕ) (t : ℕ) (w : ThreadState) (h : Canonical b) (inside : t < threadCount) (stands : Standing b t w) where
   -- its record says the job of w
   abbrev there : ThreadState
   there = rawThread (drop (threadPlace t) b)
 
-  says : Says there (running (w .locks) (withHeld (heldOf (threadAt (machineFrom b) t)) (jobOf w)))
+  says : Says there (running (w .locks) (jobAt b t w))
   says = subst (Says there) stands (thread-read b (machineFrom b) h t inside)
 
   job-there : jobOf there ≡ jobOf w

@@ -1,4 +1,5 @@
 // ASSIGN and its kind: values are worked out and stored to registers or to shared words of the block.
+use decoding::shape_of;
 use ending::trapped;
 use image::record_fields::block_field;
 use image::record_fields::label_a;
@@ -15,6 +16,7 @@ use threads::thread::ThreadState;
 ghost use mathlib.Core.Path.{_≡_};
 ghost use Prim.Native.Nat.{_<_};
 ghost use Rattle.rules.specs.Sizes.{threadCount, blockCount};
+ghost use Rattle.rules.specs.Image.{blockField, labelA};
 ghost use Rattle.rules.specs.Machine.{job};
 ghost use Rattle.rules.specs.Encoding.{machineFrom};
 ghost use Rattle.rules.specs.Statements.{statementOf};
@@ -24,7 +26,7 @@ ghost use Rattle.threads.specs.Threads.{Running, Runs, returnsOf, registersOf, 
 ghost use Rattle.operands.specs.Legal.{Fits};
 ghost use Rattle.step_ready.specs.Ready.{Stepped};
 ghost use Rattle.step_ready.specs.At.{At};
-ghost use Rattle.assigning.specs.Destinations.{registersAfter, withWordAt, withSecond, landed};
+ghost use Rattle.assigning.specs.Destinations.{registersAfter, withWordAt, withFirst, withSecond, landed};
 ghost use Rattle.assigning.specs.Assigned.{OneChanged};
 ghost use Rattle.assigning.specs.Written.{Standing};
 
@@ -78,8 +80,31 @@ fn store_second(state: &mut [u8], t: Thread, w: ThreadState, block: Block, to: O
     }
 }
 
-// The thread goes on to A, and the values to their destinations, the first with the thread's record. All that is asked of the first
-// destination comes before the second is looked at: an assignment of one value pays for one test more.
+// The thread goes on to A, and the first value to its destination, with the thread's record. The thread that was written is handed back.
+fn store_first(
+    image: &[u8],
+    table: &[u8],
+    state: &mut [u8],
+    t: Thread,
+    w: ThreadState,
+    r: &[u8],
+    a: Assignment,
+    u: u16,
+) -> ThreadState
+    requires { ⌜ At (now image) (now table) (now state) (t .0) w (now r) × (statementOf (now r) ≡ Assign a) ⌝ }
+    ensures { λ x. ⌜ Runs x (w .locks) (job (labelA (now (r .entry))) (returnsOf w) (registersAfter (a .first) u (registersOf w))) ⌝ }
+    ensures { λ x. ⌜ Encodes (now (state .exit)) (withFirst (machineFrom (now (state .entry))) (t .0) (blockField (now (r .entry))) x
+        (a .first) u) ⌝ }
+{
+    let first = a.first;
+    let block = block_field(r);
+    let next = store_register(w.move_on(label_a(r)), first, u);
+    write_one(state, t, next, first, u);
+    store_word(state, block, first, u);
+    next
+}
+
+// Both values, the second behind the first.
 fn store_both(
     image: &[u8],
     table: &[u8],
@@ -94,13 +119,33 @@ fn store_both(
     requires { ⌜ At (now image) (now table) (now state) (t .0) w (now r) × (statementOf (now r) ≡ Assign a) ⌝ }
     ensures { λ _. ⌜ Encodes (now (state .exit)) (landed (machineFrom (now (state .entry))) (t .0) w (now (r .entry)) a u v) ⌝ }
 {
-    let first = a.first;
     let second = a.second;
-    let block = block_field(r);
-    let next = store_register(w.move_on(label_a(r)), first, u);
-    write_one(state, t, next, first, u);
-    store_word(state, block, first, u);
-    store_second(state, t, next, block, second, v);
+    let next = store_first(image, table, state, t, w, r, a, u);
+    store_second(state, t, next, block_field(r), second, v);
+}
+
+// The values to as many destinations as the operation has. It is asked before the first store, so that the compiler, which has just
+// gone by the operation to work the values out, asks nothing more of an operation with one destination.
+fn store_results(
+    image: &[u8],
+    table: &[u8],
+    state: &mut [u8],
+    t: Thread,
+    w: ThreadState,
+    r: &[u8],
+    a: Assignment,
+    u: u16,
+    v: u16,
+)
+    requires { ⌜ At (now image) (now table) (now state) (t .0) w (now r) × (statementOf (now r) ≡ Assign a) ⌝ }
+    ensures { λ _. ⌜ Encodes (now (state .exit)) (landed (machineFrom (now (state .entry))) (t .0) w (now (r .entry)) a u v) ⌝ }
+{
+    let operation = a.operation;
+    if shape_of(operation).second {
+        store_both(image, table, state, t, w, r, a, u, v);
+    } else {
+        store_first(image, table, state, t, w, r, a, u);
+    }
 }
 
 pub fn assign(
@@ -119,7 +164,7 @@ pub fn assign(
     if results.trap != 0 {
         return trapped(image, table, state, t, w, results.trap);
     }
-    store_both(
+    store_results(
         image,
         table,
         state,

@@ -3,10 +3,10 @@
 use mathlib.Core.Path.{_≡_, refl}
 use mathlib.Core.Option.{Option·elim}
 use mathlib.Core.List.{List, [], _∷_, _++_}
-use Prim.Native.Nat.{ℕ, _+_}
+use Prim.Native.Nat.{ℕ}
 use native.Mathlib.Decide.{ℕ-discrete}
 use lib.ListN.{replicate}
-use Rattle.rules.specs.Sizes.{threadsPlace, presencePlace}
+use Rattle.rules.specs.Sizes.{threadsPlace}
 use Rattle.rules.specs.Bytes.{num16, num32, part, isZeros, allFrom, anyFrom, firstBad, blocks, pad, chunks, every}
 use Rattle.rules.specs.Image.{labels, recordAt, rowAt}
 use Rattle.rules.specs.Statements.{operandOf, operandAt, operandsFrom, operationAt, optional, assignmentBy, otherAt, statementOf}
@@ -27,7 +27,7 @@ use Rattle.rules.specs.Link.{shiftRecord, records, linked, names, shareBlock}
 use Rattle.rules.specs.Calls.{stateLengthFault, stateFault, eventsLengthFault, eventFault, answersLengthFault, wordsLengthFault}
 use Rattle.rules.specs.Calls.{sharedBlockFault, tooManyRecordsFault, outputLengthFault}
 use Rattle.rules.specs.Calls.{checkReturn, freshReturn, freshState, runReturn, runState, runAnswers, linkReturn, linkOut}
-use Rattle.byte_trials.specs.Lent.{recordBytes, arrivalBytes, turnBytes, times, table, freshWith, answersWith, stateWith}
+use Rattle.byte_trials.specs.Lent.{recordBytes, arrivalBytes, turnBytes, times, table, freshWith, answersWith, stateWith, presenceSet}
 
 -- an operand: a number below 256, a register or a shared word
 abbrev number : ℕ → List ℕ
@@ -54,12 +54,15 @@ startAndStep = arrivalBytes 0 (2 ∷ 17 ∷ 0 ∷ 5 ∷ 0 ∷ []) ++ times 2 (tu
 abbrev answersTo : List ℕ → List ℕ
 answersTo image = answersWith table image 3 startAndStep
 
--- the state then: the first n bytes of the words, and n bytes from the presence set of thread 0 on
+-- the state then: the first n bytes of the words, n bytes from the presence set of thread 0 on, and that thread's label
 abbrev wordsAfter : List ℕ → ℕ → List ℕ
 wordsAfter image n = part (stateWith table image 3 startAndStep) 0 n
 
 abbrev registersAfter : List ℕ → ℕ → List ℕ
-registersAfter image n = part (stateWith table image 3 startAndStep) (threadsPlace + presencePlace) n
+registersAfter image n = part (stateWith table image 3 startAndStep) presenceSet n
+
+abbrev labelAfter : List ℕ → List ℕ
+labelAfter image = part (stateWith table image 3 startAndStep) threadsPlace 2
 
 -- 17 / 5, of registers 0 and 1
 abbrev quotient : List ℕ → List ℕ → List ℕ
@@ -76,6 +79,7 @@ exiting = recordBytes 10 1 3 0 0 0 []
 pub record Divisions : Type 0 where
   -- 17 = 5 × 3 + 2: the quotient in register 3, the remainder in shared word 3, and the other way round
   pub answers : answersTo (quotient (register 3) (word 3)) ≡ 1 ∷ 0 ∷ 5 ∷ 0 ∷ 6 ∷ 0 ∷ []
+  pub on-to-A : labelAfter (quotient (register 3) (word 3)) ≡ 1 ∷ 0 ∷ []
   pub in-register : registersAfter (quotient (register 3) (word 3)) 12 ≡ 11 ∷ 0 ∷ 0 ∷ 0 ∷ 17 ∷ 0 ∷ 5 ∷ 0 ∷ 0 ∷ 0 ∷ 3 ∷ 0 ∷ []
   pub rest-in-word : wordsAfter (quotient (register 3) (word 3)) 8 ≡ 0 ∷ 0 ∷ 0 ∷ 0 ∷ 0 ∷ 0 ∷ 2 ∷ 0 ∷ []
   pub in-word : wordsAfter (quotient (word 3) (register 3)) 8 ≡ 0 ∷ 0 ∷ 0 ∷ 0 ∷ 0 ∷ 0 ∷ 3 ∷ 0 ∷ []
@@ -117,6 +121,7 @@ unfolding num16 num32 part isZeros allFrom anyFrom firstBad blocks pad chunks ev
     shiftRecord records linked names shareBlock sharedBlockFault tooManyRecordsFault outputLengthFault linkReturn linkOut heldOk
 divisions = record {
   answers = refl;
+  on-to-A = refl;
   in-register = refl;
   rest-in-word = refl;
   in-word = refl;

@@ -1,8 +1,8 @@
 -- What the trials on bytes lend: records of an image, events, block tables; and the calls on them.
 use mathlib.Core.List.{List, [], _∷_, _++_}
-use Prim.Native.Nat.{ℕ, zero, suc, _*_}
+use Prim.Native.Nat.{ℕ, zero, suc, _+_, _*_}
 use lib.ListN.{replicate}
-use Rattle.rules.specs.Sizes.{tableSize, wordsSize, stateSize}
+use Rattle.rules.specs.Sizes.{tableSize, wordsSize, stateSize, threadsPlace, presencePlace}
 use Rattle.rules.specs.Bytes.{pad}
 use Rattle.rules.specs.Calls.{freshState, runState, runAnswers}
 
@@ -49,3 +49,7 @@ answersWith rows image m events = runAnswers image rows (freshWith rows image) e
 
 abbrev pub stateWith : List ℕ → List ℕ → ℕ → List ℕ → List ℕ
 stateWith rows image m events = runState image rows (freshWith rows image) events (replicate (2 * m) 0)
+
+-- where the presence set of thread 0 stands in a state, its registers behind it
+abbrev pub presenceSet : ℕ
+presenceSet = threadsPlace + presencePlace

@@ -6,7 +6,7 @@ use mathlib.Core.List.{List, [], _∷_, _++_}
 use Prim.Native.Nat.{ℕ, _+_, _*_}
 use native.Mathlib.Decide.{ℕ-discrete}
 use lib.ListN.{replicate, drop}
-use Rattle.rules.specs.Sizes.{wordsSize, threadsPlace, presencePlace, heldCountPlace, treeSize, treeCountPlace, treesPlace}
+use Rattle.rules.specs.Sizes.{wordsSize, threadsPlace, heldCountPlace, treeSize, treeCountPlace, treesPlace}
 use Rattle.rules.specs.Bytes.{num16, num32, part, isZeros, allFrom, firstBad, blocks, pad, chunks, every}
 use Rattle.rules.specs.Image.{labels, recordAt, rowAt}
 use Rattle.rules.specs.Statements.{operandOf, operandAt, operandsFrom, operationAt, optional, assignmentBy}
@@ -29,7 +29,7 @@ use Rattle.rules.specs.Calls.{threadFault, metLengthFault, walkFault, walkRetur
 use Rattle.rules.specs.Calls.{stateLengthFault, stateFault, eventsLengthFault, eventFault, answersLengthFault, wordsLengthFault}
 use Rattle.rules.specs.Calls.{checkReturn, freshReturn, freshState, runReturn, runState, runAnswers}
 use Rattle.byte_trials.specs.Lent.{recordBytes, arrivalBytes, turnBytes, times, table, beginning, words, zeros}
-use Rattle.byte_trials.specs.Lent.{freshWith, answersWith, stateWith}
+use Rattle.byte_trials.specs.Lent.{freshWith, answersWith, stateWith, presenceSet}
 
 -- ---- the calls, with a block table of zeros
 
@@ -52,10 +52,6 @@ foreign kind = beginning (0 ∷ 0 ∷ 0 ∷ 1 ∷ kind ∷ 1 ∷ 0 ∷ 0 ∷ 2 �
 
 abbrev both : List ℕ
 both = beginning (0 ∷ 1 ∷ 0 ∷ 1 ∷ 1 ∷ 1 ∷ 0 ∷ 0 ∷ 2 ∷ [])
-
--- where the presence set of thread 0 stands in a state, its registers behind it
-abbrev presenceSet : ℕ
-presenceSet = threadsPlace + presencePlace
 
 -- ---- the images
 

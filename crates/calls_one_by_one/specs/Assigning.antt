@@ -1,5 +1,5 @@
 -- A step of ASSIGN's kind in a list of calls: what it works out is stored, and the job goes on to A; or it traps, and nothing is stored.
-use mathlib.Core.Path.{_≡_, refl, ap}
+use mathlib.Core.Path.{_≡_, refl, ap, _∙_}
 use mathlib.Core.Logic.{_⊎_, inl, inr}
 use mathlib.Core.Option.{none, some}
 use mathlib.Core.List.{List, [], _∷_, _++_}
@@ -8,7 +8,7 @@ use lib.ListN.{getD, set}
 use Rattle.rules.specs.Image.{recordAt, labelA}
 use Rattle.rules.specs.Statements.{operandAt, statementOf}
 use Rattle.rules.specs.Machine.{Signal, Job, job, withHeld, running, Machine, threadAt, jobOf, first, keep}
-use Rattle.rules.specs.Effects.{Got, trap, got, Cells, Results, read, readAll, assigned}
+use Rattle.rules.specs.Effects.{Got, trap, got, then, Cells, Results, read, readAll, compute, assigned}
 use Rattle.rules.specs.Events.{Event, step}
 use Rattle.rules.specs.Answers.{code, detail}
 use Rattle.rules.specs.Steps.{blockAt}
@@ -49,17 +49,28 @@ module _ (image table words state : List ℕ) (runs : List Run) (calls : Calls i
   tree : (p : List Signal) × (first t (s .trees) ≡ some p)
   tree = good image table words state runs calls before after t split .sound .invariant .rooted t j (ap jobOf busy)
 
-  pub stores : (z : Results) → results (cellsAt image s j) a ≡ got z
+  -- its sources, read left to right
+  abbrev pair : Got (List ℕ)
+  pair = readAll (cellsAt image s j) (a .left ∷ a .right ∷ [])
+
+  worked-out : (p q : ℕ) → pair ≡ got (p ∷ q ∷ []) → results (cellsAt image s j) a ≡ compute (a .operation) p q
+  worked-out p q e = ap (λ (g : Got (List ℕ)). then g (λ vs. compute (a .operation) (getD vs 0 0) (getD vs 1 0))) e
+
+  pub stores : (p q : ℕ) (z : Results) → pair ≡ got (p ∷ q ∷ []) → compute (a .operation) p q ≡ got z
       → Stepped image table words state runs before after t 6 0 (leaving image s t locks j (assigned a z (cellsAt image s j)))
   unfolding code detail
-  stores z e =
+  stores p q z e f =
       stepped image table words state runs calls before after t split _
-      (law.assigns image table s t locks j (tree .0) busy (tree .1) a statement z e)
+      (law.assigns image table s t locks j (tree .0) busy (tree .1) a statement z (worked-out p q e ∙ f))
 
-  pub unworked : (reason : ℕ) → results (cellsAt image s j) a ≡ trap reason → Trapped image table words state runs before after t reason
+  unworked : (reason : ℕ) → results (cellsAt image s j) a ≡ trap reason → Trapped image table words state runs before after t reason
   unworked reason e =
       trapped image table words state runs calls before after t split reason
       (law.unworked image table s t locks j (tree .0) busy (tree .1) a statement reason e)
+
+  pub traps : (p q reason : ℕ) → pair ≡ got (p ∷ q ∷ []) → compute (a .operation) p q ≡ trap reason
+      → Trapped image table words state runs before after t reason
+  traps p q reason e f = unworked reason (worked-out p q e ∙ f)
 
   -- an absent register is found before anything is worked out
   pub absent-source : (r : ℕ) → (a .left ≡ Register r) ⊎ (a .right ≡ Register r) → getD (j .registers) r none ≡ none

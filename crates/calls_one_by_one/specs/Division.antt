@@ -2,18 +2,18 @@
 -- are stored: after it the first destination has the quotient, the second the remainder, and every other place what it had, `divides`.
 -- Where q is zero it is answered 8, 8: the job ends, and nothing is stored, `traps-by-zero`. An absent register is found first: 8, 1,
 -- `absent-first`.
-use mathlib.Core.Path.{_≡_, refl, ap, _∙_, subst}
+use mathlib.Core.Path.{_≡_, refl, _∙_, subst}
 use mathlib.Core.Logic.{_≢_, _⊎_}
 use mathlib.Core.Option.{none}
 use mathlib.Core.List.{List, [], _∷_, _++_}
-use Prim.Native.Nat.{ℕ, zero, suc}
+use Prim.Native.Nat.{ℕ}
 use native.Mathlib.Omega.{arith}
 use lib.ListN.{length, getD}
 use Rattle.rules.specs.Sizes.{registerCount}
-use Rattle.rules.specs.Image.{recordAt, opcode, operator}
+use Rattle.rules.specs.Image.{recordAt, opcode}
 use Rattle.rules.specs.Statements.{operationAt, optional, assignmentBy, assignmentOf, statementOf}
-use Rattle.rules.specs.Machine.{Job, idle, running, ThreadState, Machine, threadAt}
-use Rattle.rules.specs.Effects.{Got, got, then, Cells, Results, read, compute, store}
+use Rattle.rules.specs.Machine.{Job, idle, running, Machine, threadAt}
+use Rattle.rules.specs.Effects.{got, Cells, read, store}
 use Rattle.rules.specs.Division.{Divided, computed, by-zero}
 use Rattle.rules.specs.Storing.{Place, length-window, read-other, first-stored, second-stored}
 use Rattle.rules.specs.Check.{recordOk}
@@ -24,24 +24,22 @@ use Rattle.rules.specs.declared.statement.Operand.{Operand}
 use Rattle.rules.specs.declared.statement.Operand.the-variants.{Number, Register, Word}
 use Rattle.rules.specs.declared.statement.Operation.the-variants.{Divide}
 use Rattle.rules.specs.declared.statement.Statement.the-variants.{Assign}
-use Rattle.fields.specs.Each.{Each}
+use Rattle.fields.specs.Each.{each-or}
 use Rattle.laws.specs.Passed.{Parts, passed, rule-parts}
 use Rattle.encoding.specs.Sized.{SizedThread}
 use Rattle.soundness.specs.Sound.{ThreadIn}
-use Rattle.step_laws.specs.Statements.{cellsAt, results}
+use Rattle.step_laws.specs.Statements.{cellsAt}
 use Rattle.operands.specs.Statements.{Lands, first-lands}
-use Rattle.operands.specs.TwoDestinations.{second-lands, differ}
+use Rattle.operands.specs.TwoDestinations.{no-operator, second-lands, differ}
 use Rattle.calls_one_by_one.specs.CallList.{Run, Calls, eventList, eventsOf}
 use Rattle.calls_one_by_one.specs.Whole as whole
 use Rattle.calls_one_by_one.specs.Reached.{reached, good, Stepped, Trapped}
-use Rattle.calls_one_by_one.specs.Assigning.{operand, sources, leaving, stores, unworked, absent-source}
+use Rattle.calls_one_by_one.specs.Assigning.{operand, sources, leaving, stores, traps, absent-source}
 
--- thread t runs this job, at whose label a record of DIVIDE (12), which has no operator, stands: operands 0 and 1 are its destinations, 2
--- and 3 are p and q
-pub record Divides (image : List ℕ) (s : Machine) (t locks : ℕ) (j : Job) : Type 0 where
+-- thread t runs this job, at whose label a record of DIVIDE (12) stands: operands 0 and 1 are its destinations, 2 and 3 are p and q
+pub record AtDivide (image : List ℕ) (s : Machine) (t locks : ℕ) (j : Job) : Type 0 where
   pub thread : threadAt s t ≡ running locks j
   pub divide : opcode (recordAt image (j .label)) ≡ 12
-  pub plain : operator (recordAt image (j .label)) ≡ 0
 
 -- a place in the cells of a job that runs, for each destination that a record may have
 cell : (image : List ℕ) (s : Machine) (j : Job) → length (j .registers) ≡ registerCount → (d : Operand) → Lands d
@@ -50,42 +48,30 @@ cell image s j l (Number n) h = h
 cell image s j l (Register r) h = omega arith
 cell image s j l (Word w) h = omega (arith, length-window (blockAt image (j .label)) (s .words))
 
--- each thread is sized, and one that there is not is idle
-thread-sized : (ts : List ThreadState) (t : ℕ) → Each SizedThread ts → SizedThread (getD ts t idle)
-thread-sized [] t e = tt
-thread-sized (x ∷ ts) zero e = e .0
-thread-sized (x ∷ ts) (suc t) e = thread-sized ts t (e .1)
-
 -- the cells c, with u in the first destination and v in the second
 abbrev pub bothStored : List ℕ → Job → ℕ → ℕ → Cells → Cells
 bothStored image j u v c = store (operand image j 1) v (store (operand image j 0) u c)
 
+-- after these events a step of thread t is answered 6, and of the cells that it leaves each destination has its result, and every other
+-- place what it had
+pub record Both (image table words state : List ℕ) (runs : List Run) (before after : List Event) (t locks : ℕ) (j : Job) (u v : ℕ)
+    : Type 0 where
+  pub stepped : Stepped image table words state runs before after t 6 0
+      (leaving image (reached image table words before) t locks j
+      (bothStored image j u v (cellsAt image (reached image table words before) j)))
+  pub quotient : read (bothStored image j u v (cellsAt image (reached image table words before) j)) (operand image j 0) ≡ got u
+  pub remainder : read (bothStored image j u v (cellsAt image (reached image table words before) j)) (operand image j 1) ≡ got v
+  pub others : (z : Operand) → z ≢ operand image j 0 → z ≢ operand image j 1
+      → read (bothStored image j u v (cellsAt image (reached image table words before) j)) z
+      ≡ read (cellsAt image (reached image table words before) j) z
+
 module _ (image table words state : List ℕ) (runs : List Run) (calls : Calls image table words state runs) (before after : List Event)
     (t : ℕ) (split : eventsOf (eventList runs) ≡ before ++ step t ∷ after) (locks : ℕ) (j : Job)
-    (h : Divides image (reached image table words before) t locks j) where
+    (h : AtDivide image (reached image table words before) t locks j) where
   abbrev s : Machine
   s = reached image table words before
 
-  abbrev a : Assignment
-  a = assignmentOf Divide (recordAt image (j .label))
-
-  statement : statementOf (recordAt image (j .label)) ≡ Assign a
-  unfolding statementOf operationAt
-  statement = rw (h .divide, h .plain)
-
-  abbrev divided : Got (List ℕ) → Got Results
-  divided g = then g (λ vs. compute Divide (getD vs 0 0) (getD vs 1 0))
-
-  results-are : (g : Got (List ℕ)) → sources image s j 2 3 ≡ g → results (cellsAt image s j) a ≡ divided g
-  unfolding assignmentBy optional
-  results-are g e = ap divided e
-
-  -- WHERE Q IS ZERO, THE STEP IS ANSWERED 8, 8, AND NOTHING IS STORED
-  pub traps-by-zero : (p : ℕ) → sources image s j 2 3 ≡ got (p ∷ 0 ∷ []) → Trapped image table words state runs before after t 8
-  traps-by-zero p e =
-      unworked image table words state runs calls before after t split locks j (h .thread) a statement 8 (results-are _ e ∙ by-zero p)
-
-  -- the record breaks no rule: its destinations are two places, which are not equal
+  -- the record breaks no rule: it has no operator, and its destinations are two places, which are not equal
   parts : Parts image (recordAt image (j .label))
   unfolding recordOk
   parts =
@@ -94,28 +80,32 @@ module _ (image table words state : List ℕ) (runs : List Run) (calls : Calls i
       let here = subst (ThreadIn image table t) (h .thread) (sound .threads t) in
       rule-parts image (recordAt image (j .label)) (passed image table [] ok .0 .records (j .label) (here .places .0 .below))
 
+  abbrev a : Assignment
+  a = assignmentOf Divide (recordAt image (j .label))
+
+  statement : statementOf (recordAt image (j .label)) ≡ Assign a
+  unfolding statementOf operationAt
+  statement = rw (h .divide, no-operator parts (h .divide))
+
   place : (d : Operand) → Lands d → Place (cellsAt image s j) d
   place =
       let job = subst SizedThread (h .thread)
-      (thread-sized (s .threads) t (good image table words state runs calls before after t split .sized .eachThread)) in
+      (each-or SizedThread (s .threads) t idle (good image table words state runs calls before after t split .sized .eachThread) tt) in
       cell image s j (job .registers)
 
-  -- the step is answered 6, and of the cells that it leaves each destination has its result, and every other place what it had
-  pub record Both (u v : ℕ) : Type 0 where
-    pub stepped : Stepped image table words state runs before after t 6 0
-        (leaving image s t locks j (bothStored image j u v (cellsAt image s j)))
-    pub quotient : read (bothStored image j u v (cellsAt image s j)) (operand image j 0) ≡ got u
-    pub remainder : read (bothStored image j u v (cellsAt image s j)) (operand image j 1) ≡ got v
-    pub others : (z : Operand) → z ≢ operand image j 0 → z ≢ operand image j 1
-        → read (bothStored image j u v (cellsAt image s j)) z ≡ read (cellsAt image s j) z
+  -- WHERE Q IS ZERO, THE STEP IS ANSWERED 8, 8, AND NOTHING IS STORED
+  pub traps-by-zero : (p : ℕ) → sources image s j 2 3 ≡ got (p ∷ 0 ∷ []) → Trapped image table words state runs before after t 8
+  unfolding assignmentBy optional
+  traps-by-zero p e = traps image table words state runs calls before after t split locks j (h .thread) a statement p 0 8 e (by-zero p)
 
   -- P = Q × QUOTIENT + REMAINDER, REMAINDER BELOW Q: BOTH ARE STORED
-  pub divides : (p q u v : ℕ) → Divided p q u v → sources image s j 2 3 ≡ got (p ∷ q ∷ []) → Both u v
+  pub divides : (p q u v : ℕ) → Divided p q u v → sources image s j 2 3 ≡ got (p ∷ q ∷ [])
+      → Both image table words state runs before after t locks j u v
   unfolding assignmentBy optional
   divides p q u v d e = record {
     stepped =
-        stores image table words state runs calls before after t split locks j (h .thread) a statement (record { first = u; second = v })
-        (results-are _ e ∙ computed p q u v d);
+        stores image table words state runs calls before after t split locks j (h .thread) a statement p q
+        (record { first = u; second = v }) e (computed p q u v d);
     quotient =
         first-stored (cellsAt image s j) (operand image j 0) (operand image j 1) u v (differ parts a statement refl)
         (place (operand image j 0) (first-lands parts a statement));

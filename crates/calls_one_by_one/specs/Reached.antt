@@ -79,7 +79,7 @@ module _ (image table words state : List ℕ) (runs : List Run) (calls : Calls i
           ++ record { event = eventBytes (step t); answer = answerBytes (z .answer) } ∷ entriesFrom image table (z .state) after) replied
 
       -- the machine in the bytes that the last accepted call left, if the step is the last event
-      pub machine-left : after ≡ [] → machineFrom (lastLeft (freshState image table words state) runs) ≡ r .state
+      machine-left : after ≡ [] → machineFrom (lastLeft (freshState image table words state) runs) ≡ r .state
       unfolding final
       machine-left e =
           whole.last-machine image table words state runs calls

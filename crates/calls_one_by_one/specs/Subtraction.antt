@@ -1,7 +1,7 @@
 -- Subtraction in a list of calls. Where q is above p, a step of ASSIGN subtract is answered 8, 7: the job ends, and nothing is stored,
 -- `traps-below-zero`. Where q is up to p, it is answered 6, and the difference is stored, `subtracts-exactly`. An absent register is found
 -- first: 8, 1, `absent-first`.
-use mathlib.Core.Path.{_≡_, ap, _∙_}
+use mathlib.Core.Path.{_≡_}
 use mathlib.Core.Logic.{_⊎_}
 use mathlib.Core.Bool.{false}
 use mathlib.Core.Option.{none}
@@ -14,16 +14,16 @@ use borrow.Author.Tests.{lt-ltb, le-ltb}
 use Rattle.rules.specs.Image.{recordAt, opcode, operator}
 use Rattle.rules.specs.Statements.{operationAt, optional, assignmentBy, assignmentOf, statementOf}
 use Rattle.rules.specs.Machine.{Job, running, Machine, threadAt}
-use Rattle.rules.specs.Effects.{Got, got, then, Results, compute, store}
+use Rattle.rules.specs.Effects.{got, store}
 use Rattle.rules.specs.Events.{Event, step}
 use Rattle.rules.specs.declared.statement.Assignment.{Assignment}
 use Rattle.rules.specs.declared.statement.Operand.the-variants.{Register}
 use Rattle.rules.specs.declared.statement.Operation.the-variants.{Subtract}
 use Rattle.rules.specs.declared.statement.Statement.the-variants.{Assign}
-use Rattle.step_laws.specs.Statements.{cellsAt, results}
+use Rattle.step_laws.specs.Statements.{cellsAt}
 use Rattle.calls_one_by_one.specs.CallList.{Run, Calls, eventList, eventsOf}
 use Rattle.calls_one_by_one.specs.Reached.{reached, Stepped, Trapped}
-use Rattle.calls_one_by_one.specs.Assigning.{operand, sources, leaving, stores, unworked, absent-source}
+use Rattle.calls_one_by_one.specs.Assigning.{operand, sources, leaving, stores, traps, absent-source}
 
 -- thread t runs this job, at whose label a record of ASSIGN (2) subtract (3) stands: operand 0 is its destination, 1 and 2 are p and q
 pub record Subtracts (image : List ℕ) (s : Machine) (t locks : ℕ) (j : Job) : Type 0 where
@@ -44,19 +44,12 @@ module _ (image table words state : List ℕ) (runs : List Run) (calls : Calls i
   unfolding statementOf operationAt
   statement = rw (h .assign, h .subtract)
 
-  abbrev subtracted : Got (List ℕ) → Got Results
-  subtracted g = then g (λ vs. compute Subtract (getD vs 0 0) (getD vs 1 0))
-
-  results-are : (g : Got (List ℕ)) → sources image s j 1 2 ≡ g → results (cellsAt image s j) a ≡ subtracted g
-  unfolding assignmentBy optional
-  results-are g e = ap subtracted e
-
   -- WHERE Q IS ABOVE P, THE STEP IS ANSWERED 8, 7, AND NOTHING IS STORED
   pub traps-below-zero : (p q : ℕ) → p < q → sources image s j 1 2 ≡ got (p ∷ q ∷ [])
       → Trapped image table words state runs before after t 7
+  unfolding assignmentBy optional
   traps-below-zero p q l e =
-      unworked image table words state runs calls before after t split locks j (h .thread) a statement 7
-      (results-are _ e ∙ rw (lt-ltb p q l))
+      traps image table words state runs calls before after t split locks j (h .thread) a statement p q 7 e (rw (lt-ltb p q l))
 
   -- WHERE Q IS UP TO P, THE STEP IS ANSWERED 6, AND P - Q IS STORED
   pub subtracts-exactly : (p q v : ℕ) → v + q ≡ p → sources image s j 1 2 ≡ got (p ∷ q ∷ [])
@@ -66,8 +59,8 @@ module _ (image table words state : List ℕ) (runs : List Run) (calls : Calls i
   subtracts-exactly p q v d e =
       let exact : p - q ≡ v = omega arith in
       let above : ltb p q ≡ false = le-ltb p q (omega arith) in
-      stores image table words state runs calls before after t split locks j (h .thread) a statement (record { first = v; second = 0 })
-      (results-are _ e ∙ rw (above, exact))
+      stores image table words state runs calls before after t split locks j (h .thread) a statement p q (record { first = v; second = 0 }) e
+      (rw (above, exact))
 
   -- AN ABSENT REGISTER IS FOUND FIRST: 8, 1, whatever the other operand is
   pub absent-first : (r : ℕ) → (operand image j 1 ≡ Register r) ⊎ (operand image j 2 ≡ Register r) → getD (j .registers) r none ≡ none

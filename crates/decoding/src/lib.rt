@@ -157,7 +157,7 @@ pub fn relation_of(operator: u8) -> Relation
 }
 
 // The operands of an opcode of this shape.
-pub fn assignment_by(r: &[u8], o: Operation, s: Shape) -> Assignment
+fn assignment_by(r: &[u8], o: Operation, s: Shape) -> Assignment
     requires { ⌜ length (now r) ≡ recordSize ⌝ }
     ensures { λ z. ⌜ z ≡ assignmentBy o s (now (r .entry)) ⌝ }
 {

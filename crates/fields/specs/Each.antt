@@ -14,6 +14,12 @@ module _ {A : Type 0} (P : A → Type 0) where
   each-at (x ∷ xs) zero d e h = e .0
   each-at (x ∷ xs) (suc i) d e h = each-at xs i d (e .1) (omega arith)
 
+  -- and, of a place that there is not, if it holds of what stands in for it
+  pub each-or : (xs : List A) (i : ℕ) (d : A) → Each P xs → P d → P (getD xs i d)
+  each-or [] i d e h = h
+  each-or (x ∷ xs) zero d e h = e .0
+  each-or (x ∷ xs) (suc i) d e h = each-or xs i d (e .1) h
+
   pub each-set : (xs : List A) (i : ℕ) (y : A) → Each P xs → P y → Each P (set xs i y)
   each-set [] i y e h = tt
   each-set (x ∷ xs) zero y e h = (h, e .1)

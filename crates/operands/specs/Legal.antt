@@ -33,29 +33,29 @@ pub record Readable (r : List ℕ) : Type 0 where
   pub few : operands r ≤ operandCount
   pub slots : allFrom (slotOk r) 0 operandCount ≡ true
 
-operand-fits : (k v : ℕ) → operandOk k v ≡ true → Fits (operandOf k v)
-unfolding operandOf
-operand-fits k v h = first (or-cases (eqb k 1 || (eqb k 2 && ltb v registerCount)) (eqb k 3 && ltb v wordCount) h)
+-- an operand that keeps the rules is a number, a register or a shared word
+pub operand-kinds : (k v : ℕ) → operandOk k v ≡ true → (k ≡ 1) ⊎ (((k ≡ 2) × (v < registerCount)) ⊎ ((k ≡ 3) × (v < wordCount)))
+operand-kinds k v h = first (or-cases (eqb k 1 || (eqb k 2 && ltb v registerCount)) (eqb k 3 && ltb v wordCount) h)
   where
-    as-word : k ≡ 3 → v < wordCount → Fits (cond (eqb k 1) (Number v) (cond (eqb k 2) (Register v) (Word v)))
-    as-word e l = rw e l
-
-    as-register : k ≡ 2 → v < registerCount → Fits (cond (eqb k 1) (Number v) (cond (eqb k 2) (Register v) (Word v)))
-    as-register e l = rw e l
-
-    as-number : k ≡ 1 → Fits (cond (eqb k 1) (Number v) (cond (eqb k 2) (Register v) (Word v)))
-    as-number e = rw e tt
-
     second : (eqb k 1 ≡ true) ⊎ ((eqb k 2 && ltb v registerCount) ≡ true)
-        → Fits (cond (eqb k 1) (Number v) (cond (eqb k 2) (Register v) (Word v)))
-    second (inl e) = as-number (eqb-true k 1 e)
-    second (inr e) = let b = and-both (eqb k 2) (ltb v registerCount) e in as-register (eqb-true k 2 (b .0))
-        (ltb-true v registerCount (b .1))
+        → (k ≡ 1) ⊎ (((k ≡ 2) × (v < registerCount)) ⊎ ((k ≡ 3) × (v < wordCount)))
+    second (inl e) = inl (eqb-true k 1 e)
+    second (inr e) = let b = and-both (eqb k 2) (ltb v registerCount) e in inr (inl (eqb-true k 2 (b .0), ltb-true v registerCount (b .1)))
 
     first : ((eqb k 1 || (eqb k 2 && ltb v registerCount)) ≡ true) ⊎ ((eqb k 3 && ltb v wordCount) ≡ true)
-        → Fits (cond (eqb k 1) (Number v) (cond (eqb k 2) (Register v) (Word v)))
+        → (k ≡ 1) ⊎ (((k ≡ 2) × (v < registerCount)) ⊎ ((k ≡ 3) × (v < wordCount)))
     first (inl e) = second (or-cases (eqb k 1) (eqb k 2 && ltb v registerCount) e)
-    first (inr e) = let b = and-both (eqb k 3) (ltb v wordCount) e in as-word (eqb-true k 3 (b .0)) (ltb-true v wordCount (b .1))
+    first (inr e) = let b = and-both (eqb k 3) (ltb v wordCount) e in inr (inr (eqb-true k 3 (b .0), ltb-true v wordCount (b .1)))
+
+operand-fits : (k v : ℕ) → operandOk k v ≡ true → Fits (operandOf k v)
+unfolding operandOf
+operand-fits k v h = by (operand-kinds k v h)
+  where
+    by : (k ≡ 1) ⊎ (((k ≡ 2) × (v < registerCount)) ⊎ ((k ≡ 3) × (v < wordCount)))
+        → Fits (cond (eqb k 1) (Number v) (cond (eqb k 2) (Register v) (Word v)))
+    by (inl e) = rw e tt
+    by (inr (inl e)) = rw (e .0) (e .1)
+    by (inr (inr e)) = rw (e .0) (e .1)
 
 -- a test that holds of a run holds at each place of it
 all-at : (ok : ℕ → Bool) (i n : ℕ) → allFrom ok i n ≡ true → (k : ℕ) → k < n → ok (i + k) ≡ true

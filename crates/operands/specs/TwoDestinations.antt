@@ -1,35 +1,36 @@
 -- What an assignment with two destinations has, if its record breaks no rule: each is a register or a shared word, and they are not equal.
-use mathlib.Core.Path.{_≡_, sym, _∙_}
+use mathlib.Core.Path.{_≡_, refl, sym, _∙_, subst}
 use mathlib.Core.Logic.{_≢_, _⊎_, inl, inr}
-use mathlib.Core.Bool.{Bool, true, false, cond, not, _&&_, _||_, false≢true}
+use mathlib.Core.Bool.{Bool, true, false, cond, not, _&&_, false≢true}
+use mathlib.Core.Option.{Option, none}
 use mathlib.Core.List.{List}
 use Prim.Native.Nat.{ℕ, _+_, _≤_, _<_}
 use native.Mathlib.Omega.{arith}
-use lib.Dec.{eqb, leb, ltb}
+use lib.Dec.{eqb, leb}
 use borrow.Author.Tests.{eq-eqb, eqb-true, leb-true}
 use Rattle.rules.specs.Sizes.{registerCount, wordCount}
-use Rattle.rules.specs.Image.{operands, kind, value}
-use Rattle.rules.specs.Statements.{operandOf, operandAt, optional, shape, statementOf}
-use Rattle.rules.specs.Check.{operandOk}
+use Rattle.rules.specs.Codes.{divideCode}
+use Rattle.rules.specs.Image.{opcode, operator, operands, kind, value}
+use Rattle.rules.specs.Statements.{operandOf, operandAt, operationAt, otherAt, optional, shape, statementOf}
+use Rattle.rules.specs.Check.{otherOk, shapeOk, operandOk}
 use Rattle.rules.specs.declared.statement.Operand.the-variants.{Register, Word}
+use Rattle.rules.specs.declared.statement.Operation.{Operation}
 use Rattle.rules.specs.declared.statement.Assignment.{Assignment}
 use Rattle.rules.specs.declared.statement.Statement.the-variants.{Assign}
-use Rattle.laws.specs.Logic.{never, or-cases, and-both}
+use Rattle.laws.specs.Logic.{never, and-both}
+use Rattle.laws.specs.Heads.{head-fields}
 use Rattle.laws.specs.Passed.{Parts}
-use Rattle.operands.specs.Legal.{Fits, slot-ok}
+use Rattle.operands.specs.Legal.{Fits, operand-kinds, slot-ok}
 use Rattle.operands.specs.Statements.{Lands, lands, has, second-fits}
 
 -- an operand that is no number
 stores : (k v : ℕ) → operandOk k v ≡ true → 2 ≤ k → (k ≡ 2) ⊎ (k ≡ 3)
-stores k v h l = first (or-cases (eqb k 1 || (eqb k 2 && ltb v registerCount)) (eqb k 3 && ltb v wordCount) h)
+stores k v h l = by (operand-kinds k v h)
   where
-    second : (eqb k 1 ≡ true) ⊎ ((eqb k 2 && ltb v registerCount) ≡ true) → (k ≡ 2) ⊎ (k ≡ 3)
-    second (inl e) = absurd (omega (arith, eqb-true k 1 e))
-    second (inr e) = inl (eqb-true k 2 (and-both (eqb k 2) (ltb v registerCount) e .0))
-
-    first : ((eqb k 1 || (eqb k 2 && ltb v registerCount)) ≡ true) ⊎ ((eqb k 3 && ltb v wordCount) ≡ true) → (k ≡ 2) ⊎ (k ≡ 3)
-    first (inl e) = second (or-cases (eqb k 1) (eqb k 2 && ltb v registerCount) e)
-    first (inr e) = inr (eqb-true k 3 (and-both (eqb k 3) (ltb v wordCount) e .0))
+    by : (k ≡ 1) ⊎ (((k ≡ 2) × (v < registerCount)) ⊎ ((k ≡ 3) × (v < wordCount))) → (k ≡ 2) ⊎ (k ≡ 3)
+    by (inl e) = absurd (omega arith)
+    by (inr (inl e)) = inl (e .0)
+    by (inr (inr e)) = inr (e .0)
 
 -- two of them that are equal have the same kind and the same number
 same : (k v k′ v′ : ℕ) → (k ≡ 2) ⊎ (k ≡ 3) → (k′ ≡ 2) ⊎ (k′ ≡ 3) → operandOf k v ≡ operandOf k′ v′ → (k ≡ k′) × (v ≡ v′)
@@ -38,6 +39,18 @@ same k v k′ v′ (inl e) (inl f) h = let g : Register v ≡ Register v′ = rw
 same k v k′ v′ (inl e) (inr f) h = let g : Register v ≡ Word v′ = rw (e, f) at h in never (cc)
 same k v k′ v′ (inr e) (inl f) h = let g : Word v ≡ Register v′ = rw (e, f) at h in never (cc)
 same k v k′ v′ (inr e) (inr f) h = let g : Word v ≡ Word v′ = rw (e, f) at h in (e ∙ sym f, cc)
+
+-- DIVIDE has no operator
+pub no-operator : {image r : List ℕ} → Parts image r → opcode r ≡ divideCode → operator r ≡ 0
+unfolding operationAt otherOk otherAt
+no-operator {r = r} p e = case (eqb (operator r) 0) refl
+  where
+    case : (b : Bool) → eqb (operator r) 0 ≡ b → operator r ≡ 0
+    case true f = eqb-true (operator r) 0 f
+    case false f =
+        let none-found : operationAt (opcode r) (operator r) ≡ none = rw (e, f) in
+        let other : otherOk r ≡ true = subst (λ (k : Option Operation). shapeOk k r ≡ true) none-found (head-fields r (p .head) .shaped) in
+        absurd (false≢true (rw e at other))
 
 module _ {image r : List ℕ} (p : Parts image r) (a : Assignment) (e : statementOf r ≡ Assign a) (two : shape (a .operation) .second ≡ true)
   where

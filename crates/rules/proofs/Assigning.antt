@@ -1,6 +1,6 @@
 -- A step at a record of ASSIGN: the value that it stores in a register, or in a word of its block, over any operands and operator; and
 -- its traps, which store nothing.
-use mathlib.Core.Path.{_≡_, refl, ap, _∙_}
+use mathlib.Core.Path.{_≡_, refl, ap, _∙_, subst}
 use mathlib.Core.Logic.{_⊎_, inl, inr}
 use mathlib.Core.Bool.{Bool, true, false, cond}
 use mathlib.Core.Option.{Option, none, some}
@@ -19,7 +19,7 @@ use Rattle.rules.specs.Statements.{operandAt, operationAt, shape, option
 use Rattle.rules.specs.Machine.{Job, job, withHeld, idle, running, Machine, threadAt, stores, window, keep}
 use Rattle.rules.specs.Answers.{code, detail}
 use Rattle.rules.specs.Events.{step}
-use Rattle.rules.specs.Effects.{trap, got, Cells, read, readAll, one, compute, store, perform}
+use Rattle.rules.specs.Effects.{trap, got, Cells, read, readAll, Results, one, compute, store, assigned, perform}
 use Rattle.rules.specs.Storing.{length-window}
 use Rattle.rules.specs.Steps.{Reply, blockAt, rulesBy, blocked}
 use Rattle.rules.specs.declared.statement.Operand.{Operand}
@@ -128,49 +128,99 @@ second-absent c (Register r) q e = case (getD (c .registers) r none) refl
     case (some v) f = rw (f, e)
 second-absent c (Word w) q e = rw e
 
+-- ---- a step at a statement of ASSIGN's kind
+
+module _ (image table : List ℕ) (s : Machine) (t locks : ℕ) (j : Job) (a : Assignment) (busy : threadAt s t ≡ running locks j)
+    (statement : statementOf (recordAt image (j .label)) ≡ Assign a) where
+  module _ (p q : ℕ) (left : read (cellsOf image s j) (a .left) ≡ got p) (right : read (cellsOf image s j) (a .right) ≡ got q) where
+    runs : Runs image s t locks j (Assign a) (p ∷ q ∷ [])
+    unfolding readAll
+    runs = record { thread = busy; statement = statement; reading = rw (left, right) }
+
+    -- what is worked out is stored
+    module _ (x : Results) (computed : compute (a .operation) p q ≡ got x) where
+      abbrev after : Cells
+      after = assigned a x (cellsOf image s j)
+
+      abbrev next : Job
+      next = withHeld (j .held) (job (A image j) (j .returns) (after .registers))
+
+      pub goes-on : MovesOn (stepOf image table s t) t locks next
+      unfolding perform blocked
+      goes-on = moves-on image table runs next (after .words) none none (rw computed) refl
+
+      pub words-after : stepOf image table s t .state .words ≡ keep (blockAt image (j .label)) (after .words) (s .words)
+      unfolding perform blocked
+      words-after = own-words image table runs next (after .words) none none (rw computed) refl
+
+    pub traps : (reason : ℕ) → compute (a .operation) p q ≡ trap reason → TrapsWith (stepOf image table s t) s t reason
+    unfolding perform
+    traps reason computed = traps-with image table s t locks j reason busy (trapped image table runs reason (rw computed))
+
+  -- an absent register is found before anything is computed
+  pub reads-absent : (r : ℕ) → (a .left ≡ Register r) ⊎ (a .right ≡ Register r) → getD (j .registers) r none ≡ none
+      → TrapsWith (stepOf image table s t) s t 1
+  unfolding readAll
+  reads-absent r place absent =
+      traps-with image table s t locks j 1 busy (unread image table s t locks j (Assign a) 1 busy statement (either place))
+    where
+      either : (a .left ≡ Register r) ⊎ (a .right ≡ Register r) → readAll (cellsOf image s j) (a .left ∷ a .right ∷ []) ≡ trap 1
+      either (inl e) = rw (e, absent)
+      either (inr e) = second-absent (cellsOf image s j) (a .left) (a .right) (rw (e, absent))
+
 -- ---- an operation with the sources p and q and one destination
 
 module _ (image table : List ℕ) (s : Machine) (t locks : ℕ) (j : Job) (o : ℕ) (k : Operation) (named : operationAt assignCode o ≡ some k)
     (binary : shape k ≡ record { second = false; right = true }) where
-  abbrev a : Assignment
-  a = assignmentOf k (recordAt image (j .label))
+  abbrev r : List ℕ
+  r = recordAt image (j .label)
+
+  found : opcode r ≡ assignCode → operator r ≡ o → statementOf r ≡ Assign (assignmentOf k r)
+  unfolding statementOf
+  found e f = rw (e, f, named)
 
   module _ (p q : ℕ) (d : Operand) (h : Assigns image s t locks j o d p q) where
-    runs : Runs image s t locks j (Assign a) (p ∷ q ∷ [])
-    unfolding statementOf readAll assignmentBy optional
-    runs = record {
-      thread = h .thread;
-      statement = rw (h .assign, h .operation, named);
-      reading = rw (binary, h .left, h .right);
-    }
+    sources : (read (cellsOf image s j) (assignmentOf k r .left) ≡ got p) × (read (cellsOf image s j) (assignmentOf k r .right) ≡ got q)
+    unfolding assignmentBy optional
+    sources = (rw (binary, h .left), rw (binary, h .right))
+
+    one-stored : (v : ℕ) → assigned (assignmentOf k r) (record { first = v; second = 0 }) (cellsOf image s j)
+        ≡ store d v (cellsOf image s j)
+    unfolding assignmentBy optional
+    one-stored v = rw (binary, h .destination)
+
+    traps-of : (reason : ℕ) → compute k p q ≡ trap reason → TrapsWith (stepOf image table s t) s t reason
+    unfolding assignmentBy
+    traps-of =
+        traps image table s t locks j (assignmentOf k r) (h .thread) (found (h .assign) (h .operation)) p q (sources .0) (sources .1)
 
     module _ (v : ℕ) (computed : compute k p q ≡ one v) where
       abbrev left : Cells
       left = store d v (cellsOf image s j)
 
-      abbrev next : Job
-      next = withHeld (j .held) (job (A image j) (j .returns) (left .registers))
+      after-one : MovesOn (stepOf image table s t) t locks (withHeld (j .held) (job (A image j) (j .returns) (left .registers)))
+      unfolding assignmentBy
+      after-one =
+          subst (λ (c : Cells). MovesOn (stepOf image table s t) t locks (withHeld (j .held) (job (A image j) (j .returns) (c .registers))))
+          (one-stored v)
+          (goes-on image table s t locks j (assignmentOf k r) (h .thread) (found (h .assign) (h .operation)) p q (sources .0) (sources .1) _
+          computed)
 
-      after : MovesOn (stepOf image table s t) t locks next
-      unfolding perform blocked assignmentBy optional
-      after = moves-on image table runs next (left .words) none none (rw (computed, binary, h .destination)) refl
-
-      words : stepOf image table s t .state .words ≡ keep (blockAt image (j .label)) (left .words) (s .words)
-      unfolding perform blocked assignmentBy optional
-      words = own-words image table runs next (left .words) none none (rw (computed, binary, h .destination)) refl
-
-    traps : (reason : ℕ) → compute k p q ≡ trap reason → TrapsWith (stepOf image table s t) s t reason
-    unfolding perform assignmentBy optional
-    traps reason computed = traps-with image table s t locks j reason (h .thread) (trapped image table runs reason (rw computed))
+      words-of : stepOf image table s t .state .words ≡ keep (blockAt image (j .label)) (left .words) (s .words)
+      unfolding assignmentBy
+      words-of =
+          words-after image table s t locks j (assignmentOf k r) (h .thread) (found (h .assign) (h .operation)) p q (sources .0)
+          (sources .1) _ computed
+          ∙ ap (λ (c : Cells). keep (blockAt image (j .label)) (c .words) (s .words)) (one-stored v)
 
   stores-value : (p q v : ℕ) → compute k p q ≡ one v → Stores image table s t locks j o p q v
   stores-value p q v computed = record {
-    register = λ r l h.
-        let m = after p q (Register r) h v computed in
-        record { answer = m .answer; value = rw (m .thread) (getD-set-same (j .registers) r (some v) none l) };
+    register = λ n l h.
+        let m = after-one p q (Register n) h v computed in
+        record { answer = m .answer; value = rw (m .thread) (getD-set-same (j .registers) n (some v) none l) };
     word = λ w l n h.
-        let m = after p q (Word w) h v computed in
-        let e = words p q (Word w) h v computed in
+        let m = after-one p q (Word w) h v computed in
+        let e = words-of p q (Word w) h v computed in
         let b = blockAt image (j .label) in
         let own = window b (s .words) in
         let z : w < length own = omega (arith, length-window b (s .words)) in
@@ -178,18 +228,15 @@ module _ (image table : List ℕ) (s : Machine) (t locks : ℕ) (j : Job) (o : �
         record { answer = m .answer; value = rw e (there ∙ getD-set-same own w v 0 z) };
   }
 
-  -- an absent register is found before anything is computed
-  reads-absent : (i r : ℕ) → ReadsAbsent image s t locks j o i r → TrapsWith (stepOf image table s t) s t 1
-  unfolding statementOf readAll assignmentBy optional
-  reads-absent i r h =
-      traps-with image table s t locks j 1 (h .thread)
-      (unread image table s t locks j (Assign a) 1 (h .thread) (rw (h .assign, h .operation, named)) (rw binary (either (h .place))))
+  absent-of : (i n : ℕ) → ReadsAbsent image s t locks j o i n → TrapsWith (stepOf image table s t) s t 1
+  unfolding assignmentBy optional
+  absent-of i n h =
+      reads-absent image table s t locks j (assignmentOf k r) (h .thread) (found (h .assign) (h .operation)) n (either (h .place))
+      (h .absent)
     where
-      either : (i ≡ 1) ⊎ (i ≡ 2) → readAll (cellsOf image s j) (operand image j 1 ∷ operand image j 2 ∷ []) ≡ trap 1
-      either (inl e) = let f : operand image j 1 ≡ Register r = rw e at (h .source) in rw (f, h .absent)
-      either (inr e) =
-          let f : operand image j 2 ≡ Register r = rw e at (h .source) in
-          second-absent (cellsOf image s j) (operand image j 1) (operand image j 2) (rw (f, h .absent))
+      either : (i ≡ 1) ⊎ (i ≡ 2) → (assignmentOf k r .left ≡ Register n) ⊎ (assignmentOf k r .right ≡ Register n)
+      either (inl e) = inl (rw binary (rw e at (h .source)))
+      either (inr e) = inr (rw binary (rw e at (h .source)))
 
 -- ---- add and multiply, each modulo 65,536
 
@@ -220,8 +267,8 @@ module _ (image table : List ℕ) (s : Machine) (t locks : ℕ) (j : Job) where
   pub below-zero : (p q : ℕ) → p < q → (d : Operand) → Assigns image s t locks j subtractCode d p q
       → TrapsWith (stepOf image table s t) s t 7
   unfolding operationAt
-  below-zero p q l d h = traps image table s t locks j subtractCode Subtract refl refl p q d h 7 (compute-subtract p q true (lt-ltb p q l))
+  below-zero p q l d h = traps-of image table s t locks j subtractCode Subtract refl refl p q d h 7 (compute-subtract p q true (lt-ltb p q l))
 
   pub absent-first : (i r : ℕ) → ReadsAbsent image s t locks j subtractCode i r → TrapsWith (stepOf image table s t) s t 1
   unfolding operationAt
-  absent-first = reads-absent image table s t locks j subtractCode Subtract refl refl
+  absent-first = absent-of image table s t locks j subtractCode Subtract refl refl

@@ -7,7 +7,7 @@ use mathlib.Core.Option.{Option, none, some}
 use mathlib.Core.List.{List, [], _∷_}
 use Prim.Native.Nat.{ℕ, zero, suc, _+_, _*_, _≤_, _<_}
 use native.Mathlib.Omega.{arith}
-use lib.ListN.{length, getD, length-set}
+use lib.ListN.{length, getD}
 use lib.Dec.{eqb}
 use borrow.Author.Tests.{eq-eqb, ne-eqb, lt-ltb, le-leb}
 use Rattle.rules.specs.Sizes.{wordCount}
@@ -18,19 +18,19 @@ use Rattle.rules.specs.Check.{assignOk, otherOk, shapeOk, headOk, ruleOk
 use Rattle.rules.specs.Check.{recordFault, firstOf}
 use Rattle.rules.specs.Calls.{checkReturn}
 use Rattle.rules.specs.Machine.{Job, job, withHeld, running, Machine, threadAt, keep}
-use Rattle.rules.specs.Effects.{trap, got, Cells, present, read, readAll, both, compute, store, perform}
-use Rattle.rules.specs.Steps.{Reply, blockAt, blocked}
+use Rattle.rules.specs.Effects.{got, Cells, present, read, both, compute, store}
+use Rattle.rules.specs.Steps.{Reply, blockAt}
 use Rattle.rules.specs.Division.{computed, by-zero}
-use Rattle.rules.specs.Storing.{Place, length-window, place-stored, first-stored, second-stored}
+use Rattle.rules.specs.Storing.{Place, length-window, length-words, place-stored, first-stored, second-stored}
 use Rattle.rules.specs.declared.statement.Operand.{Operand}
 use Rattle.rules.specs.declared.statement.Operand.the-variants.{Number, Register, Word}
 use Rattle.rules.specs.declared.statement.Operation.{Operation}
 use Rattle.rules.specs.declared.statement.Operation.the-variants.{Divide}
 use Rattle.rules.specs.declared.statement.Assignment.{Assignment}
 use Rattle.rules.specs.declared.statement.Statement.the-variants.{Assign}
-use Rattle.rules.proofs.Running.{cellsOf, Runs, Answered, MovesOn, unread, trapped, moves-on, own-words}
+use Rattle.rules.proofs.Running.{cellsOf, MovesOn}
 use Rattle.rules.proofs.Opcodes.{stepOf, A, register}
-use Rattle.rules.proofs.Assigning.{operand, TrapsWith, kept, traps-with, second-absent}
+use Rattle.rules.proofs.Assigning.{operand, TrapsWith, kept, goes-on, words-after, traps, reads-absent}
 
 -- thread t holds these locks and runs this job, at whose label a record of opcode 12 stands, which has no operator
 pub record AtDivide (image : List ℕ) (s : Machine) (t locks : ℕ) (j : Job) : Type 0 where
@@ -52,22 +52,18 @@ Stands m t b (Number n) v = ⊥
 Stands m t b (Register r) v = register (threadAt m t) r ≡ some v
 Stands m t b (Word w) v = getD (m .words) (wordCount * b + w) 0 ≡ v
 
--- an answer of 6, 0, after which both values stand in their destinations
-pub record BothStand (reply : Reply) (t b : ℕ) (d e : Operand) (u v : ℕ) : Type 0 where
-  pub answer : Answered reply 6 0
-  pub quotient : Stands (reply .state) t b d u
-  pub remainder : Stands (reply .state) t b e v
+-- an answer of 6, 0, after which the job is at A, and both values stand in their destinations
+pub record BothStand (image : List ℕ) (reply : Reply) (t locks : ℕ) (j : Job) (d e : Operand) (u v : ℕ) : Type 0 where
+  pub registers : List (Option ℕ)
+  pub onward : MovesOn reply t locks (withHeld (j .held) (job (A image j) (j .returns) registers))
+  pub quotient : Stands (reply .state) t (blockAt image (j .label)) d u
+  pub remainder : Stands (reply .state) t (blockAt image (j .label)) e v
 
 -- ---- where a value stands
 
 present-some : (o : Option ℕ) (v : ℕ) → present o ≡ got v → o ≡ some v
 present-some none v h = cc
 present-some (some u) v h = cc
-
-length-words : (c : Cells) (d : Operand) (v : ℕ) → length (store d v c .words) ≡ length (c .words)
-length-words c (Number n) v = refl
-length-words c (Register r) v = refl
-length-words c (Word w) v = length-set (c .words) w v
 
 -- what the cells of a step have, the machine after it has
 stands : (m : Machine) (t b : ℕ) (c : Cells) (words : List ℕ) (d : Operand) (v : ℕ) → ((r : ℕ) → register (threadAt m t) r
@@ -92,25 +88,36 @@ module _ (image table : List ℕ) (s : Machine) (t locks : ℕ) (j : Job) where
   unfolding statementOf operationAt
   statement h = rw (h .divide, h .plain)
 
+  absent : (i r : ℕ) → (i ≡ 2) ⊎ (i ≡ 3) → AtDivide image s t locks j → operand image j i ≡ Register r
+      → getD (j .registers) r none ≡ none → TrapsWith (stepOf image table s t) s t 1
+  unfolding assignmentBy optional
+  absent i r place h source = reads-absent image table s t locks j a (h .thread) (statement h) r (either place)
+    where
+      either : (i ≡ 2) ⊎ (i ≡ 3) → (a .left ≡ Register r) ⊎ (a .right ≡ Register r)
+      either (inl e) = inl (rw e at source)
+      either (inr e) = inr (rw e at source)
+
   module _ (d e : Operand) (p q : ℕ) (h : Divides image s t locks j d e p q) where
-    runs : Runs image s t locks j (Assign a) (p ∷ q ∷ [])
-    unfolding readAll assignmentBy optional
-    runs = record { thread = h .here .thread; statement = statement (h .here); reading = rw (h .left, h .right) }
+    by-zero-traps : q ≡ 0 → TrapsWith (stepOf image table s t) s t 8
+    unfolding assignmentBy optional
+    by-zero-traps z =
+        traps image table s t locks j a (h .here .thread) (statement (h .here)) p q (h .left) (h .right) 8 (rw z (by-zero p))
 
     module _ (u v : ℕ) (f : compute Divide p q ≡ both u v) where
       abbrev left : Cells
       left = store e v (store d u (cellsOf image s j))
 
-      abbrev next : Job
-      next = withHeld (j .held) (job (A image j) (j .returns) (left .registers))
-
-      after : MovesOn (stepOf image table s t) t locks next
-      unfolding perform blocked assignmentBy optional
-      after = moves-on image table runs next (left .words) none none (rw (f, h .quotient, h .remainder)) refl
+      after : MovesOn (stepOf image table s t) t locks (withHeld (j .held) (job (A image j) (j .returns) (left .registers)))
+      unfolding assignmentBy optional
+      after =
+          rw (h .quotient, h .remainder) at
+          (goes-on image table s t locks j a (h .here .thread) (statement (h .here)) p q (h .left) (h .right) _ f)
 
       words : stepOf image table s t .state .words ≡ keep own (left .words) (s .words)
-      unfolding perform blocked assignmentBy optional
-      words = own-words image table runs next (left .words) none none (rw (f, h .quotient, h .remainder)) refl
+      unfolding assignmentBy optional
+      words =
+          rw (h .quotient, h .remainder) at
+          (words-after image table s t locks j a (h .here .thread) (statement (h .here)) p q (h .left) (h .right) _ f)
 
       sized : length (left .words) ≡ wordCount
       sized = length-words (store d u (cellsOf image s j)) e v ∙ length-words (cellsOf image s j) d u ∙ length-window own (s .words)
@@ -124,16 +131,13 @@ module _ (image table : List ℕ) (s : Machine) (t locks : ℕ) (j : Job) where
             stands (stepOf image table s t .state) t own left (s .words) z n (λ r. rw (after .thread)) words sized inside
             (place-stored (store d u (cellsOf image s j)) z e v (place-stored (cellsOf image s j) z d u k))
 
-        both-stand : BothStand (stepOf image table s t) t own d e u v
+        both-stand : BothStand image (stepOf image table s t) t locks j d e u v
         both-stand = record {
-          answer = after .answer;
+          registers = left .registers;
+          onward = after;
           quotient = placed d u x (first-stored (cellsOf image s j) d e u v differ x);
           remainder = placed e v y (second-stored (cellsOf image s j) d e u v differ y);
         }
-
-    traps : (reason : ℕ) → compute Divide p q ≡ trap reason → TrapsWith (stepOf image table s t) s t reason
-    unfolding perform assignmentBy optional
-    traps reason f = traps-with image table s t locks j reason (h .here .thread) (trapped image table runs reason (rw f))
 
 -- ---- faulty records
 
@@ -153,7 +157,7 @@ first-bad ok i (suc n) (suc l) h before here =
     rw e (first-bad ok (i + 1) n l (omega arith) next there ∙ z)
 
 -- a record of opcode 12 whose destinations have the same kind and the same number
-pub record Equal (r : List ℕ) : Type 0 where
+pub record EqualDestinations (r : List ℕ) : Type 0 where
   pub divide : opcode r ≡ 12
   pub kinds : kind r 0 ≡ kind r 1
   pub numbers : value r 0 ≡ value r 1
@@ -175,7 +179,7 @@ faulty r e h = rw (case (eqb (operator r) 0) refl, and-false)
         let none-found : operationAt (opcode r) (operator r) ≡ none = rw (e, f) in
         ap (λ (k : Option Operation). shapeOk k r) none-found ∙ no-other r e
 
-equal-faulty : (image : List ℕ) (l : ℕ) → Equal (recordAt image l) → recordOk image l ≡ false
+equal-faulty : (image : List ℕ) (l : ℕ) → EqualDestinations (recordAt image l) → recordOk image l ≡ false
 unfolding recordOk ruleOk assignOk
 equal-faulty image l h =
     let r = recordAt image l in
@@ -198,13 +202,13 @@ pub record Divisions (image table : List ℕ) (s : Machine) (t locks : ℕ) (j :
   -- "stores both results together, with p = q × quotient + remainder and remainder below q": to any two destinations that are not equal
   pub divides : (p q u v : ℕ) → p ≡ q * u + v → v < q → (d e : Operand) → d ≢ e → Place (cellsOf image s j) d → Place (cellsOf image s j) e
       → 16 * blockAt image (j .label) + 16 ≤ length (s .words) → Divides image s t locks j d e p q
-      → BothStand (stepOf image table s t) t (blockAt image (j .label)) d e u v
+      → BothStand image (stepOf image table s t) t locks j d e u v
   -- "A zero q traps with reason 8, after 7, and stores neither": and an absent register, operand 2 or 3, is found before it
   pub zero-divisor : (p : ℕ) (d e : Operand) → Divides image s t locks j d e p 0 → TrapsWith (stepOf image table s t) s t 8
   pub absent-first : (i r : ℕ) → (i ≡ 2) ⊎ (i ≡ 3) → AtDivide image s t locks j → operand image j i ≡ Register r
       → getD (j .registers) r none ≡ none → TrapsWith (stepOf image table s t) s t 1
   -- "Equal destinations make the record faulty under number 4": at the first label that has them, if no record before it is faulty
-  pub equal-destinations : (l : ℕ) → l < labels image → Equal (recordAt image l) → ((i : ℕ) → i < l → recordOk image i ≡ true)
+  pub equal-destinations : (l : ℕ) → l < labels image → EqualDestinations (recordAt image l) → ((i : ℕ) → i < l → recordOk image i ≡ true)
       → imageLengthFault image ≡ 0 → tableLengthFault table ≡ 0 → tableFault table ≡ 0 → checkReturn image table ≡ 65536 * 4 + l
   -- a number as a destination, and another count of operands than four, make it faulty too
   pub number-destination : (r : List ℕ) → opcode r ≡ 12 → (kind r 0 ≡ 1) ⊎ (kind r 1 ≡ 1) → headOk r ≡ false
@@ -213,22 +217,7 @@ pub record Divisions (image table : List ℕ) (s : Machine) (t locks : ℕ) (j :
   pub other-destinations : (r : List ℕ) → opcode r ≡ 12 → operator r ≡ 0 → blockField r < 16 → entry r < 4 → operands r ≡ 4
       → 2 ≤ kind r 0 → 2 ≤ kind r 1 → (kind r 0 ≢ kind r 1) ⊎ (value r 0 ≢ value r 1) → headOk r ≡ true
 
-module _ (image table : List ℕ) (s : Machine) (t locks : ℕ) (j : Job) where
-  absent : (i r : ℕ) → (i ≡ 2) ⊎ (i ≡ 3) → AtDivide image s t locks j → operand image j i ≡ Register r
-      → getD (j .registers) r none ≡ none → TrapsWith (stepOf image table s t) s t 1
-  unfolding readAll assignmentBy optional
-  absent i r place h source none-there =
-      traps-with image table s t locks j 1 (h .thread)
-      (unread image table s t locks j (Assign (a image table s t locks j)) 1 (h .thread) (statement image table s t locks j h)
-      (either place))
-    where
-      either : (i ≡ 2) ⊎ (i ≡ 3) → readAll (cellsOf image s j) (operand image j 2 ∷ operand image j 3 ∷ []) ≡ trap 1
-      either (inl e) = let f : operand image j 2 ≡ Register r = rw e at source in rw (f, none-there)
-      either (inr e) =
-          let f : operand image j 3 ≡ Register r = rw e at source in
-          second-absent (cellsOf image s j) (operand image j 2) (operand image j 3) (rw (f, none-there))
-
-equal-refused : (image table : List ℕ) (l : ℕ) → l < labels image → Equal (recordAt image l) → ((i : ℕ) → i < l → recordOk image i ≡ true)
+equal-refused : (image table : List ℕ) (l : ℕ) → l < labels image → EqualDestinations (recordAt image l) → ((i : ℕ) → i < l → recordOk image i ≡ true)
     → imageLengthFault image ≡ 0 → tableLengthFault table ≡ 0 → tableFault table ≡ 0 → checkReturn image table ≡ 65536 * 4 + l
 unfolding checkReturn recordFault firstOf
 equal-refused image table l h f before x y z =
@@ -264,7 +253,7 @@ divisions image table s t locks j = record {
   divides = λ p q u v w b d e differ x y inside h.
       let f = computed p q u v (record { whole = w; below = b }) in
       both-stand image table s t locks j d e p q h u v f differ inside x y;
-  zero-divisor = λ p d e h. traps image table s t locks j d e p 0 h 8 (by-zero p);
+  zero-divisor = λ p d e h. by-zero-traps image table s t locks j d e p 0 h refl;
   absent-first = absent image table s t locks j;
   equal-destinations = equal-refused image table;
   number-destination = number-faulty;

@@ -1,4 +1,4 @@
--- The marked trials of docs/PROMISES.md, as one table, and what they are proved with.
+-- The marked trials of docs/PROMISES.md, as one table, `trials`, those of division, `divisions`, and what they are proved with.
 pub mod Running
 pub mod Ends
 pub mod Opcodes

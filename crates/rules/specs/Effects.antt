@@ -198,7 +198,7 @@ overflow v Transfer = none
 overflow v Exit = none
 overflow v SendTree = cond (leb heldCount (v .held)) (some heldFullCode) none
 
--- ASSIGN computes and stores
+-- ASSIGN and DIVIDE compute and store
 abbrev pub worked : Statement → List ℕ → Cells → Got Cells
 worked Skip vs c = got c
 worked (Assign a) vs c = then (compute (a .operation) (getD vs 0 0) (getD vs 1 0)) (λ x. got (assigned a x c))

@@ -155,8 +155,8 @@ pub record Usage : Type 0 where
 abbrev uses : ℕ → Sources → Way → Usage
 uses n s w = record { operators = n; sources = s; way = w }
 
--- ASSIGN reads p and q, not its destinations (its operators are those of `forms`); IF reads p and q; opcodes 5 to 9, and 11, read their
--- data
+-- ASSIGN and DIVIDE read p and q, not their destinations (their operators are those of `forms`); IF reads p and q; opcodes 5 to 9, and
+-- 11, read their data
 abbrev pub usage : Statement → Usage
 usage Skip = uses 0 nothing following
 usage (Assign a) = uses 0 (pair (a .left) (a .right)) following

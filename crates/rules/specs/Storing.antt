@@ -47,6 +47,11 @@ place-stored c (Word w) (Number n) v h = h
 place-stored c (Word w) (Register s) v h = h
 place-stored c (Word w) (Word x) v h = rw (length-set (c .words) x v) h
 
+pub length-words : (c : Cells) (d : Operand) (v : ℕ) → length (store d v c .words) ≡ length (c .words)
+length-words c (Number n) v = refl
+length-words c (Register r) v = refl
+length-words c (Word w) v = length-set (c .words) w v
+
 module _ (c : Cells) (d e : Operand) (u v : ℕ) (differ : d ≢ e) where
   pub first-stored : Place c d → read (store e v (store d u c)) d ≡ got u
   first-stored h = read-other (store d u c) d e v differ ∙ read-stored c d u h

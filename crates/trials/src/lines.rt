@@ -11,7 +11,7 @@ use crate::text::after;
 use crate::text::begins;
 use crate::text::next;
 
-// The bytes that a file may have: the longest has 131,823.
+// The bytes that are read of a file. The lines behind them would be missing from the counts.
 const TEXT: usize = 163840;
 
 // Whether the line is a trial of `call`, and no comment.

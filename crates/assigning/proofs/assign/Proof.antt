@@ -20,12 +20,12 @@ returns c =
 
 returns-2 : tie.Need-returns-2
 returns-2 c =
-    let store-both = c .before .before .store-both in
+    let store-results = c .before .before .store-results in
     let if1 = c .before .before .before .before .if1 in
     let results = c .before .before .before .before .before .before .results-of in
     let s = c .before .before .before .before .before .before .before .before .before .before .before .before in
     assigned-stepped (s .pre .0) (s .args .a) (s .pre .1) (results .result .first) (results .result .second)
-    (results .ensures .values (if1 .left)) (store-both .ensures)
+    (results .ensures .values (if1 .left)) (store-results .ensures)
 
 pub assign-spec : {M : Type 1} → statement M
 assign-spec =

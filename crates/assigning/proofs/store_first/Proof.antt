@@ -1,0 +1,57 @@
+use Rattle.rules.specs.Encoding.{machineFrom}
+use Rattle.rules.specs.declared.statement.Statement.the-variants.{Assign}
+use Rattle.encoding.specs.Encoded.{encoded-canonical}
+use Rattle.step_ready.specs.At.{label-A, small}
+use Rattle.assigning.specs.Destinations.{register-stored, first-written}
+use Rattle.assigning.specs.Assigned.{legal, one-changed}
+use borrow.Author.Needs.{needs}
+use Rattle.assigning.proofs.store_first.Statement.{statement}
+use Rattle.assigning.proofs.store_first.Tie as tie
+
+move-on-requires : tie.Need-move-on-requires
+move-on-requires c κs =
+    let s = c .before .before .before .before .before .before in
+    let h = s .pre .0 in
+    (h .thread, rw (c .label-a .ensures) (small h _ (label-A h (Assign (s .args .a)) (s .pre .1))))
+
+store-register-requires : tie.Need-store-register-requires
+store-register-requires c κs =
+    let s = c .before .before .before .before .before .before .before in
+    (c .move-on .ensures .running, legal (s .pre .0) (s .args .a) (s .pre .1) .first)
+
+write-one-requires : tie.Need-write-one-requires
+write-one-requires c κs =
+    let s = c .before .before .before .before .before .before .before .before .before in
+    let h = s .pre .0 in
+    let a = s .args .a in
+    let runs = register-stored (a .first) (s .args .u) (c .before .before .move-on .ensures) (c .before .store-register .ensures) in
+    (h .ready .canonical, h .inside, runs .running, one-changed h (a .first) (s .args .u) (legal h a (s .pre .1) .first) runs)
+
+store-word-requires : tie.Need-store-word-requires
+store-word-requires c κs =
+    let s = c .before .before .before .before .before .before .before .before .before .before .before .before .before in
+    let h = s .pre .0 in
+    (encoded-canonical _ _ (c .before .before .before .write-one .ensures), rw (c .before .before .before .before .before .before .before .before .block-field .ensures) (h .readable .block), legal h (s .args .a) (s .pre .1) .first)
+
+returns : tie.Need-returns
+returns c =
+    let s = c .before .before .before .before .before .before .before .before .before .before .before .before .before .before .before .before in
+    let a = s .args .a in
+    let runs = register-stored (a .first) (s .args .u) (c .before .before .before .before .before .before .before .before .before .move-on .ensures) (c .before .before .before .before .before .before .before .before .store-register .ensures) in (
+      rw (c .before .before .before .before .before .before .before .before .before .before .label-a .ensures) at runs,
+      first-written (machineFrom (s .args .state .now)) (s .args .t .0) _ (c .before .before .before .before .before .before .before .before .store-register .result) (a .first) (s .args .u)
+          (c .before .before .before .before .before .before .write-one .ensures) (rw (c .before .before .before .before .before .before .before .before .before .before .before .block-field .ensures) at (c .before .before .store-word .ensures)),
+    )
+
+pub store-first-spec : {M : Type 1} → statement M
+store-first-spec =
+    tie.close
+    (tie.spec
+    (λ c κs. search needs)
+    (λ c κs. search needs)
+    move-on-requires
+    store-register-requires
+    write-one-requires
+    store-word-requires
+    (λ c. search needs)
+    returns)
