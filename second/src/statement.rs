@@ -12,6 +12,13 @@ pub enum Place {
     Word(u8),
 }
 
+impl Place {
+    /// The block's word with this number, which is below 16.
+    pub fn word_of(block: Block, number: usize) -> Place {
+        Place::Word((Block::WORDS * block.index() + number) as u8)
+    }
+}
+
 #[derive(Clone, Copy, Debug)]
 pub enum Operand {
     Number(u16),
@@ -122,10 +129,7 @@ impl Operand {
         match kind {
             1 => Some(Operand::Number(value)),
             2 if number < Registers::COUNT => Some(Operand::Kept(Place::Register(value as u8))),
-            3 if number < Block::WORDS => {
-                let word = Block::WORDS * block.index() + number;
-                Some(Operand::Kept(Place::Word(word as u8)))
-            }
+            3 if number < Block::WORDS => Some(Operand::Kept(Place::word_of(block, number))),
             _ => None,
         }
     }

@@ -128,9 +128,8 @@ fn advance(program: &Program, state: &mut State, thread: Thread, job: Job) -> Re
             Ok(store(state, job, *to, value).at(*on))
         }
         Statement::Divide { division, on } => {
-            let (quotient, remainder) = sight.divide(division)?;
-            let job = store(state, job, division.quotient, quotient);
-            Ok(store(state, job, division.remainder, remainder).at(*on))
+            let results = sight.divide(division)?;
+            Ok(store_both(state, job, division, results).at(*on))
         }
         Statement::If { test, holds, fails } => {
             let next = if sight.holds(test)? { holds } else { fails };
@@ -224,6 +223,17 @@ fn store(state: &mut State, job: Job, to: Place, value: u16) -> Job {
             job
         }
     }
+}
+
+/// The places are different: neither result takes the other's.
+fn store_both(
+    state: &mut State,
+    job: Job,
+    to: &Division,
+    (quotient, remainder): (u16, u16),
+) -> Job {
+    let job = store(state, job, to.quotient, quotient);
+    store(state, job, to.remainder, remainder)
 }
 
 fn held_by_another(state: &State, lock: Lock, thread: Thread) -> bool {

@@ -1,6 +1,6 @@
 //! Damage to what a call is lent. Some damaged calls are still accepted.
 
-use super::division_damage::change_image;
+use super::division_damage::change_division;
 use super::events::thread;
 use super::lock_damage::change_locks;
 use super::random::Random;
@@ -121,9 +121,7 @@ fn drawn_held(random: &mut Random, image: &[u8]) -> Vec<u8> {
 /// another entry, or the first that no record has.
 fn held_label(random: &mut Random, image: &[u8]) -> u16 {
     let entry = random.weighted(&[1, 1, 12, 1]);
-    let records = (0..).zip(image.chunks_exact(Record::WIDTH));
-    let fitting = records.filter(|(_, record)| usize::from(record[2]) == entry);
-    let labels: Vec<u16> = fitting.map(|(label, _)| label).collect();
+    let labels = labels_where(image, |record| usize::from(record[2]) == entry);
     let beyond = (image.len() / Record::WIDTH) as u16;
     if random.once_in(16) {
         beyond
@@ -132,9 +130,27 @@ fn held_label(random: &mut Random, image: &[u8]) -> u16 {
     }
 }
 
+/// Changes any record, or at times one that divides.
+pub fn change_image(random: &mut Random, image: &mut [u8]) {
+    let dividing = labels_where(image, |record| record[0] == 12);
+    match random.pick(&dividing).filter(|_| random.once_in(4)) {
+        Some(label) => {
+            let record = &mut image[Record::WIDTH * usize::from(label)..][..Record::WIDTH];
+            change_division(random, record);
+        }
+        None => change_records(random, image, Record::WIDTH),
+    }
+}
+
+/// The labels of the records that fit.
+fn labels_where(image: &[u8], fits: impl Fn(&[u8]) -> bool) -> Vec<u16> {
+    let records = (0..).zip(image.chunks_exact(Record::WIDTH));
+    records.filter(|(_, record)| fits(record)).map(|(label, _)| label).collect()
+}
+
 /// Flips a bit or sets a byte of one of the records of this width, or copies
 /// or swaps two; nothing if there is none.
-pub fn change_records(random: &mut Random, bytes: &mut [u8], width: usize) {
+fn change_records(random: &mut Random, bytes: &mut [u8], width: usize) {
     let count = bytes.len() / width;
     if count == 0 {
         return;

@@ -1,8 +1,6 @@
-//! Damage to the records of an image, and to those that divide.
+//! Damage to records that divide.
 
-use super::damage::change_records;
 use super::random::Random;
-use crate::image::Record;
 use crate::statement::OPERAND_WIDTH;
 
 /// Where in a record these stand.
@@ -11,23 +9,10 @@ const LABEL_B: usize = 6;
 const OPERAND_COUNT: usize = 8;
 const OPERANDS: usize = 9;
 
-/// Changes any record, or at times one that divides.
-pub fn change_image(random: &mut Random, image: &mut [u8]) {
-    let records = image.chunks_exact(Record::WIDTH).enumerate();
-    let dividing = records.filter(|(_, record)| record[0] == 12);
-    let labels: Vec<usize> = dividing.map(|(label, _)| label).collect();
-    match random.pick(&labels).filter(|_| random.once_in(4)) {
-        Some(label) => {
-            change_division(random, &mut image[Record::WIDTH * label..][..Record::WIDTH])
-        }
-        None => change_records(random, image, Record::WIDTH),
-    }
-}
-
 /// Gives a record that divides equal destinations, a register and a word of one
 /// number, which are not equal, a number for a destination, three or five
 /// operands, an operator or a label B.
-fn change_division(random: &mut Random, record: &mut [u8]) {
+pub fn change_division(random: &mut Random, record: &mut [u8]) {
     let operand = |place| OPERANDS + OPERAND_WIDTH * place;
     match random.below(7) {
         0 => record.copy_within(operand(0)..operand(1), operand(1)),

@@ -1,6 +1,6 @@
 //! Trials that generated machines meet every case of held signals.
 
-use super::trials::{each_event, faults_met};
+use super::trials::{each_event, faults_met, u16_at};
 use super::{only_held_changed, Lent};
 use crate::events::Event;
 use crate::step::carry_out;
@@ -60,8 +60,7 @@ fn fault(image: &[u8], thread: &[u8]) -> Option<&'static str> {
 }
 
 fn signal_fault(image: &[u8], signal: &[u8]) -> Option<&'static str> {
-    let label = u16::from_le_bytes([signal[0], signal[1]]);
-    let Some(record) = image.chunks(84).nth(label.into()) else {
+    let Some(record) = image.chunks(84).nth(u16_at(signal, 0).into()) else {
         return Some("label beyond the image");
     };
     let Some(unused) = signal[3..].get(2 * usize::from(signal[2])..) else {

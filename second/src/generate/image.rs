@@ -49,6 +49,8 @@ struct Draft {
 /// The weights of the opcodes, 1 first, at each position.
 type Weights = [[usize; 12]; 3];
 
+/// The signals, 6, 7 and 11, weigh so much beside the opcodes that compute, 2, 4
+/// and 12, that return labels, trees, held signals and the list of trees get full.
 const USUAL_WEIGHTS: Weights = [
     [1, 6, 1, 3, 1, 6, 13, 0, 1, 0, 7, 3],
     [0, 0, 0, 0, 3, 0, 0, 8, 2, 1, 0, 0],
@@ -69,8 +71,9 @@ impl Draft {
         &self.slots[at.index()]
     }
 
-    /// Within a routine, what the record before has set to a number is mostly
-    /// an operand of a subtraction or a division.
+    /// Within a routine, what the record before has set to a number is nearly
+    /// always an operand of a subtraction or a division: few of their other
+    /// operands are registers, and each edge is to be met with one.
     fn record(&self, random: &mut Random, at: Label, before: Option<&Record>) -> Record {
         let Slot { block, entry, position } = *self.slot(at);
         let next = self.next_inside(random, at);
@@ -189,7 +192,7 @@ fn weights(random: &mut Random) -> Weights {
         within[fond_of - 1] += 40;
     }
     if random.once_in(4) {
-        within[11 - 1] += random.one_of([20, 30, 40]);
+        within[11 - 1] += random.one_of([10, 20, 40]);
         weights[Position::EndOfStarting as usize][10 - 1] += 20;
     }
     weights

@@ -28,8 +28,7 @@ impl Known {
     /// A subtraction at the edge of going below zero: of the operand and itself
     /// or a number beside it, at times of any register, mostly absent, and it.
     pub fn subtraction(&self, random: &mut Random) -> Formula {
-        let (below, above) = (self.value.saturating_sub(1), self.value.saturating_add(1));
-        let beside = Operand::Number(random.one_of([self.value, below, above]));
+        let beside = Operand::Number(random.one_of(with_neighbours(self.value)));
         let (p, q) = match random.weighted(&[2, 5, 8, 3]) {
             0 => (self.operand, self.operand),
             1 => (self.operand, beside),
@@ -44,8 +43,7 @@ impl Known {
     /// register, mostly absent. A known 0 is q less often than another value.
     pub fn divided(&self, random: &mut Random) -> [Operand; 2] {
         let times = random.one_of([1, 1, 2, 3, 100]);
-        let multiple = self.value.saturating_mul(times);
-        let (below, above) = (multiple.saturating_sub(1), multiple.saturating_add(1));
+        let [multiple, below, above] = with_neighbours(self.value.saturating_mul(times));
         let any = random.value();
         let beside = Operand::Number(random.one_of([multiple, below, above, 0, 1, any]));
         let weights = if self.value == 0 { [1, 8, 4, 4, 1] } else { [1, 4, 8, 1, 1] };
@@ -57,6 +55,11 @@ impl Known {
             _ => [self.operand, any_register(random)],
         }
     }
+}
+
+/// The value and the ones below and above it, as far as there are any.
+fn with_neighbours(value: u16) -> [u16; 3] {
+    [value, value.saturating_sub(1), value.saturating_add(1)]
 }
 
 fn any_register(random: &mut Random) -> Operand {

@@ -45,7 +45,7 @@ fn changed(random: &mut Random, program: &Program, job: &Job, others: &[Lock]) -
 /// The set without the lock of the label's or a return label's block, mostly
 /// with the lock that has the block's own number in its place.
 fn exchanged(random: &mut Random, program: &Program, job: &Job) -> LockSet {
-    let label = random.pick(&job.returns).filter(|_| !random.once_in(4)).unwrap_or(job.label);
+    let label = random.pick(&job.returns).filter(|_| random.once_in(2)).unwrap_or(job.label);
     let lock = program.lock(label);
     let kept = job.locks.without(lock);
     match lock_numbered_as(program.block(label)) {

@@ -1,6 +1,6 @@
 //! Trials that generated machines meet every case of grouped blocks.
 
-use super::trials::{begun, each_event, faults_met};
+use super::trials::{begun, each_event, faults_met, u16_at};
 use super::{damage, only_locks_changed, pair, table, Lent, Random};
 use crate::check;
 use crate::events::{Answer, Event};
@@ -121,12 +121,8 @@ const FAULTS: [&str; 7] = [
     "a lock of an idle thread",
 ];
 
-fn pair_at(bytes: &[u8], place: usize) -> u16 {
-    u16::from_le_bytes([bytes[place], bytes[place + 1]])
-}
-
 fn holds(thread: &[u8], lock: u8) -> bool {
-    pair_at(thread, 2) >> lock & 1 == 1
+    u16_at(thread, 2) >> lock & 1 == 1
 }
 
 /// What is wrong with the lock set of a thread by itself.
@@ -136,7 +132,7 @@ fn own_fault(lent: &Lent, thread: &[u8]) -> Option<&'static str> {
     }
     let returns = (0..usize::from(thread[4])).map(|place| 5 + 2 * place);
     [0].into_iter().chain(returns).find_map(|place| {
-        let block = lent.image[84 * usize::from(pair_at(thread, place)) + 1];
+        let block = lent.image[84 * usize::from(u16_at(thread, place)) + 1];
         let lock = lent.table[3 * usize::from(block) + 2];
         match (holds(thread, lock), holds(thread, block), place) {
             (true, _, _) => None,

@@ -57,15 +57,14 @@ impl Operands {
         Division { quotient, remainder, p, q }
     }
 
-    /// The word of a register's number, or the register of a word's; a register
-    /// from 16 on has that of a word 16 lower.
+    /// The register of a word's number, or the word of a register's; for a
+    /// register from 16 on the word of 16 less.
     fn twin(&self, place: Place) -> Place {
-        let words = Block::WORDS as u8;
         match place {
             Place::Register(register) => {
-                Place::Word(words * self.block.number() + register % words)
+                Place::word_of(self.block, usize::from(register) % Block::WORDS)
             }
-            Place::Word(word) => Place::Register(word % words),
+            Place::Word(word) => Place::Register(word % Block::WORDS as u8),
         }
     }
 
@@ -91,7 +90,7 @@ impl Operands {
     /// Mostly one of the first two words of the block, so that jobs meet there.
     fn word(&self, random: &mut Random) -> Place {
         let bound = random.one_of([2, 2, Block::WORDS]);
-        Place::Word((Block::WORDS * self.block.index() + random.below(bound)) as u8)
+        Place::word_of(self.block, random.below(bound))
     }
 }
 

@@ -1,7 +1,6 @@
 //! Pairs of guests to be linked, and damage to them.
 
-use super::damage::{change_table, resize, resize_table};
-use super::division_damage::change_image;
+use super::damage::{change_image, change_table, resize, resize_table};
 use super::image::{image_in, record_count};
 use super::random::Random;
 use super::table::table;

@@ -1,6 +1,6 @@
 //! Trials that generated machines meet every case of subtraction.
 
-use super::trials::{each_event, kind, value};
+use super::trials::{each_event, kind, one_to_ten_of_a_hundred_end, stepped, value};
 use crate::events::Event;
 use crate::image::Program;
 use crate::sorts::Thread;
@@ -21,10 +21,8 @@ struct Subtraction {
 
 impl Subtraction {
     fn next(program: &Program, state: &State, event: &Event) -> Option<Subtraction> {
-        let Event::Step(thread) = *event else {
-            return None;
-        };
-        match program.record(state.job(thread)?.label).statement {
+        let (thread, statement) = stepped(program, state, event)?;
+        match *statement {
             Statement::Assign { to, formula: Formula::Subtract(p, q), .. } => Some(Subtraction {
                 thread,
                 to: Operand::Kept(to),
@@ -103,11 +101,5 @@ fn subtractions_meet_every_edge_and_keep_their_rules() {
 
 #[test]
 fn of_a_hundred_jobs_one_to_ten_go_below_zero() {
-    let (mut ends, mut below_zero) = (0, 0);
-    each_event(0..200, |program, state, event| {
-        let answer = carry_out(program, state, event).encode();
-        ends += usize::from(matches!(answer[0], 7..=9));
-        below_zero += usize::from(answer == [8, 7]);
-    });
-    assert!(ends / 100 < below_zero && below_zero < ends / 10);
+    assert!(one_to_ten_of_a_hundred_end([8, 7]));
 }
