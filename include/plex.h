@@ -136,7 +136,8 @@ enum {
     PLEX_TRANSFER = 9,      /* to A, in its own block */
     PLEX_EXIT = 10,
     PLEX_SEND_TREE = 11, /* SEND JOBTREE to A, on to B: the signal is held, and founds a tree at EXIT */
-    PLEX_DIVIDE = 12     /* operands quotient destination, remainder destination (a different one), p, q; on to A */
+    PLEX_DIVIDE = 12     /* operands quotient destination, remainder destination (a different one), p, q; on to A.
+                          * p = q x quotient + remainder, with the remainder below q; a zero q is a trap */
 };
 
 /* Operators of ASSIGN and of IF. Sum and product go modulo 65,536; a difference below zero is a trap. */

@@ -1,4 +1,5 @@
 #include "damage.h"
+#include "bench_image.h"
 #include "fields.h"
 
 #include <string.h>
@@ -41,14 +42,21 @@ static void copy_operand(uint8_t *record, uint32_t to, uint32_t from)
     memcpy(operand_of(record, to), operand_of(record, from), PLEX_OPERAND_SIZE);
 }
 
-/* Half of the numbers and of the words are 0 or 1. */
+/* Half of the values are 0 or 1, so that places meet and numbers are at the edge. */
 static void make_operand(uint8_t *operand, uint32_t kind)
 {
-    static const uint32_t limits[] = {[PLEX_NUMBER_OPERAND] = 65536,
-                                      [PLEX_REGISTER_OPERAND] = PLEX_REGISTERS,
-                                      [PLEX_WORD_OPERAND] = PLEX_BLOCK_WORDS};
+    uint32_t limit = below(2) == 0 ? 2 : bench_operand_limit(kind);
     operand[PLEX_OPERAND_KIND] = (uint8_t)kind;
-    put16(operand + PLEX_OPERAND_VALUE, below(kind != PLEX_REGISTER_OPERAND && below(2) == 0 ? 2 : limits[kind]));
+    put16(operand + PLEX_OPERAND_VALUE, below(limit));
+}
+
+/* Makes a source one of the destinations; half of the time the other source is then the other destination. */
+static void share_operands(uint8_t *record)
+{
+    uint32_t source = below(2), destination = below(2);
+    copy_operand(record, P + source, QUOTIENT + destination);
+    if (below(2) == 0)
+        copy_operand(record, P + 1 - source, QUOTIENT + 1 - destination);
 }
 
 /* Given a record without operands. */
@@ -63,7 +71,7 @@ static void make_division(uint8_t *record)
     make_operand(operand_of(record, P), PLEX_NUMBER_OPERAND + below(3));
     make_operand(operand_of(record, Q), PLEX_NUMBER_OPERAND + below(3));
     if (below(4) == 0)
-        copy_operand(record, P + below(2), QUOTIENT + below(2));
+        share_operands(record);
 }
 
 void make_divisions(uint8_t *image, uint32_t records)

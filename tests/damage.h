@@ -12,10 +12,10 @@ uint32_t below(uint32_t limit);
 void make_tree_sends(uint8_t *image, uint32_t records);
 
 /* Makes most of the SKIPs and GOTOs of a checked image DIVIDEs, which have the same labels; in one of four a
- * destination is a source too. */
+ * destination is a source too, or both are: the quotient's p and the remainder's q, or turned. */
 void make_divisions(uint8_t *image, uint32_t records);
 
-/* The label of a DIVIDE behind label 0, or 0 if there is none. */
+/* Of two records or more: the label of a DIVIDE behind label 0, or 0 if there is none. */
 uint32_t find_division(const uint8_t *image, uint32_t records);
 
 /* Breaks one rule of the DIVIDE at a label above 0 of a checked image, and no other. The record before it is in

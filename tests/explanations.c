@@ -29,8 +29,10 @@ static void try_image(void)
     uint32_t edits = below(3);
     memcpy(tried, image, sizeof image);
     memcpy(tried_table, table, sizeof table);
-    if (below(8) == 0)
-        break_division(tried, RECORDS, find_division(tried, RECORDS), (enum division_fault)below(DIVISION_FAULTS));
+    if (below(8) == 0) {
+        uint32_t label = find_division(tried, RECORDS), fault = below(DIVISION_FAULTS);
+        break_division(tried, RECORDS, label, (enum division_fault)fault);
+    }
     for (uint32_t i = 0; i < edits; i++)
         damage_record(tried, RECORDS);
     if (below(16) == 0)
@@ -97,14 +99,21 @@ static uint32_t run(uint8_t *tried, const uint8_t *event, size_t size)
                     size == 0 ? 0 : sizeof answer);
 }
 
+/* An arrival at any label, at times beyond the image. */
+static void put_any_arrival(uint8_t *event)
+{
+    static const uint16_t values[PLEX_REGISTERS] = {1, 2, 3};
+    uint32_t label = below(RECORDS + 2), count = below(PLEX_REGISTERS + 1);
+    put_arrival(event, label, values, (uint8_t)count);
+}
+
 /* One event, at times damaged, and then the state that it leaves, damaged. */
 static void try_event(void)
 {
-    static const uint16_t values[PLEX_REGISTERS] = {1, 2, 3};
     uint8_t event[PLEX_EVENT_SIZE], tried[PLEX_STATE_SIZE];
     struct line why = {0}, state_why = {0};
     if (below(4) == 0)
-        put_arrival(event, below(RECORDS + 2), values, (uint8_t)below(PLEX_REGISTERS + 1));
+        put_any_arrival(event);
     else if (below(50) == 0)
         put_cut(event, below(PLEX_THREADS));
     else

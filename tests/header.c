@@ -83,6 +83,7 @@ static void subtract(void)
     put_operand(charging, 2, PLEX_NUMBER_OPERAND, 1);
     words[0] = 9;
     run_afresh("an absent register - 1", charging, sizeof charging, 3, PLEX_TRAPPED, PLEX_ABSENT_REGISTER);
+    expect("the word after an absent register - 1", word[0] == 9 && word[1] == 0);
     put_operand(charging, 1, PLEX_NUMBER_OPERAND, 0);
     run_afresh("0 - 1", charging, sizeof charging, 3, PLEX_TRAPPED, PLEX_BELOW_ZERO);
     expect("the word after 0 - 1", word[0] == 9 && word[1] == 0);
@@ -93,13 +94,19 @@ static void subtract(void)
     words[0] = 0;
 }
 
+/* Shared words 0 and 1. */
+static void expect_words(const char *what, uint8_t first, uint8_t next)
+{
+    const uint8_t *word = state + PLEX_STATE_WORDS;
+    expect(what, word[0] == first && word[1] == 0 && word[2] == next && word[3] == 0);
+}
+
 /* Label 0 is now DIVIDE: shared words 0 and 1, which are 9, are to become p / q and what is left of p.
  * Where p is an absent register or q is 0, the job traps; both words stay. One destination for both
  * results is refused. */
 static void divide(void)
 {
     static uint8_t tariff[sizeof image];
-    const uint8_t *word = state + PLEX_STATE_WORDS;
     memcpy(tariff, image, sizeof image);
     tariff[PLEX_RECORD_OPCODE] = PLEX_DIVIDE;
     tariff[PLEX_RECORD_OPERATOR] = 0;
@@ -109,12 +116,13 @@ static void divide(void)
     put_operand(tariff, 3, PLEX_NUMBER_OPERAND, 0);
     words[0] = words[2] = 9;
     run_afresh("an absent register / 0", tariff, sizeof tariff, 3, PLEX_TRAPPED, PLEX_ABSENT_REGISTER);
+    expect_words("the words after an absent register / 0", 9, 9);
     put_operand(tariff, 2, PLEX_NUMBER_OPERAND, 23);
     run_afresh("23 / 0", tariff, sizeof tariff, 3, PLEX_TRAPPED, PLEX_ZERO_DIVISOR);
-    expect("the words after 23 / 0", word[0] == 9 && word[2] == 9);
+    expect_words("the words after 23 / 0", 9, 9);
     put_operand(tariff, 3, PLEX_WORD_OPERAND, 1);
     run_afresh("23 / 9", tariff, sizeof tariff, 3, PLEX_MOVED_ON, 0);
-    expect("23 / 9 is 2, and 5 are left", word[0] == 2 && word[1] == 0 && word[2] == 5 && word[3] == 0);
+    expect_words("23 / 9 is 2, and 5 are left", 2, 5);
     put_operand(tariff, 1, PLEX_WORD_OPERAND, 0);
     expect("one destination", PLEX_NUMBER(plex_check(tariff, sizeof tariff, table, sizeof table)) == PLEX_BAD_RECORD);
     words[0] = words[2] = 0;

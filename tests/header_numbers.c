@@ -1,4 +1,4 @@
-/* The header's numbers fit together, and those that bytes and hosts rely on are as they were; in the part
+/* The header's numbers fit together, and those that bytes and hosts rely on stay as they are; in the part
  * of the language that C and C++ share. */
 #include "plex.h"
 

@@ -127,6 +127,6 @@ int main(void)
                   were_met(links, PLEX_SHARED_BLOCK, PLEX_BAD_OUTPUT_LENGTH) && refused_last_locks != 0 &&
                   linked_divisions != 0;
     printf("plain: %u checks and links, %u and %u of them accepted%s; %u failures\n", TRIALS, checks[0], links[0],
-           all_met ? ", refused by every number" : ", NOT refused by every number", failures);
+           all_met ? ", with every case" : ", NOT with every case", failures);
     return !do_runs_agree() || failures != 0 || !all_met;
 }

@@ -214,10 +214,10 @@ bool do_runs_agree(void)
     bool all_met = are_all_met(codes, PLEX_ARRIVED, PLEX_NOTHING_TO_CUT) &&
                    are_all_met(reasons, PLEX_ABSENT_REGISTER, PLEX_ZERO_DIVISOR) &&
                    are_all_met(subtractions, P_ABOVE_Q, ABSENT_BELOW_Q) &&
-                   are_all_met(divisions, ABSENT_BY_NUMBER, REMAINDER_TO_Q) && losing_exits != 0 && group_jobs != 0 &&
+                   are_all_met(divisions, ABSENT_BY_NUMBER, TO_Q_AND_P) && losing_exits != 0 && group_jobs != 0 &&
                    refusals[PLEX_BAD_EVENT] != 0 && are_all_met(refused_parts, HELD_SIGNALS, ANY_BYTES) &&
                    are_all_met(accepted_parts, HELD_SIGNALS, ANY_BYTES);
     printf("plain: %d runs and walks%s; %u failures\n", MACHINES * RUNS,
-           all_met ? ", with every answer" : ", NOT with every answer", failures);
+           all_met ? ", with every case" : ", NOT with every case", failures);
     return failures == 0 && all_met;
 }

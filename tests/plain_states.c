@@ -136,7 +136,8 @@ static uint32_t sights_of_destinations(const uint8_t *record)
     for (uint32_t i = 0; i < 4; i++)
         if (memcmp(operand_at(record, i / 2), operand_at(record, 2 + i % 2), PLEX_OPERAND_SIZE) == 0)
             seen |= 1u << (QUOTIENT_TO_P + i);
-    return seen;
+    seen |= (seen >> QUOTIENT_TO_P & seen >> REMAINDER_TO_Q & 1) << TO_P_AND_Q;
+    return seen | (seen >> QUOTIENT_TO_Q & seen >> REMAINDER_TO_P & 1) << TO_Q_AND_P;
 }
 
 uint32_t next_division(const struct machine *machine, const uint8_t *state, uint32_t thread)

@@ -41,6 +41,8 @@ enum division {
     QUOTIENT_TO_Q,
     REMAINDER_TO_P,
     REMAINDER_TO_Q,
+    TO_P_AND_Q, /* the quotient to p, the remainder to q */
+    TO_Q_AND_P, /* the quotient to q, the remainder to p */
     DIVISIONS
 };
 uint32_t next_division(const struct machine *machine, const uint8_t *state, uint32_t thread);

@@ -32,6 +32,19 @@ pub fn short_case(seen: &mut Seen, seed: u64) -> Result<(), String> {
     Ok(())
 }
 
+/// A generated machine's events, each in a Run of its own: the states between all
+/// of them are compared, and what every step does is seen.
+pub fn single_case(seen: &mut Seen, seed: u64) -> Result<(), String> {
+    let mut lent = lent(seed);
+    both(seen, Call::Fresh, &mut lent)?;
+    let list = std::mem::take(&mut lent.events);
+    for event in list.chunks(EVENT) {
+        hand_over(&mut lent, event);
+        both(seen, Call::Run, &mut lent)?;
+    }
+    Ok(())
+}
+
 /// Lends these events, and answers of the right length that hold other bytes.
 pub fn hand_over(lent: &mut Lent, events: &[u8]) {
     lent.events = events.to_vec();

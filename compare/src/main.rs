@@ -21,10 +21,10 @@ use seen::Seen;
 use std::process::ExitCode;
 use std::time::{Duration, Instant, SystemTime, UNIX_EPOCH};
 
-/// The fixed seeds are those below this number; one in so many has the link's
-/// case too, and one in so many the long sorts of case.
+/// The fixed seeds are those below this number; one in so many has the case of
+/// single events and the link's too, and one in so many the long sorts of case.
 const FIXED: u64 = 2_500;
-const LINK_EVERY: u64 = 3;
+const MORE_EVERY: u64 = 3;
 const LONG_EVERY: u64 = 50;
 
 fn main() -> ExitCode {
@@ -87,7 +87,8 @@ fn soak(seen: &mut Seen, seconds: u64) -> Result<String, String> {
 fn one_seed(seen: &mut Seen, seed: u64) -> Result<(), String> {
     let failure = |why| format!("seed {seed}: {why}");
     cases::short_case(seen, seed).map_err(failure)?;
-    if seed.is_multiple_of(LINK_EVERY) {
+    if seed.is_multiple_of(MORE_EVERY) {
+        cases::single_case(seen, seed).map_err(failure)?;
         links::link_case(seen, seed).map_err(failure)?;
     }
     if seed.is_multiple_of(LONG_EVERY) {
@@ -100,6 +101,7 @@ fn one_seed(seen: &mut Seen, seed: u64) -> Result<(), String> {
 /// Every sort of case.
 fn replay(seen: &mut Seen, seed: u64) -> Result<String, String> {
     cases::short_case(seen, seed)?;
+    cases::single_case(seen, seed)?;
     links::link_case(seen, seed)?;
     cases::waiting_case(seen, seed)?;
     cases::long_case(seen, seed)?;

@@ -1,7 +1,7 @@
 //! What the calls of a comparison have shown, to tell an idle one from a good one.
 
 use crate::both::Call;
-use crate::divisions::{refused_for_equal_destinations, Division};
+use crate::divisions::{divides, refused_for_equal_destinations, Division};
 use crate::groups::{locks_of_two, share_lock};
 use crate::held::held_counts;
 use crate::sizes::{ANSWER, BLOCKS, LOCKS, MOST_HELD, RECORD, RECORDS, THREADS};
@@ -54,6 +54,9 @@ pub struct Seen {
     pub links: u64,
     /// Of these the pairs that share a lock.
     links_of_groups: u64,
+    /// And those whose second guest has a record that divides: the link shifts
+    /// its label.
+    links_of_divisions: u64,
     /// Of the refusals those of links.
     link_refusals: [u64; 16],
     /// Records of the largest linked image.
@@ -143,6 +146,7 @@ impl Seen {
             let Pair { first, second, table, .. } = pair;
             self.links += 1;
             self.links_of_groups += u64::from(share_lock(table, &first.image, &second.image));
+            self.links_of_divisions += u64::from(divides(&second.image));
             self.largest_link = self.largest_link.max(pair.out.len() / RECORD);
         }
     }
@@ -199,6 +203,7 @@ impl Seen {
             (self.damaged_locks[1] > 0, "damaged lock sets that are refused".into()),
             (self.group_waits_one_by_one > 0, "waits for a group one by one".into()),
             (self.links_of_groups > 0, "a link of guests that share a lock".into()),
+            (self.links_of_divisions > 0, "a link of a second guest that divides".into()),
             (self.damaged_held[0] > 0, "other held signals that are accepted".into()),
             (self.damaged_held[1] > 0, "damaged held signals that are refused".into()),
             (self.lost_one_by_one > 0, "held signals lost one by one".into()),

@@ -32,15 +32,20 @@ static uint32_t signal_in_block(struct builder *builder, uint32_t block, uint32_
     return block + builder->blocks * (4 * below(builder, fours) + entry);
 }
 
-static void add_operand(struct builder *builder, uint8_t *record, uint32_t kind)
+uint32_t bench_operand_limit(uint32_t kind)
 {
     static const uint32_t limits[] = {[PLEX_NUMBER_OPERAND] = 65536,
                                       [PLEX_REGISTER_OPERAND] = PLEX_REGISTERS,
                                       [PLEX_WORD_OPERAND] = PLEX_BLOCK_WORDS};
+    return limits[kind];
+}
+
+static void add_operand(struct builder *builder, uint8_t *record, uint32_t kind)
+{
     uint32_t index = record[PLEX_RECORD_COUNT]++;
     uint8_t *operand = record + PLEX_RECORD_OPERANDS + PLEX_OPERAND_SIZE * index;
     operand[0] = (uint8_t)kind;
-    put16(operand + 1, below(builder, limits[kind]));
+    put16(operand + 1, below(builder, bench_operand_limit(kind)));
 }
 
 static void add_operands(struct builder *builder, uint8_t *record, uint32_t count)

@@ -17,4 +17,7 @@ void bench_guest_image(uint8_t *image, size_t records, uint32_t first_block);
 
 void bench_exit_image(uint8_t *image, size_t records);
 
+/* The value of an operand of this kind is below this. */
+uint32_t bench_operand_limit(uint32_t kind);
+
 #endif

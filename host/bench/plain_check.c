@@ -14,7 +14,7 @@ enum { USED = 0, UNUSED = 0xFF, BELOW_2 = 0xFE, BELOW_4 = 0xFC, BELOW_8 = 0xF8, 
     }
 enum { ONLY_ZERO = 1 << 0, ONE_TO_FOUR = 0x1E, ONE_OR_TWO = 0x06 };
 
-const struct opcode_rule plain_opcode_rules[PLEX_DIVIDE + 1] = {
+const struct opcode_rule plain_opcode_rules[] = {
     [0] = {ZERO_BITS(UNUSED, UNUSED, UNUSED), 0, 0, 0, 0, 0, 0},
     [PLEX_SKIP] = {ZERO_BITS(UNUSED, USED, UNUSED), BLOCK_BOUND, 0, 0, ONLY_ZERO, 0, 0},
     [PLEX_ASSIGN] = {ZERO_BITS(BELOW_8, USED, UNUSED), BLOCK_BOUND, 0, 0, ONE_TO_FOUR, 2, 1},
@@ -32,6 +32,7 @@ const struct opcode_rule plain_opcode_rules[PLEX_DIVIDE + 1] = {
                         PLEX_REGISTERS},
     [PLEX_DIVIDE] = {ZERO_BITS(UNUSED, USED, UNUSED), BLOCK_BOUND, 0, 0, ONLY_ZERO, 4, 0},
 };
+enum { LAST_OPCODE = sizeof plain_opcode_rules / sizeof plain_opcode_rules[0] - 1 };
 
 const uint8_t plain_zeros[PLEX_TREES_MAX * PLEX_TREE_SIZE];
 
@@ -119,7 +120,7 @@ static inline bool divide_holds(const uint8_t *record)
 static inline bool record_holds(const uint8_t *image, uint32_t records, const uint8_t *record)
 {
     uint32_t opcode = record[PLEX_RECORD_OPCODE];
-    const struct opcode_rule *rule = &plain_opcode_rules[opcode <= PLEX_DIVIDE ? opcode : 0];
+    const struct opcode_rule *rule = &plain_opcode_rules[opcode <= LAST_OPCODE ? opcode : 0];
     return header_holds(record, rule) && labels_hold(image, records, record, rule) && operands_hold(record) &&
            (opcode != PLEX_ASSIGN || assign_holds(record)) && (opcode != PLEX_DIVIDE || divide_holds(record));
 }

@@ -16,6 +16,6 @@ struct opcode_rule {
 };
 
 /* Rule 0 stands for every unknown opcode: no operator suits it. */
-extern const struct opcode_rule plain_opcode_rules[PLEX_DIVIDE + 1];
+extern const struct opcode_rule plain_opcode_rules[];
 
 #endif

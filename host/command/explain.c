@@ -27,6 +27,7 @@ static const struct opcode_rule {
     [PLEX_SEND_TREE] = {.a = SIGNAL, .b = INSIDE, .entry_at_a = PLEX_BUFFERED, .most = PLEX_REGISTERS},
     [PLEX_DIVIDE] = {.a = INSIDE, .fewest = 4, .most = 4, .destinations = 2},
 };
+enum { LAST_OPCODE = sizeof rules / sizeof rules[0] - 1 };
 
 bool is_zero(const uint8_t *part, size_t size)
 {
@@ -50,8 +51,8 @@ void explain_row(struct line *why, const uint8_t *table, uint32_t block)
 static void explain_head(struct line *why, const uint8_t *record)
 {
     uint32_t opcode = record[PLEX_RECORD_OPCODE];
-    if (opcode < PLEX_SKIP || opcode > PLEX_DIVIDE)
-        add(why, "opcode %u is none of %d to %d", opcode, PLEX_SKIP, PLEX_DIVIDE);
+    if (opcode < PLEX_SKIP || opcode > LAST_OPCODE)
+        add(why, "opcode %u is none of %d to %d", opcode, PLEX_SKIP, LAST_OPCODE);
     else if (record[PLEX_RECORD_BLOCK] >= PLEX_BLOCKS)
         add(why, "its block is %u, and blocks are 0 to %d", record[PLEX_RECORD_BLOCK], PLEX_BLOCKS - 1);
     else if (record[PLEX_RECORD_ENTRY] > PLEX_EXTERNAL)

@@ -6,9 +6,11 @@
  * as an image of their own, are linked behind the case first, and run after it: the guest's job founds a
  * tree for the ledger; the charging is sent a charge of 90 and has a prepaid balance of 20, of which an
  * engine that subtracts modulo 65,536 would make 65,466; the tariff splits pulses into units and keeps
- * those left over, and where a unit has no pulses its job traps and charges nobody.
+ * those left over, and where a unit has no pulses its job traps, charges nobody and drops the pulses that
+ * it was sent.
  *
- * Use: demo          prints the trace; the status is 1 if a charging word changed or a pulse is lost
+ * Use: demo          prints the trace; the status is 1 if a charging word changed, or a pulse is lost that was
+ *                    kept at first or sent where a unit has pulses
  *      demo FOLDER   writes the case and East's image there, as files of the command plex */
 #include "case.h"
 #include "fields.h"
@@ -163,13 +165,14 @@ static int begin(void)
 }
 
 /* Whether each pulse that East's tariff kept at first, and each that it was sent where a unit has pulses,
- * is charged or kept. */
+ * is charged or kept. Those that it was sent where a unit has none went with the job that trapped. */
 static int print_units(void)
 {
     uint32_t pulses = KEPT_PULSES + SENT_PULSES;
     int none_lost = UNIT_PULSES * east_units() + east_kept() == pulses && east_kept() < UNIT_PULSES;
     printf("Of %u pulses East's tariff has charged %u units of %d, and it keeps %u: %s.\n", pulses, east_units(),
            UNIT_PULSES, east_kept(), none_lost ? "none is lost" : "some are LOST");
+    printf("The %d pulses sent where a unit has 0 are not among them: the trap dropped them.\n", SENT_PULSES);
     return none_lost;
 }
 
