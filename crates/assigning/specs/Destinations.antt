@@ -43,7 +43,8 @@ withFirst s t block w d u = withWordAt (withJob s t (w .locks) (jobOf w)) block 
 
 -- the thread is written, and then the word
 pub first-written : (s : Machine) (t block : ℕ) (w : code.ThreadState) (d : Operand) (u : ℕ) {b c : List ℕ}
-    → Encodes b (withJob s t (w .locks) (jobOf w)) → Encodes c (withWordAt (machineFrom b) block d u) → Encodes c (withFirst s t block w d u)
+    → Encodes b (withJob s t (w .locks) (jobOf w)) → Encodes c (withWordAt (machineFrom b) block d u)
+    → Encodes c (withFirst s t block w d u)
 first-written s t block w d u {b} {c} e f =
     subst (Encodes c) (ap (λ (z : Machine). withWordAt z block d u) (encoded-machine b _ e)) f
 

@@ -59,8 +59,8 @@ module _ (image table words state : List ℕ) (runs : List Run) (calls : Calls i
   subtracts-exactly p q v d e =
       let exact : p - q ≡ v = omega arith in
       let above : ltb p q ≡ false = le-ltb p q (omega arith) in
-      stores image table words state runs calls before after t split locks j (h .thread) a statement p q (record { first = v; second = 0 }) e
-      (rw (above, exact))
+      stores image table words state runs calls before after t split locks j (h .thread) a statement p q
+      (record { first = v; second = 0 }) e (rw (above, exact))
 
   -- AN ABSENT REGISTER IS FOUND FIRST: 8, 1, whatever the other operand is
   pub absent-first : (r : ℕ) → (operand image j 1 ≡ Register r) ⊎ (operand image j 2 ≡ Register r) → getD (j .registers) r none ≡ none

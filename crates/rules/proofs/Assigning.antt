@@ -267,7 +267,8 @@ module _ (image table : List ℕ) (s : Machine) (t locks : ℕ) (j : Job) where
   pub below-zero : (p q : ℕ) → p < q → (d : Operand) → Assigns image s t locks j subtractCode d p q
       → TrapsWith (stepOf image table s t) s t 7
   unfolding operationAt
-  below-zero p q l d h = traps-of image table s t locks j subtractCode Subtract refl refl p q d h 7 (compute-subtract p q true (lt-ltb p q l))
+  below-zero p q l d h =
+      traps-of image table s t locks j subtractCode Subtract refl refl p q d h 7 (compute-subtract p q true (lt-ltb p q l))
 
   pub absent-first : (i r : ℕ) → ReadsAbsent image s t locks j subtractCode i r → TrapsWith (stepOf image table s t) s t 1
   unfolding operationAt

@@ -217,8 +217,9 @@ pub record Divisions (image table : List ℕ) (s : Machine) (t locks : ℕ) (j :
   pub other-destinations : (r : List ℕ) → opcode r ≡ 12 → operator r ≡ 0 → blockField r < 16 → entry r < 4 → operands r ≡ 4
       → 2 ≤ kind r 0 → 2 ≤ kind r 1 → (kind r 0 ≢ kind r 1) ⊎ (value r 0 ≢ value r 1) → headOk r ≡ true
 
-equal-refused : (image table : List ℕ) (l : ℕ) → l < labels image → EqualDestinations (recordAt image l) → ((i : ℕ) → i < l → recordOk image i ≡ true)
-    → imageLengthFault image ≡ 0 → tableLengthFault table ≡ 0 → tableFault table ≡ 0 → checkReturn image table ≡ 65536 * 4 + l
+equal-refused : (image table : List ℕ) (l : ℕ) → l < labels image → EqualDestinations (recordAt image l)
+    → ((i : ℕ) → i < l → recordOk image i ≡ true) → imageLengthFault image ≡ 0 → tableLengthFault table ≡ 0 → tableFault table ≡ 0
+    → checkReturn image table ≡ 65536 * 4 + l
 unfolding checkReturn recordFault firstOf
 equal-refused image table l h f before x y z =
     let bad : firstBad (recordOk image) 0 (labels image) ≡ l =

@@ -29,18 +29,27 @@ write-one-requires c κs =
 
 store-word-requires : tie.Need-store-word-requires
 store-word-requires c κs =
+    let write-one = c .before .before .before .write-one in
+    let block-field = c .before .before .before .before .before .before .before .before .block-field in
     let s = c .before .before .before .before .before .before .before .before .before .before .before .before .before in
     let h = s .pre .0 in
-    (encoded-canonical _ _ (c .before .before .before .write-one .ensures), rw (c .before .before .before .before .before .before .before .before .block-field .ensures) (h .readable .block), legal h (s .args .a) (s .pre .1) .first)
+    (encoded-canonical _ _ (write-one .ensures), rw (block-field .ensures) (h .readable .block), legal h (s .args .a) (s .pre .1) .first)
 
 returns : tie.Need-returns
 returns c =
-    let s = c .before .before .before .before .before .before .before .before .before .before .before .before .before .before .before .before in
+    let store-word = c .before .before .store-word in
+    let earlier = c .before .before .before .before .before .before in
+    let write-one = earlier .write-one in
+    let store-register = earlier .before .before .store-register in
+    let move-on = earlier .before .before .before .move-on in
+    let label-a = earlier .before .before .before .before .label-a in
+    let block-field = earlier .before .before .before .before .before .block-field in
+    let s = earlier .before .before .before .before .before .before .before .before .before .before in
     let a = s .args .a in
-    let runs = register-stored (a .first) (s .args .u) (c .before .before .before .before .before .before .before .before .before .move-on .ensures) (c .before .before .before .before .before .before .before .before .store-register .ensures) in (
-      rw (c .before .before .before .before .before .before .before .before .before .before .label-a .ensures) at runs,
-      first-written (machineFrom (s .args .state .now)) (s .args .t .0) _ (c .before .before .before .before .before .before .before .before .store-register .result) (a .first) (s .args .u)
-          (c .before .before .before .before .before .before .write-one .ensures) (rw (c .before .before .before .before .before .before .before .before .before .before .before .block-field .ensures) at (c .before .before .store-word .ensures)),
+    let runs = register-stored (a .first) (s .args .u) (move-on .ensures) (store-register .ensures) in (
+      rw (label-a .ensures) at runs,
+      first-written (machineFrom (s .args .state .now)) (s .args .t .0) _ (store-register .result) (a .first) (s .args .u)
+          (write-one .ensures) (rw (block-field .ensures) at (store-word .ensures)),
     )
 
 pub store-first-spec : {M : Type 1} → statement M

@@ -14,7 +14,9 @@ returns-2 c =
     let a = s .args .a in
     let fits = legal h a (s .pre .1) in
     let first = c .before .before .store-first in
-    let one = one-destination h a (s .pre .1) (ap (λ (z : Shape). z .second) (sym (c .before .before .before .before .before .shape-of .ensures)) ∙ c .before .before .before .before .if1 .left) in
+    let if1 = c .before .before .before .before .if1 in
+    let shape = c .before .before .before .before .before .shape-of in
+    let one = one-destination h a (s .pre .1) (ap (λ (z : Shape). z .second) (sym (shape .ensures)) ∙ if1 .left) in
     one-stored (machineFrom (s .args .state .now)) (s .args .t .0) (rw (h .ready .canonical .sized .threads) (h .inside)) (s .args .w)
     (s .args .r .now) a (s .args .u) (s .args .v) (first .result) (fits .first) (fits .second) (first .ensures .0) (first .ensures .1)
     0 one
