@@ -1,3 +1,1 @@
-pub mod Destinations
 pub mod Assigned
-pub mod Written

@@ -4,4 +4,3 @@ pub mod Legal
 pub mod Statements
 pub mod TwoDestinations
 pub mod Cells
-pub mod Values

@@ -1,6 +1,6 @@
 -- Readings as the code has them.
 use mathlib.Core.Path.{_≡_}
-use mathlib.Core.List.{List}
+use mathlib.Core.List.{List, [], _∷_}
 use Prim.Native.Nat.{ℕ, _≤_}
 use lib.ListN.{length, take, drop, replicate}
 use Rattle.rules.specs.Sizes.{operandCount}
@@ -10,6 +10,7 @@ use Rattle.rules.specs.Effects.{Got, trap, got, readAll}
 use Rattle.laws.specs.Logic.{never}
 use Rattle.threads.specs.declared.thread.ThreadState.{ThreadState}
 use Rattle.operands.specs.Cells.{cellsOf}
+use Rattle.operands.specs.declared.Pair.{Pair}
 use Rattle.operands.specs.declared.Reading.{Reading}
 use Rattle.operands.specs.declared.Reading.the-variants.{Value, Trap}
 
@@ -37,3 +38,8 @@ reading-value (got u) v e = cc
 pub reading-trap : (g : Got ℕ) (r : ℕ) → readingOf g ≡ Trap r → g ≡ trap r
 reading-trap (trap x) r e = cc
 reading-trap (got u) r e = never (cc)
+
+-- two operands read
+pub record ReadsPair (g : Got (List ℕ)) (d : Pair) : Type 0 where
+  pub values : d .trap ≡ 0 → g ≡ got (d .left ∷ d .right ∷ [])
+  pub trapped : (d .trap ≡ 0 → ⊥) → g ≡ trap (d .trap)

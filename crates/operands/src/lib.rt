@@ -1,20 +1,16 @@
 // The operands of a statement, read: a thread's registers from its value, and the shared words of the statement's own block from a
-// state's bytes; and what an assignment works out from them.
+// state's bytes.
 use decoding::kind_at;
 use decoding::value_at;
 use fields::read::wide;
 use image::record_fields::block_field;
 use image::record_fields::operand_count;
 use rules::codes::ABSENT_REGISTER;
-use rules::codes::BELOW_ZERO;
 use rules::codes::NUMBER_OPERAND;
 use rules::codes::REGISTER_OPERAND;
-use rules::codes::ZERO_DIVISOR;
 use rules::sorts::Block;
 use rules::sorts::Thread;
-use rules::statement::Assignment;
 use rules::statement::Operand;
-use rules::statement::Operation;
 use state::words::read_word;
 use threads::thread::ThreadState;
 ghost use mathlib.Core.Path.{_≡_};
@@ -24,13 +20,10 @@ ghost use lib.ListN.{length};
 ghost use Rattle.rules.specs.Sizes.{blockCount, operandCount, recordSize, stateSize};
 ghost use Rattle.rules.specs.Image.{operands};
 ghost use Rattle.rules.specs.Statements.{operandOf, operandAt, dataOf};
-ghost use Rattle.rules.specs.Effects.{trap, one, compute, read, readAll};
-ghost use Rattle.rules.specs.declared.statement.Operation.the-variants.{Subtract, Divide};
-ghost use Rattle.step_laws.specs.Statements.{results};
-ghost use Rattle.operands.specs.Readings.{readingOf, Reads};
+ghost use Rattle.rules.specs.Effects.{read, readAll};
+ghost use Rattle.operands.specs.Readings.{readingOf, Reads, ReadsPair};
 ghost use Rattle.operands.specs.Legal.{Fits, Readable};
 ghost use Rattle.operands.specs.Cells.{cellsFrom, cellsOf};
-ghost use Rattle.operands.specs.Values.{ReadsPair, Computes};
 
 // The value of an operand, or the reason of the trap that reading it makes.
 enum Reading {
@@ -174,88 +167,4 @@ pub fn read_pair(state: &[u8], w: ThreadState, r: &[u8], p: Operand, q: Operand)
             },
         },
     }
-}
-
-// What is worked out, a value for each destination, or the reason of the trap instead.
-pub struct Computation {
-    pub first: u16,
-    pub second: u16,
-    pub trap: u8,
-}
-
-// One value, for the first destination.
-fn one_result(v: u16) -> Computation
-    ensures { λ r. ⌜ Computes (one v) r ⌝ }
-{
-    Computation {
-        first: v,
-        second: 0,
-        trap: 0,
-    }
-}
-
-// No value, but a trap.
-fn no_result(reason: u8) -> Computation
-    requires { ⌜ 0 < reason ⌝ }
-    ensures { λ r. ⌜ Computes (trap reason) r ⌝ }
-{
-    Computation {
-        first: 0,
-        second: 0,
-        trap: reason,
-    }
-}
-
-// p - q, or the trap of a difference below zero.
-fn difference(p: u16, q: u16) -> Computation
-    ensures { λ r. ⌜ Computes (compute Subtract p q) r ⌝ }
-{
-    if p < q {
-        no_result(BELOW_ZERO)
-    } else {
-        one_result(p - q)
-    }
-}
-
-// The quotient and the remainder of p and q, or the trap of a zero divisor.
-fn quotient_and_remainder(p: u16, q: u16) -> Computation
-    ensures { λ r. ⌜ Computes (compute Divide p q) r ⌝ }
-{
-    if q == 0 {
-        return no_result(ZERO_DIVISOR);
-    }
-    Computation {
-        first: p / q,
-        second: p % q,
-        trap: 0,
-    }
-}
-
-fn computed(o: Operation, p: u16, q: u16) -> Computation
-    ensures { λ r. ⌜ Computes (compute o p q) r ⌝ }
-{
-    let left = p as u32;
-    let right = q as u32;
-    match o {
-        Operation::Copy => one_result(p),
-        Operation::Add => one_result(((left + right) % 65536) as u16),
-        Operation::Subtract => difference(p, q),
-        Operation::Multiply => one_result((left * right % 65536) as u16),
-        Operation::Divide => quotient_and_remainder(p, q),
-    }
-}
-
-// The results of an assignment: its sources are read left to right, and then its operation goes by their values.
-pub fn results_of(state: &[u8], w: ThreadState, r: &[u8], a: Assignment) -> Computation
-    requires { ⌜ (length (now state) ≡ stateSize) × Readable (now r) × Fits (a .left) × Fits (a .right) ⌝ }
-    ensures { λ d. ⌜ Computes (results (cellsOf (now (state .entry)) w (now (r .entry))) a) d ⌝ }
-{
-    let operation = a.operation;
-    let left = a.left;
-    let right = a.right;
-    let pair = read_pair(state, w, r, left, right);
-    if pair.trap != 0 {
-        return no_result(pair.trap);
-    }
-    computed(operation, pair.left, pair.right)
 }

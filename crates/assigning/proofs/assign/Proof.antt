@@ -1,4 +1,5 @@
-use Rattle.assigning.specs.Assigned.{legal, unworked, assigned-stepped}
+use Rattle.storing.specs.Operands.{legal}
+use Rattle.assigning.specs.Assigned.{unworked, assigned-stepped}
 use borrow.Author.Needs.{needs}
 use Rattle.assigning.proofs.assign.Statement.{statement}
 use Rattle.assigning.proofs.assign.Tie as tie

@@ -1,0 +1,39 @@
+use Rattle.rules.specs.Machine.{job}
+use Rattle.rules.specs.Encoding.{machineFrom}
+use Rattle.encoding.specs.Encoded.{encoded-canonical, encoded-machine}
+use Rattle.storing.specs.Destinations.{standing, both-stored}
+use Rattle.storing.specs.Operands.{legal}
+use borrow.Author.Needs.{needs}
+use Rattle.storing.proofs.store_both.Statement.{statement}
+use Rattle.storing.proofs.store_both.Tie as tie
+
+store-second-requires : tie.Need-store-second-requires
+store-second-requires c κs =
+    let s = c .before .before .before .before .before .before .before .before .before .before in
+    let h = s .pre .0 in
+    let a = s .args .a in
+    let first = c .before .before .before .before .store-first .ensures in (
+      encoded-canonical _ _ (first .1),
+      h .inside,
+      first .0 .running,
+      rw (c .block-field .ensures) (h .readable .block),
+      legal h a (s .pre .1) .second,
+      standing (machineFrom (s .args .state .now)) (s .args .t .0) (rw (h .ready .canonical .sized .threads) (h .inside))
+          _ _ (a .first) (s .args .u) (job _ _ _) _ (encoded-machine _ _ (first .1)),
+    )
+
+returns : tie.Need-returns
+returns c =
+    let s = c .before .before .before .before .before .before .before .before .before .before .before .before .before in
+    let h = s .pre .0 in
+    let a = s .args .a in
+    let fits = legal h a (s .pre .1) in
+    let first = c .before .before .before .before .before .before .before .store-first in
+    both-stored (machineFrom (s .args .state .now)) (s .args .t .0) (rw (h .ready .canonical .sized .threads) (h .inside)) (s .args .w)
+    (s .args .r .now) a (s .args .u) (s .args .v) (first .result) (fits .first) (fits .second) (first .ensures .0) (first .ensures .1)
+    (rw (c .before .before .before .block-field .ensures) at (c .before .before .store-second .ensures))
+
+pub store-both-spec : {M : Type 1} → statement M
+store-both-spec =
+    tie.close
+    (tie.spec (λ c κs. search needs) (λ c κs. search needs) store-second-requires (λ c. search needs) returns)

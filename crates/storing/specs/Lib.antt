@@ -1,0 +1,3 @@
+pub mod Destinations
+pub mod Operands
+pub mod Written
