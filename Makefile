@@ -133,17 +133,17 @@ soak: $(LIBRARY) | build
 replay: $(LIBRARY) | build
 	$(COMPARE) replay $(SEED)
 
-# after the proofs two rows of tests, side by side: those of the toolchains, and those of the C hosts. Both make the library, one after
-# the other
+# after the proofs two rows of tests, side by side, which take about as long. Both make the library, one after the other; the trials, whose
+# time is limited, run while the other row makes it
 test: prove
 	MAKEFLAGS= $(MAKE) --no-print-directory -j2 -O toolchains hosts
 	@tail -n 1 build/ci.log
 
 toolchains:
-	MAKEFLAGS= $(MAKE) --no-print-directory style try sorts second compare
+	MAKEFLAGS= $(MAKE) --no-print-directory style try sorts compare
 
 hosts:
-	MAKEFLAGS= $(MAKE) --no-print-directory build/bench host command examples papers installed
+	MAKEFLAGS= $(MAKE) --no-print-directory build/bench host command examples papers installed second
 
 # ---- installation: the places have GNU's names; DESTDIR goes before each of them
 PREFIX ?= /usr/local
