@@ -72,7 +72,7 @@ prove: | build
 
 # the trials compiled three ways, once with the compiler's assumptions checked
 try:
-	rt try trials
+	sh tests/try.sh
 
 sorts:
 	sh tests/sorts.sh
