@@ -27,17 +27,8 @@ use Rattle.rules.specs.Link.{shiftRecord, records, linked, names, shareBlock}
 use Rattle.rules.specs.Calls.{stateLengthFault, stateFault, eventsLengthFault, eventFault, answersLengthFault, wordsLengthFault}
 use Rattle.rules.specs.Calls.{sharedBlockFault, tooManyRecordsFault, outputLengthFault}
 use Rattle.rules.specs.Calls.{checkReturn, freshReturn, freshState, runReturn, runState, runAnswers, linkReturn, linkOut}
-use Rattle.byte_trials.specs.Lent.{recordBytes, arrivalBytes, turnBytes, times, table, freshWith, answersWith, stateWith, presenceSet}
-
--- an operand: a number below 256, a register or a shared word
-abbrev number : ℕ → List ℕ
-number v = 1 ∷ v ∷ 0 ∷ []
-
-abbrev register : ℕ → List ℕ
-register r = 2 ∷ r ∷ 0 ∷ []
-
-abbrev word : ℕ → List ℕ
-word w = 3 ∷ w ∷ 0 ∷ []
+use Rattle.byte_trials.specs.Lent.{recordBytes, number, register, word, exiting, arrivalBytes, turnBytes, times, table, freshWith, answersWith}
+use Rattle.byte_trials.specs.Lent.{stateWith, presenceSet}
 
 -- a record of block 0: DIVIDE (12), on to label a, with the destinations d and e, of p and q
 abbrev record12 : ℕ → List ℕ → List ℕ → List ℕ → List ℕ → List ℕ
@@ -45,7 +36,7 @@ record12 a d e p q = recordBytes 12 0 3 0 a 0 (4 ∷ d ++ e ++ p ++ q)
 
 -- label 0: DIVIDE, on to 1; label 1: EXIT
 abbrev dividing : List ℕ → List ℕ → List ℕ → List ℕ → List ℕ
-dividing d e p q = record12 1 d e p q ++ recordBytes 10 0 0 0 0 0 []
+dividing d e p q = record12 1 d e p q ++ exiting 0 0
 
 -- an arrival with the values 17 and 5, which become registers 0 and 1, and two steps: the job starts, and label 0 is carried out
 abbrev startAndStep : List ℕ
@@ -70,11 +61,7 @@ quotient d e = dividing d e (register 0) (register 1)
 
 -- 17 / 0, to these destinations
 abbrev byZero : List ℕ → List ℕ → List ℕ
-byZero d e = dividing d e (register 0) (number 0)
-
--- label 0 in block 1: EXIT
-abbrev exiting : List ℕ
-exiting = recordBytes 10 1 3 0 0 0 []
+byZero d e = dividing d e (register 0) (number 0 0)
 
 pub record Divisions : Type 0 where
   -- 17 = 5 × 3 + 2: the quotient in register 3, the remainder in shared word 3, and the other way round
@@ -89,24 +76,24 @@ pub record Divisions : Type 0 where
   pub over-sources : registersAfter (quotient (register 0) (register 1)) 8 ≡ 3 ∷ 0 ∷ 0 ∷ 0 ∷ 3 ∷ 0 ∷ 2 ∷ 0 ∷ []
   pub over-turned : registersAfter (quotient (register 1) (register 0)) 8 ≡ 3 ∷ 0 ∷ 0 ∷ 0 ∷ 2 ∷ 0 ∷ 3 ∷ 0 ∷ []
   -- 65,535 / 1 is 65,535, nothing left; 5 / 17 is 0, and 5 is left
-  pub by-one : wordsAfter (dividing (word 0) (word 1) (1 ∷ 255 ∷ 255 ∷ []) (number 1)) 4 ≡ 255 ∷ 255 ∷ 0 ∷ 0 ∷ []
+  pub by-one : wordsAfter (dividing (word 0) (word 1) (number 255 255) (number 1 0)) 4 ≡ 255 ∷ 255 ∷ 0 ∷ 0 ∷ []
   pub below : wordsAfter (dividing (word 0) (word 1) (register 1) (register 0)) 4 ≡ 0 ∷ 0 ∷ 5 ∷ 0 ∷ []
   -- a zero q: 8, 8, and after it the state is Fresh's again; an absent register, p or q, is found first: 8, 1
   pub zero-divisor : answersTo (byZero (register 0) (word 0)) ≡ 1 ∷ 0 ∷ 5 ∷ 0 ∷ 8 ∷ 8 ∷ []
   pub zero-divisor-left : stateWith table (byZero (register 0) (word 0)) 3 startAndStep ≡ freshWith table (byZero (register 0) (word 0))
-  pub absent-p : answersTo (dividing (register 0) (word 0) (register 2) (number 0)) ≡ 1 ∷ 0 ∷ 5 ∷ 0 ∷ 8 ∷ 1 ∷ []
+  pub absent-p : answersTo (dividing (register 0) (word 0) (register 2) (number 0 0)) ≡ 1 ∷ 0 ∷ 5 ∷ 0 ∷ 8 ∷ 1 ∷ []
   pub absent-q : answersTo (dividing (register 0) (word 0) (register 0) (register 2)) ≡ 1 ∷ 0 ∷ 5 ∷ 0 ∷ 8 ∷ 1 ∷ []
   -- equal destinations: number 4 at the label; a register and a word of one number are none, nor are two registers of two numbers
   pub equal-registers : checkReturn (quotient (register 3) (register 3)) table ≡ 262144
-  pub equal-words : checkReturn (exiting ++ record12 1 (word 3) (word 3) (register 0) (register 1)) table ≡ 262145
+  pub equal-words : checkReturn (exiting 1 3 ++ record12 1 (word 3) (word 3) (register 0) (register 1)) table ≡ 262145
   pub one-number : checkReturn (quotient (register 3) (word 3)) table ≡ 0
   pub two-numbers : checkReturn (quotient (register 3) (register 4)) table ≡ 0
   -- a number as a destination: number 4
-  pub quotient-to-number : checkReturn (quotient (number 3) (word 3)) table ≡ 262144
-  pub remainder-to-number : checkReturn (quotient (word 3) (number 3)) table ≡ 262144
+  pub quotient-to-number : checkReturn (quotient (number 3 0) (word 3)) table ≡ 262144
+  pub remainder-to-number : checkReturn (quotient (word 3) (number 3 0)) table ≡ 262144
   -- linked behind one record, label A is one higher
-  pub linked-at : linkOut exiting (quotient (register 3) (word 3)) table (replicate 252 7)
-      ≡ exiting ++ record12 2 (register 3) (word 3) (register 0) (register 1) ++ recordBytes 10 0 0 0 0 0 []
+  pub linked-at : linkOut (exiting 1 3) (quotient (register 3) (word 3)) table (replicate 252 7)
+      ≡ exiting 1 3 ++ record12 2 (register 3) (word 3) (register 0) (register 1) ++ exiting 0 0
 
 pub divisions : Divisions
 unfolding num16 num32 part isZeros allFrom anyFrom firstBad blocks pad chunks every labels recordAt rowAt operandOf operandAt

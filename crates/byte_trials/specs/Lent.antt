@@ -12,6 +12,20 @@ use Rattle.rules.specs.Calls.{freshState, runState, runAnswers}
 abbrev pub recordBytes : ℕ → ℕ → ℕ → ℕ → ℕ → ℕ → List ℕ → List ℕ
 recordBytes opcode block entry operator a b operands = opcode ∷ block ∷ entry ∷ operator ∷ a ∷ 0 ∷ b ∷ 0 ∷ pad 0 76 operands
 
+-- an operand: a number of these two bytes, a register or a shared word
+abbrev pub number : ℕ → ℕ → List ℕ
+number low high = 1 ∷ low ∷ high ∷ []
+
+abbrev pub register : ℕ → List ℕ
+register r = 2 ∷ r ∷ 0 ∷ []
+
+abbrev pub word : ℕ → List ℕ
+word w = 3 ∷ w ∷ 0 ∷ []
+
+-- the record of EXIT in a block, with this entry
+abbrev pub exiting : ℕ → ℕ → List ℕ
+exiting block entry = recordBytes 10 block entry 0 0 0 []
+
 -- the 55 bytes of an arrival at a label, with the value count and the values, and of a step (kind 2) or a cut (kind 3) of a thread
 abbrev pub arrivalBytes : ℕ → List ℕ → List ℕ
 arrivalBytes l values = 1 ∷ 0 ∷ l ∷ 0 ∷ pad 0 51 values

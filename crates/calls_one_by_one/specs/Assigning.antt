@@ -1,25 +1,35 @@
 -- A step of ASSIGN's kind in a list of calls: what it works out is stored, and the job goes on to A; or it traps, and nothing is stored.
-use mathlib.Core.Path.{_≡_, refl, ap, _∙_}
+use mathlib.Core.Path.{_≡_, refl, ap, _∙_, subst}
 use mathlib.Core.Logic.{_⊎_, inl, inr}
 use mathlib.Core.Option.{none, some}
 use mathlib.Core.List.{List, [], _∷_, _++_}
 use Prim.Native.Nat.{ℕ}
-use lib.ListN.{getD, set}
+use native.Mathlib.Omega.{arith}
+use lib.ListN.{length, getD, set}
+use Rattle.rules.specs.Sizes.{registerCount}
 use Rattle.rules.specs.Image.{recordAt, labelA}
 use Rattle.rules.specs.Statements.{operandAt, statementOf}
-use Rattle.rules.specs.Machine.{Signal, Job, job, withHeld, running, Machine, threadAt, jobOf, first, keep}
+use Rattle.rules.specs.Machine.{Signal, Job, job, withHeld, idle, running, Machine, threadAt, jobOf, first, keep}
 use Rattle.rules.specs.Effects.{Got, trap, got, then, Cells, Results, read, readAll, compute, assigned}
+use Rattle.rules.specs.Storing.{Place, length-window}
+use Rattle.rules.specs.Check.{recordOk}
 use Rattle.rules.specs.Events.{Event, step}
 use Rattle.rules.specs.Answers.{code, detail}
 use Rattle.rules.specs.Steps.{blockAt}
 use Rattle.rules.specs.declared.statement.Assignment.{Assignment}
 use Rattle.rules.specs.declared.statement.Operand.{Operand}
-use Rattle.rules.specs.declared.statement.Operand.the-variants.{Register}
+use Rattle.rules.specs.declared.statement.Operand.the-variants.{Number, Register, Word}
 use Rattle.rules.specs.declared.statement.Statement.the-variants.{Assign}
+use Rattle.fields.specs.Each.{each-or}
+use Rattle.laws.specs.Passed.{Parts, passed, rule-parts}
+use Rattle.encoding.specs.Sized.{SizedThread}
+use Rattle.soundness.specs.Sound.{ThreadIn}
 use Rattle.step_laws.specs.Reading.{pair-absent}
 use Rattle.step_laws.specs.Statements as law
 use Rattle.step_laws.specs.Statements.{cellsAt, results}
+use Rattle.operands.specs.Statements.{Lands}
 use Rattle.calls_one_by_one.specs.CallList.{Run, Calls, eventList, eventsOf}
+use Rattle.calls_one_by_one.specs.Whole as whole
 use Rattle.calls_one_by_one.specs.Reached.{reached, good, Stepped, Trapped, stepped, trapped}
 
 -- operand i of the record at a job's label
@@ -38,6 +48,32 @@ leaving image s t locks j c = record {
       set (s .threads) t (running locks (withHeld (j .held) (job (labelA (recordAt image (j .label))) (j .returns) (c .registers))));
   trees = s .trees;
 }
+
+-- a place in the cells of a job that runs, for each destination that a record may have
+cell : (image : List ℕ) (s : Machine) (j : Job) → length (j .registers) ≡ registerCount → (d : Operand) → Lands d
+    → Place (cellsAt image s j) d
+cell image s j l (Number n) h = h
+cell image s j l (Register r) h = omega arith
+cell image s j l (Word w) h = omega (arith, length-window (blockAt image (j .label)) (s .words))
+
+module _ (image table words state : List ℕ) (runs : List Run) (calls : Calls image table words state runs) (before after : List Event)
+    (t : ℕ) (split : eventsOf (eventList runs) ≡ before ++ step t ∷ after) (locks : ℕ) (j : Job)
+    (busy : threadAt (reached image table words before) t ≡ running locks j) where
+  -- the record at the label of a job that runs breaks no rule, and its destinations are places
+  pub record-parts : Parts image (recordAt image (j .label))
+  unfolding recordOk
+  record-parts =
+      let ok = whole.checked image table words state runs calls in
+      let sound = good image table words state runs calls before after t split .sound in
+      let here = subst (ThreadIn image table t) busy (sound .threads t) in
+      rule-parts image (recordAt image (j .label)) (passed image table [] ok .0 .records (j .label) (here .places .0 .below))
+
+  pub place : (d : Operand) → Lands d → Place (cellsAt image (reached image table words before) j) d
+  place =
+      let machine = good image table words state runs calls before after t split .sized in
+      let job = subst SizedThread busy
+      (each-or SizedThread (reached image table words before .threads) t idle (machine .eachThread) tt) in
+      cell image (reached image table words before) j (job .registers)
 
 module _ (image table words state : List ℕ) (runs : List Run) (calls : Calls image table words state runs) (before after : List Event)
     (t : ℕ) (split : eventsOf (eventList runs) ≡ before ++ step t ∷ after) (locks : ℕ) (j : Job)

@@ -2,51 +2,37 @@
 -- are stored: after it the first destination has the quotient, the second the remainder, and every other place what it had, `divides`.
 -- Where q is zero it is answered 8, 8: the job ends, and nothing is stored, `traps-by-zero`. An absent register is found first: 8, 1,
 -- `absent-first`.
-use mathlib.Core.Path.{_≡_, refl, _∙_, subst}
+use mathlib.Core.Path.{_≡_, refl, _∙_}
 use mathlib.Core.Logic.{_≢_, _⊎_}
 use mathlib.Core.Option.{none}
 use mathlib.Core.List.{List, [], _∷_, _++_}
 use Prim.Native.Nat.{ℕ}
 use native.Mathlib.Omega.{arith}
-use lib.ListN.{length, getD}
-use Rattle.rules.specs.Sizes.{registerCount}
+use lib.ListN.{getD}
 use Rattle.rules.specs.Image.{recordAt, opcode}
 use Rattle.rules.specs.Statements.{operationAt, optional, assignmentBy, assignmentOf, statementOf}
-use Rattle.rules.specs.Machine.{Job, idle, running, Machine, threadAt}
+use Rattle.rules.specs.Machine.{Job, running, Machine, threadAt}
 use Rattle.rules.specs.Effects.{got, Cells, read, store}
 use Rattle.rules.specs.Division.{Divided, computed, by-zero}
-use Rattle.rules.specs.Storing.{Place, length-window, read-other, first-stored, second-stored}
-use Rattle.rules.specs.Check.{recordOk}
+use Rattle.rules.specs.Storing.{Place, read-other, first-stored, second-stored}
 use Rattle.rules.specs.Events.{Event, step}
-use Rattle.rules.specs.Steps.{blockAt}
 use Rattle.rules.specs.declared.statement.Assignment.{Assignment}
 use Rattle.rules.specs.declared.statement.Operand.{Operand}
-use Rattle.rules.specs.declared.statement.Operand.the-variants.{Number, Register, Word}
+use Rattle.rules.specs.declared.statement.Operand.the-variants.{Register}
 use Rattle.rules.specs.declared.statement.Operation.the-variants.{Divide}
 use Rattle.rules.specs.declared.statement.Statement.the-variants.{Assign}
-use Rattle.fields.specs.Each.{each-or}
-use Rattle.laws.specs.Passed.{Parts, passed, rule-parts}
-use Rattle.encoding.specs.Sized.{SizedThread}
-use Rattle.soundness.specs.Sound.{ThreadIn}
+use Rattle.laws.specs.Passed.{Parts}
 use Rattle.step_laws.specs.Statements.{cellsAt}
 use Rattle.operands.specs.Statements.{Lands, first-lands}
 use Rattle.operands.specs.TwoDestinations.{no-operator, second-lands, differ}
 use Rattle.calls_one_by_one.specs.CallList.{Run, Calls, eventList, eventsOf}
-use Rattle.calls_one_by_one.specs.Whole as whole
-use Rattle.calls_one_by_one.specs.Reached.{reached, good, Stepped, Trapped}
-use Rattle.calls_one_by_one.specs.Assigning.{operand, sources, leaving, stores, traps, absent-source}
+use Rattle.calls_one_by_one.specs.Reached.{reached, Stepped, Trapped}
+use Rattle.calls_one_by_one.specs.Assigning.{operand, sources, leaving, record-parts, place, stores, traps, absent-source}
 
 -- thread t runs this job, at whose label a record of DIVIDE (12) stands: operands 0 and 1 are its destinations, 2 and 3 are p and q
 pub record AtDivide (image : List ℕ) (s : Machine) (t locks : ℕ) (j : Job) : Type 0 where
   pub thread : threadAt s t ≡ running locks j
   pub divide : opcode (recordAt image (j .label)) ≡ 12
-
--- a place in the cells of a job that runs, for each destination that a record may have
-cell : (image : List ℕ) (s : Machine) (j : Job) → length (j .registers) ≡ registerCount → (d : Operand) → Lands d
-    → Place (cellsAt image s j) d
-cell image s j l (Number n) h = h
-cell image s j l (Register r) h = omega arith
-cell image s j l (Word w) h = omega (arith, length-window (blockAt image (j .label)) (s .words))
 
 -- the cells c, with u in the first destination and v in the second
 abbrev pub bothStored : List ℕ → Job → ℕ → ℕ → Cells → Cells
@@ -73,25 +59,17 @@ module _ (image table words state : List ℕ) (runs : List Run) (calls : Calls i
 
   -- the record breaks no rule: it has no operator, and its destinations are two places, which are not equal
   parts : Parts image (recordAt image (j .label))
-  unfolding recordOk
-  parts =
-      let ok = whole.checked image table words state runs calls in
-      let sound = good image table words state runs calls before after t split .sound in
-      let here = subst (ThreadIn image table t) (h .thread) (sound .threads t) in
-      rule-parts image (recordAt image (j .label)) (passed image table [] ok .0 .records (j .label) (here .places .0 .below))
+  parts = record-parts image table words state runs calls before after t split locks j (h .thread)
 
   abbrev a : Assignment
   a = assignmentOf Divide (recordAt image (j .label))
 
   statement : statementOf (recordAt image (j .label)) ≡ Assign a
   unfolding statementOf operationAt
-  statement = rw (h .divide, no-operator parts (h .divide))
+  statement = rw (h .divide, no-operator parts (omega (arith, h .divide)))
 
-  place : (d : Operand) → Lands d → Place (cellsAt image s j) d
-  place =
-      let job = subst SizedThread (h .thread)
-      (each-or SizedThread (s .threads) t idle (good image table words state runs calls before after t split .sized .eachThread) tt) in
-      cell image s j (job .registers)
+  placed : (d : Operand) → Lands d → Place (cellsAt image s j) d
+  placed = place image table words state runs calls before after t split locks j (h .thread)
 
   -- WHERE Q IS ZERO, THE STEP IS ANSWERED 8, 8, AND NOTHING IS STORED
   pub traps-by-zero : (p : ℕ) → sources image s j 2 3 ≡ got (p ∷ 0 ∷ []) → Trapped image table words state runs before after t 8
@@ -108,10 +86,10 @@ module _ (image table words state : List ℕ) (runs : List Run) (calls : Calls i
         (record { first = u; second = v }) e (computed p q u v d);
     quotient =
         first-stored (cellsAt image s j) (operand image j 0) (operand image j 1) u v (differ parts a statement refl)
-        (place (operand image j 0) (first-lands parts a statement));
+        (placed (operand image j 0) (first-lands parts a statement));
     remainder =
         second-stored (cellsAt image s j) (operand image j 0) (operand image j 1) u v (differ parts a statement refl)
-        (place (operand image j 1) (second-lands parts a statement refl));
+        (placed (operand image j 1) (second-lands parts a statement refl));
     others = λ z m n.
         read-other (store (operand image j 0) u (cellsAt image s j)) z (operand image j 1) v n
         ∙ read-other (cellsAt image s j) z (operand image j 0) u m;

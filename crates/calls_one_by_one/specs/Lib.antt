@@ -14,3 +14,4 @@ pub mod Jobs
 pub mod Groups
 pub mod Subtraction
 pub mod Division
+pub mod Decimal

@@ -4,12 +4,14 @@ use rules::codes::ADD;
 use rules::codes::ASSIGN;
 use rules::codes::CALL;
 use rules::codes::COPY;
+use rules::codes::DECIMAL_ADD;
 use rules::codes::DIVIDE;
 use rules::codes::EQUAL;
 use rules::codes::GOTO;
 use rules::codes::IF;
 use rules::codes::MULTIPLY;
 use rules::codes::NUMBER_OPERAND;
+use rules::codes::PACK;
 use rules::codes::REGISTER_OPERAND;
 use rules::codes::RETURN;
 use rules::codes::SEND_BUFFERED;
@@ -18,6 +20,7 @@ use rules::codes::SEND_TREE;
 use rules::codes::SKIP;
 use rules::codes::SUBTRACT;
 use rules::codes::TRANSFER;
+use rules::codes::UNPACK;
 use rules::layout::OPCODE_PLACE;
 use rules::layout::OPERAND_SIZE;
 use rules::layout::OPERANDS_PLACE;
@@ -31,7 +34,9 @@ use rules::statement::Shape;
 use rules::statement::Statement;
 ghost use mathlib.Core.Path.{_≡_};
 ghost use mathlib.Core.Bool.{cond};
+ghost use mathlib.Core.Option.{none, some};
 ghost use Prim.Native.Nat.{_<_, _≤_};
+ghost use lib.Dec.{eqb};
 ghost use lib.ListN.{length};
 ghost use Rattle.rules.specs.Sizes.{recordSize, operandCount};
 ghost use Rattle.rules.specs.Image.{kind, value};
@@ -81,6 +86,17 @@ pub enum Assigns {
     Work(Operation),
 }
 
+// Of an opcode that has no operator.
+fn without_operator(operator: u8, o: Operation) -> Assigns
+    ensures { λ z. ⌜ z ≡ assignsOf (cond (eqb operator 0) (some o) none) ⌝ }
+{
+    if operator == 0 {
+        Assigns::Work(o)
+    } else {
+        Assigns::Nothing
+    }
+}
+
 pub fn operation_at(opcode: u8, operator: u8) -> Assigns
     ensures { λ z. ⌜ z ≡ assignsOf (operationAt opcode operator) ⌝ }
 {
@@ -92,10 +108,10 @@ pub fn operation_at(opcode: u8, operator: u8) -> Assigns
             MULTIPLY => Assigns::Work(Operation::Multiply),
             _ => Assigns::Nothing,
         },
-        DIVIDE => match operator {
-            0 => Assigns::Work(Operation::Divide),
-            _ => Assigns::Nothing,
-        },
+        DIVIDE => without_operator(operator, Operation::Divide),
+        PACK => without_operator(operator, Operation::Pack),
+        UNPACK => without_operator(operator, Operation::Unpack),
+        DECIMAL_ADD => without_operator(operator, Operation::DecimalAdd),
         _ => Assigns::Nothing,
     }
 }
@@ -122,6 +138,18 @@ pub fn shape_of(o: Operation) -> Shape
         },
         Operation::Divide => Shape {
             second: true,
+            right: true,
+        },
+        Operation::Pack => Shape {
+            second: false,
+            right: false,
+        },
+        Operation::Unpack => Shape {
+            second: false,
+            right: false,
+        },
+        Operation::DecimalAdd => Shape {
+            second: false,
             right: true,
         },
     }

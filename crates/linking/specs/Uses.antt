@@ -7,7 +7,7 @@ use Prim.Native.Nat.{ℕ, _+_, _^_, _<_}
 use lib.Dec.{eqb, ltb}
 use borrow.Author.Tests.{eqb-true, ltb-true}
 use Rattle.rules.specs.Codes.{skipCode, assignCode, gotoCode, ifCode, sendDirectCode, sendBufferedCode, callCode, transferCode}
-use Rattle.rules.specs.Codes.{sendTreeCode, divideCode}
+use Rattle.rules.specs.Codes.{sendTreeCode, divideCode, packCode, unpackCode, decimalAddCode}
 use Rattle.rules.specs.Bytes.{has, every}
 use Rattle.rules.specs.Image.{opcode, operator, operands}
 use Rattle.rules.specs.Statements.{Form, forms, operationIn, operationAt, Other, others, otherIn, otherAt, assignmentOf, statementOf}
@@ -23,7 +23,7 @@ use Rattle.laws.specs.Heads.{head-fields}
 abbrev pub usingA : ℕ
 usingA =
     2 ^ skipCode + 2 ^ assignCode + 2 ^ gotoCode + 2 ^ ifCode + 2 ^ sendDirectCode + 2 ^ sendBufferedCode + 2 ^ callCode + 2 ^ transferCode
-    + 2 ^ sendTreeCode + 2 ^ divideCode
+    + 2 ^ sendTreeCode + 2 ^ divideCode + 2 ^ packCode + 2 ^ unpackCode + 2 ^ decimalAddCode
 
 abbrev pub usingB : ℕ
 usingB = 2 ^ ifCode + 2 ^ sendBufferedCode + 2 ^ callCode + 2 ^ sendTreeCode

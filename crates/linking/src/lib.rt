@@ -6,14 +6,17 @@ use image::record_fields::label_b;
 use image::records::count_labels;
 use rules::codes::ASSIGN;
 use rules::codes::CALL;
+use rules::codes::DECIMAL_ADD;
 use rules::codes::DIVIDE;
 use rules::codes::GOTO;
 use rules::codes::IF;
+use rules::codes::PACK;
 use rules::codes::SEND_BUFFERED;
 use rules::codes::SEND_DIRECT;
 use rules::codes::SEND_TREE;
 use rules::codes::SKIP;
 use rules::codes::TRANSFER;
+use rules::codes::UNPACK;
 use rules::layout::LABEL_A_PLACE;
 use rules::layout::LABEL_B_PLACE;
 use rules::layout::OPCODE_PLACE;
@@ -44,7 +47,10 @@ const USING_A: u16 = (1 << SKIP)
     | (1 << CALL)
     | (1 << TRANSFER)
     | (1 << SEND_TREE)
-    | (1 << DIVIDE);
+    | (1 << DIVIDE)
+    | (1 << PACK)
+    | (1 << UNPACK)
+    | (1 << DECIMAL_ADD);
 
 const USING_B: u16 = (1 << IF) | (1 << SEND_BUFFERED) | (1 << CALL) | (1 << SEND_TREE);
 

@@ -1,15 +1,14 @@
 -- What an assignment with two destinations has, if its record breaks no rule: each is a register or a shared word, and they are not equal.
 use mathlib.Core.Path.{_≡_, refl, sym, _∙_, subst}
 use mathlib.Core.Logic.{_≢_, _⊎_, inl, inr}
-use mathlib.Core.Bool.{Bool, true, false, cond, not, _&&_, false≢true}
+use mathlib.Core.Bool.{Bool, true, false, cond, not, _&&_, and-false, false≢true}
 use mathlib.Core.Option.{Option, none}
 use mathlib.Core.List.{List}
 use Prim.Native.Nat.{ℕ, _+_, _≤_, _<_}
 use native.Mathlib.Omega.{arith}
 use lib.Dec.{eqb, leb}
-use borrow.Author.Tests.{eq-eqb, eqb-true, leb-true}
+use borrow.Author.Tests.{eq-eqb, ne-eqb, eqb-true, leb-true}
 use Rattle.rules.specs.Sizes.{registerCount, wordCount}
-use Rattle.rules.specs.Codes.{divideCode}
 use Rattle.rules.specs.Image.{opcode, operator, operands, kind, value}
 use Rattle.rules.specs.Statements.{operandOf, operandAt, operationAt, otherAt, optional, shape, statementOf}
 use Rattle.rules.specs.Check.{otherOk, shapeOk, operandOk}
@@ -40,17 +39,35 @@ same k v k′ v′ (inl e) (inr f) h = let g : Register v ≡ Word v′ = rw (e,
 same k v k′ v′ (inr e) (inl f) h = let g : Word v ≡ Register v′ = rw (e, f) at h in never (cc)
 same k v k′ v′ (inr e) (inr f) h = let g : Word v ≡ Word v′ = rw (e, f) at h in (e ∙ sym f, cc)
 
--- DIVIDE has no operator
-pub no-operator : {image r : List ℕ} → Parts image r → opcode r ≡ divideCode → operator r ≡ 0
+-- an opcode from 12 on has no operator
+pub no-operator : {image r : List ℕ} → Parts image r → 12 ≤ opcode r → operator r ≡ 0
 unfolding operationAt otherOk otherAt
-no-operator {r = r} p e = case (eqb (operator r) 0) refl
+no-operator {r = r} p l = case (eqb (operator r) 0) refl
   where
+    other-than : (n : ℕ) → n < 12 → eqb (opcode r) n ≡ false
+    other-than n h = ne-eqb (opcode r) n (λ e. absurd (omega arith))
+
+    unknown : otherOk r ≡ false
+    unknown =
+        simp (
+          other-than 1 (omega arith),
+          other-than 3 (omega arith),
+          other-than 4 (omega arith),
+          other-than 5 (omega arith),
+          other-than 6 (omega arith),
+          other-than 7 (omega arith),
+          other-than 8 (omega arith),
+          other-than 9 (omega arith),
+          other-than 10 (omega arith),
+          other-than 11 (omega arith),
+        )
+
     case : (b : Bool) → eqb (operator r) 0 ≡ b → operator r ≡ 0
     case true f = eqb-true (operator r) 0 f
     case false f =
-        let none-found : operationAt (opcode r) (operator r) ≡ none = rw (e, f) in
+        let none-found : operationAt (opcode r) (operator r) ≡ none = simp (other-than 2 (omega arith), f, and-false) in
         let other : otherOk r ≡ true = subst (λ (k : Option Operation). shapeOk k r ≡ true) none-found (head-fields r (p .head) .shaped) in
-        absurd (false≢true (rw e at other))
+        absurd (false≢true (sym unknown ∙ other))
 
 module _ {image r : List ℕ} (p : Parts image r) (a : Assignment) (e : statementOf r ≡ Assign a) (two : shape (a .operation) .second ≡ true)
   where

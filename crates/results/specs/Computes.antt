@@ -1,13 +1,15 @@
 -- What is worked out from two values, or from two operands that are read.
 use mathlib.Core.Path.{_≡_}
+use mathlib.Core.Bool.{true, false, and-false}
 use mathlib.Core.List.{List, [], _∷_}
 use Prim.Native.Nat.{ℕ, _-_, _/_, _%_, _<_, _≤_}
 use native.Mathlib.Omega.{arith}
 use borrow.Author.Tests.{lt-ltb, le-ltb, eq-eqb, ne-eqb}
-use Rattle.rules.specs.Codes.{belowZeroCode, zeroDivisorCode}
+use Rattle.decimals.specs.Packed.{pack, packed, unpack, sum}
+use Rattle.rules.specs.Codes.{belowZeroCode, zeroDivisorCode, notDecimalCode}
 use Rattle.rules.specs.Effects.{Got, trap, got, Cells, readAll, Results, one, both, compute}
 use Rattle.rules.specs.declared.statement.Assignment.{Assignment}
-use Rattle.rules.specs.declared.statement.Operation.the-variants.{Subtract, Divide}
+use Rattle.rules.specs.declared.statement.Operation.the-variants.{Subtract, Divide, Pack, Unpack, DecimalAdd}
 use Rattle.step_laws.specs.Statements.{results}
 use Rattle.results.specs.declared.Computation.{Computation}
 
@@ -37,6 +39,32 @@ module _ (p q : ℕ) (d : Computation) where
 
   pub not-by-zero : (q ≡ 0 → ⊥) → Computes (both (p / q) (p % q)) d → Computes (compute Divide p q) d
   not-by-zero h k = rw (ne-eqb q 0 h) k
+
+-- a number packed, up to 9,999 and above
+module _ (p : ℕ) (d : Computation) where
+  pub above-9999 : 9999 < p → Computes (trap notDecimalCode) d → Computes (compute Pack p 0) d
+  above-9999 h k = rw (lt-ltb 9999 p h) k
+
+  pub up-to-9999 : p ≤ 9999 → Computes (one (pack 4 p)) d → Computes (compute Pack p 0) d
+  up-to-9999 h k = rw (le-ltb 9999 p h) k
+
+-- a packed number unpacked, and two added: where every digit is decimal, and where one is not
+module _ (p : ℕ) (d : Computation) where
+  pub decimal : packed 4 p ≡ true → Computes (one (unpack 4 p)) d → Computes (compute Unpack p 0) d
+  decimal h k = rw h k
+
+  pub not-decimal : packed 4 p ≡ false → Computes (trap notDecimalCode) d → Computes (compute Unpack p 0) d
+  not-decimal h k = rw h k
+
+module _ (p q : ℕ) (d : Computation) where
+  pub both-decimal : packed 4 p ≡ true → packed 4 q ≡ true → Computes (one (sum 4 p q)) d → Computes (compute DecimalAdd p q) d
+  both-decimal h i k = rw (h, i) k
+
+  pub left-not-decimal : packed 4 p ≡ false → Computes (trap notDecimalCode) d → Computes (compute DecimalAdd p q) d
+  left-not-decimal h k = rw h k
+
+  pub right-not-decimal : packed 4 q ≡ false → Computes (trap notDecimalCode) d → Computes (compute DecimalAdd p q) d
+  right-not-decimal h k = rw (h, and-false (packed 4 p)) k
 
 -- an assignment, where a source cannot be read, and where both are read
 module _ (c : Cells) (a : Assignment) where

@@ -1,6 +1,11 @@
 // What a statement of ASSIGN's kind works out: its sources are read, and then its operation goes by their values.
+use decimals::add_packed;
+use decimals::is_packed;
+use decimals::pack_number;
+use decimals::unpack_number;
 use operands::read_pair;
 use rules::codes::BELOW_ZERO;
+use rules::codes::NOT_DECIMAL;
 use rules::codes::ZERO_DIVISOR;
 use rules::statement::Assignment;
 use rules::statement::Operation;
@@ -10,7 +15,7 @@ ghost use Prim.Native.Nat.{_<_};
 ghost use lib.ListN.{length};
 ghost use Rattle.rules.specs.Sizes.{stateSize};
 ghost use Rattle.rules.specs.Effects.{trap, one, compute};
-ghost use Rattle.rules.specs.declared.statement.Operation.the-variants.{Subtract, Divide};
+ghost use Rattle.rules.specs.declared.statement.Operation.the-variants.{Subtract, Divide, Pack, Unpack, DecimalAdd};
 ghost use Rattle.step_laws.specs.Statements.{results};
 ghost use Rattle.operands.specs.Legal.{Fits, Readable};
 ghost use Rattle.operands.specs.Cells.{cellsOf};
@@ -71,6 +76,43 @@ fn quotient_and_remainder(p: u16, q: u16) -> Computation
     }
 }
 
+// p packed, or the trap of a number above 9,999.
+fn packing(p: u16) -> Computation
+    ensures { λ r. ⌜ Computes (compute Pack p 0) r ⌝ }
+{
+    if p > 9999 {
+        no_result(NOT_DECIMAL)
+    } else {
+        one_result(pack_number(p))
+    }
+}
+
+// p unpacked, or the trap of a digit above 9.
+fn unpacking(p: u16) -> Computation
+    ensures { λ r. ⌜ Computes (compute Unpack p 0) r ⌝ }
+{
+    if is_packed(p) {
+        one_result(unpack_number(p))
+    } else {
+        no_result(NOT_DECIMAL)
+    }
+}
+
+// The decimal sum of p and q, or the trap of a digit above 9 in either.
+fn decimal_sum(p: u16, q: u16) -> Computation
+    ensures { λ r. ⌜ Computes (compute DecimalAdd p q) r ⌝ }
+{
+    if is_packed(p) {
+        if is_packed(q) {
+            one_result(add_packed(p, q))
+        } else {
+            no_result(NOT_DECIMAL)
+        }
+    } else {
+        no_result(NOT_DECIMAL)
+    }
+}
+
 fn computed(o: Operation, p: u16, q: u16) -> Computation
     ensures { λ r. ⌜ Computes (compute o p q) r ⌝ }
 {
@@ -82,6 +124,9 @@ fn computed(o: Operation, p: u16, q: u16) -> Computation
         Operation::Subtract => difference(p, q),
         Operation::Multiply => one_result((left * right % 65536) as u16),
         Operation::Divide => quotient_and_remainder(p, q),
+        Operation::Pack => packing(p),
+        Operation::Unpack => unpacking(p),
+        Operation::DecimalAdd => decimal_sum(p, q),
     }
 }
 

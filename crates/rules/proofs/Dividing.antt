@@ -30,7 +30,10 @@ use Rattle.rules.specs.declared.statement.Assignment.{Assignment}
 use Rattle.rules.specs.declared.statement.Statement.the-variants.{Assign}
 use Rattle.rules.proofs.Running.{cellsOf, MovesOn}
 use Rattle.rules.proofs.Opcodes.{stepOf, A, register}
-use Rattle.rules.proofs.Assigning.{operand, TrapsWith, kept, goes-on, words-after, traps, reads-absent}
+use Rattle.rules.proofs.Assigning.{operand, TrapsWith, goes-on, traps, reads-absent}
+use Rattle.rules.proofs.Standing.{Stands, placed}
+use Rattle.rules.proofs.Forms as forms
+use Rattle.rules.proofs.Forms.{divide-form, faulty, count-faulty}
 
 -- thread t holds these locks and runs this job, at whose label a record of opcode 12 stands, which has no operator
 pub record AtDivide (image : List ℕ) (s : Machine) (t locks : ℕ) (j : Job) : Type 0 where
@@ -46,34 +49,12 @@ pub record Divides (image : List ℕ) (s : Machine) (t locks : ℕ) (j : Job) (d
   pub left : read (cellsOf image s j) (operand image j 2) ≡ got p
   pub right : read (cellsOf image s j) (operand image j 3) ≡ got q
 
--- a register of thread t, or a word of block b, has this value
-abbrev pub Stands : Machine → ℕ → ℕ → Operand → ℕ → Type 0
-Stands m t b (Number n) v = ⊥
-Stands m t b (Register r) v = register (threadAt m t) r ≡ some v
-Stands m t b (Word w) v = getD (m .words) (wordCount * b + w) 0 ≡ v
-
 -- an answer of 6, 0, after which the job is at A, and both values stand in their destinations
 pub record BothStand (image : List ℕ) (reply : Reply) (t locks : ℕ) (j : Job) (d e : Operand) (u v : ℕ) : Type 0 where
   pub registers : List (Option ℕ)
   pub onward : MovesOn reply t locks (withHeld (j .held) (job (A image j) (j .returns) registers))
   pub quotient : Stands (reply .state) t (blockAt image (j .label)) d u
   pub remainder : Stands (reply .state) t (blockAt image (j .label)) e v
-
--- ---- where a value stands
-
-present-some : (o : Option ℕ) (v : ℕ) → present o ≡ got v → o ≡ some v
-present-some none v h = cc
-present-some (some u) v h = cc
-
--- what the cells of a step have, the machine after it has
-stands : (m : Machine) (t b : ℕ) (c : Cells) (words : List ℕ) (d : Operand) (v : ℕ) → ((r : ℕ) → register (threadAt m t) r
-    ≡ getD (c .registers) r none) → m .words ≡ keep b (c .words) words → length (c .words) ≡ wordCount
-    → wordCount * b + wordCount ≤ length words → Place c d → read c d ≡ got v → Stands m t b d v
-stands m t b c words (Number n) v f g l h p e = absurd p
-stands m t b c words (Register r) v f g l h p e = f r ∙ present-some (getD (c .registers) r none) v e
-stands m t b c words (Word w) v f g l h p e =
-    let value : getD (c .words) w 0 ≡ v = cc in
-    rw g (kept b w (c .words) words (omega arith) p (omega arith) ∙ value)
 
 -- ---- a step of DIVIDE
 
@@ -113,30 +94,22 @@ module _ (image table : List ℕ) (s : Machine) (t locks : ℕ) (j : Job) where
           rw (h .quotient, h .remainder) at
           (goes-on image table s t locks j a (h .here .thread) (statement (h .here)) p q (h .left) (h .right) _ f)
 
-      words : stepOf image table s t .state .words ≡ keep own (left .words) (s .words)
-      unfolding assignmentBy optional
-      words =
-          rw (h .quotient, h .remainder) at
-          (words-after image table s t locks j a (h .here .thread) (statement (h .here)) p q (h .left) (h .right) _ f)
-
-      sized : length (left .words) ≡ wordCount
-      sized = length-words (store d u (cellsOf image s j)) e v ∙ length-words (cellsOf image s j) d u ∙ length-window own (s .words)
-
       -- of two destinations that are not equal
       module _ (differ : d ≢ e) (inside : wordCount * own + wordCount ≤ length (s .words)) (x : Place (cellsOf image s j) d)
           (y : Place (cellsOf image s j) e) where
-        placed : (z : Operand) (n : ℕ) → Place (cellsOf image s j) z → read left z ≡ got n
+        stands : (z : Operand) (n : ℕ) → Place (cellsOf image s j) z → read left z ≡ got n
             → Stands (stepOf image table s t .state) t own z n
-        placed z n k =
-            stands (stepOf image table s t .state) t own left (s .words) z n (λ r. rw (after .thread)) words sized inside
-            (place-stored (store d u (cellsOf image s j)) z e v (place-stored (cellsOf image s j) z d u k))
+        unfolding assignmentBy optional
+        stands z n k r =
+            placed image table s t locks j a (h .here .thread) (statement (h .here)) p q (h .left) (h .right) _ f inside z n k
+            (rw (h .quotient, h .remainder) r)
 
         both-stand : BothStand image (stepOf image table s t) t locks j d e u v
         both-stand = record {
           registers = left .registers;
           onward = after;
-          quotient = placed d u x (first-stored (cellsOf image s j) d e u v differ x);
-          remainder = placed e v y (second-stored (cellsOf image s j) d e u v differ y);
+          quotient = stands d u x (first-stored (cellsOf image s j) d e u v differ x);
+          remainder = stands e v y (second-stored (cellsOf image s j) d e u v differ y);
         }
 
 -- ---- faulty records
@@ -162,39 +135,18 @@ pub record EqualDestinations (r : List ℕ) : Type 0 where
   pub kinds : kind r 0 ≡ kind r 1
   pub numbers : value r 0 ≡ value r 1
 
--- with an operator it is no opcode
-no-other : (r : List ℕ) → opcode r ≡ 12 → otherOk r ≡ false
-unfolding otherOk otherAt
-no-other r e = rw e
-
--- a record of opcode 12 is faulty if its operands are
-faulty : (r : List ℕ) → opcode r ≡ 12 → assignOk (shape Divide) (operands r) (kind r 0) (value r 0) (kind r 1) (value r 1) ≡ false
-    → headOk r ≡ false
-unfolding headOk operationAt
-faulty r e h = rw (case (eqb (operator r) 0) refl, and-false)
-  where
-    case : (b : Bool) → eqb (operator r) 0 ≡ b → shapeOk (operationAt (opcode r) (operator r)) r ≡ false
-    case true f = rw (e, f, h)
-    case false f =
-        let none-found : operationAt (opcode r) (operator r) ≡ none = rw (e, f) in
-        ap (λ (k : Option Operation). shapeOk k r) none-found ∙ no-other r e
-
 equal-faulty : (image : List ℕ) (l : ℕ) → EqualDestinations (recordAt image l) → recordOk image l ≡ false
 unfolding recordOk ruleOk assignOk
 equal-faulty image l h =
     let r = recordAt image l in
     let same : not (eqb (kind r 0) (kind r 1) && eqb (value r 0) (value r 1)) ≡ false =
     rw (eq-eqb (kind r 0) (kind r 1) (h .kinds), eq-eqb (value r 0) (value r 1) (h .numbers)) in
-    rw (faulty r (h .divide) (rw (same, and-false, and-false)))
+    rw (faulty 12 Divide divide-form r (h .divide) (rw (same, and-false, and-false)))
 
 number-faulty : (r : List ℕ) → opcode r ≡ 12 → (kind r 0 ≡ 1) ⊎ (kind r 1 ≡ 1) → headOk r ≡ false
 unfolding assignOk
-number-faulty r e (inl k) = faulty r e (rw (k, and-false))
-number-faulty r e (inr k) = faulty r e (rw (k, and-false))
-
-count-faulty : (r : List ℕ) → opcode r ≡ 12 → operands r ≢ 4 → headOk r ≡ false
-unfolding assignOk
-count-faulty r e n = faulty r e (rw (ne-eqb (operands r) 4 n))
+number-faulty r e (inl k) = forms.number-faulty 12 Divide divide-form r e k
+number-faulty r e (inr k) = faulty 12 Divide divide-form r e (rw (k, and-false))
 
 -- ---- the trials
 
@@ -258,6 +210,6 @@ divisions image table s t locks j = record {
   absent-first = absent image table s t locks j;
   equal-destinations = equal-refused image table;
   number-destination = number-faulty;
-  operand-count = count-faulty;
+  operand-count = count-faulty 12 Divide divide-form;
   other-destinations = others-pass;
 }

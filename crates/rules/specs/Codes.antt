@@ -39,6 +39,15 @@ sendTreeCode = 11
 abbrev pub divideCode : ℕ
 divideCode = 12
 
+abbrev pub packCode : ℕ
+packCode = 13
+
+abbrev pub unpackCode : ℕ
+unpackCode = 14
+
+abbrev pub decimalAddCode : ℕ
+decimalAddCode = 15
+
 -- ---- operators of ASSIGN, and of IF
 
 abbrev pub copyCode : ℕ
@@ -153,6 +162,9 @@ belowZeroCode = 7
 
 abbrev pub zeroDivisorCode : ℕ
 zeroDivisorCode = 8
+
+abbrev pub notDecimalCode : ℕ
+notDecimalCode = 9
 
 -- ---- numbers of a refusal
 

@@ -1,21 +1,23 @@
 -- What a statement does, told without image, table, other threads or locks. It sees the registers, the words of its own block, and how
 -- many return labels, pending signals and held signals there are; of labels it says only "on to A", "on to B", "into A", "call A" and
 -- "return".
-use mathlib.Core.Bool.{Bool, true, cond}
+use mathlib.Core.Bool.{Bool, true, cond, _&&_}
 use mathlib.Core.Option.{Option, none, some}
 use mathlib.Core.List.{List, [], _∷_, _++_, map}
 use Prim.Native.Nat.{ℕ, _+_, _-_, _*_, _/_, _%_}
 use lib.ListN.{length, getD, set, drop}
 use lib.Dec.{eqb, leb, ltb}
+use Rattle.decimals.specs.Packed.{pack, packed, unpack, sum}
 use Rattle.rules.specs.Sizes.{returnCount, heldCount, pendingCount}
 use Rattle.rules.specs.Codes.{absentRegisterCode, returnsFullCode, pendingFullCode, heldFullCode, belowZeroCode, zeroDivisorCode}
+use Rattle.rules.specs.Codes.{notDecimalCode}
 use Rattle.rules.specs.Machine.{fill}
 use Rattle.rules.specs.Statements.{Way, following, branching, transferring, entering, posting, founding, calling, returning, ending}
 use Rattle.rules.specs.Statements.{way, reads}
 use Rattle.rules.specs.declared.statement.Operand.{Operand}
 use Rattle.rules.specs.declared.statement.Operand.the-variants.{Number, Register, Word}
 use Rattle.rules.specs.declared.statement.Operation.{Operation}
-use Rattle.rules.specs.declared.statement.Operation.the-variants.{Copy, Add, Subtract, Multiply, Divide}
+use Rattle.rules.specs.declared.statement.Operation.the-variants.{Copy, Add, Subtract, Multiply, Divide, Pack, Unpack, DecimalAdd}
 use Rattle.rules.specs.declared.statement.Assignment.{Assignment}
 use Rattle.rules.specs.declared.statement.Relation.{Relation}
 use Rattle.rules.specs.declared.statement.Relation.the-variants.{Equal, Less}
@@ -73,13 +75,17 @@ abbrev pub both : ℕ → ℕ → Got Results
 both u v = got (record { first = u; second = v })
 
 -- copy; add and multiply, each modulo 65,536; subtract, where q above p is reason 7; divide, where a zero q is reason 8, and otherwise the
--- results are the quotient and the remainder (`Divided` of Division says what they are, and that there are no others)
+-- results are the quotient and the remainder (`Divided` of Division says what they are, and that there are no others); pack, unpack and
+-- add packed numbers of four digits, where a number above 9,999 to pack, or a digit above 9, is reason 9
 abbrev pub compute : Operation → ℕ → ℕ → Got Results
 compute Copy p q = one p
 compute Add p q = one ((p + q) % 65536)
 compute Subtract p q = cond (ltb p q) (trap belowZeroCode) (one (p - q))
 compute Multiply p q = one (p * q % 65536)
 compute Divide p q = cond (eqb q 0) (trap zeroDivisorCode) (both (p / q) (p % q))
+compute Pack p q = cond (ltb 9999 p) (trap notDecimalCode) (one (pack 4 p))
+compute Unpack p q = cond (packed 4 p) (one (unpack 4 p)) (trap notDecimalCode)
+compute DecimalAdd p q = cond (packed 4 p && packed 4 q) (one (sum 4 p q)) (trap notDecimalCode)
 
 abbrev pub holds : Relation → ℕ → ℕ → Bool
 holds Equal p q = eqb p q
@@ -198,7 +204,7 @@ overflow v Transfer = none
 overflow v Exit = none
 overflow v SendTree = cond (leb heldCount (v .held)) (some heldFullCode) none
 
--- ASSIGN and DIVIDE compute and store
+-- opcodes of ASSIGN's kind compute and store
 abbrev pub worked : Statement → List ℕ → Cells → Got Cells
 worked Skip vs c = got c
 worked (Assign a) vs c = then (compute (a .operation) (getD vs 0 0) (getD vs 1 0)) (λ x. got (assigned a x c))

@@ -6,12 +6,13 @@ use Prim.Native.Nat.{ℕ, zero, suc, _+_}
 use lib.Dec.{eqb}
 use Rattle.rules.specs.Codes.{skipCode, assignCode, gotoCode, ifCode, sendDirectCode, sendBufferedCode, callCode, returnCode}
 use Rattle.rules.specs.Codes.{transferCode, copyCode, addCode, subtractCode, multiplyCode, equalCode, lessCode, exitCode}
-use Rattle.rules.specs.Codes.{sendTreeCode, divideCode, numberOperandCode, registerOperandCode}
+use Rattle.rules.specs.Codes.{sendTreeCode, divideCode, packCode, unpackCode, decimalAddCode}
+use Rattle.rules.specs.Codes.{numberOperandCode, registerOperandCode}
 use Rattle.rules.specs.Image.{opcode, operator, operands, kind, value}
 use Rattle.rules.specs.declared.statement.Operand.{Operand}
 use Rattle.rules.specs.declared.statement.Operand.the-variants.{Number, Register, Word}
 use Rattle.rules.specs.declared.statement.Operation.{Operation}
-use Rattle.rules.specs.declared.statement.Operation.the-variants.{Copy, Add, Subtract, Multiply, Divide}
+use Rattle.rules.specs.declared.statement.Operation.the-variants.{Copy, Add, Subtract, Multiply, Divide, Pack, Unpack, DecimalAdd}
 use Rattle.rules.specs.declared.statement.Shape.{Shape}
 use Rattle.rules.specs.declared.statement.Assignment.{Assignment}
 use Rattle.rules.specs.declared.statement.Relation.{Relation}
@@ -44,8 +45,12 @@ shape Add = record { second = false; right = true }
 shape Subtract = record { second = false; right = true }
 shape Multiply = record { second = false; right = true }
 shape Divide = record { second = true; right = true }
+shape Pack = record { second = false; right = false }
+shape Unpack = record { second = false; right = false }
+shape DecimalAdd = record { second = false; right = true }
 
--- opcode and operator of each: 2 ASSIGN, operators 1 copy p, 2 add, 3 subtract, 4 multiply; 12 DIVIDE, which has no operator
+-- opcode and operator of each: 2 ASSIGN, operators 1 copy p, 2 add, 3 subtract, 4 multiply; and without operator 12 DIVIDE, 13 PACK,
+-- 14 UNPACK, 15 DECIMAL ADD
 pub record Form : Type 0 where
   pub opcode : ℕ
   pub operator : ℕ
@@ -57,7 +62,8 @@ form op o k = record { opcode = op; operator = o; operation = k }
 abbrev pub forms : List Form
 forms =
     form assignCode copyCode Copy ∷ form assignCode addCode Add ∷ form assignCode subtractCode Subtract
-    ∷ form assignCode multiplyCode Multiply ∷ form divideCode 0 Divide ∷ []
+    ∷ form assignCode multiplyCode Multiply ∷ form divideCode 0 Divide ∷ form packCode 0 Pack ∷ form unpackCode 0 Unpack
+    ∷ form decimalAddCode 0 DecimalAdd ∷ []
 
 abbrev pub operationIn : List Form → ℕ → ℕ → Option Operation
 operationIn [] op o = none
@@ -155,8 +161,8 @@ pub record Usage : Type 0 where
 abbrev uses : ℕ → Sources → Way → Usage
 uses n s w = record { operators = n; sources = s; way = w }
 
--- ASSIGN and DIVIDE read p and q, not their destinations (their operators are those of `forms`); IF reads p and q; opcodes 5 to 9, and
--- 11, read their data
+-- opcodes of ASSIGN's kind read p and q, not their destinations (their operators are those of `forms`); IF reads p and q; opcodes 5 to 9,
+-- and 11, read their data
 abbrev pub usage : Statement → Usage
 usage Skip = uses 0 nothing following
 usage (Assign a) = uses 0 (pair (a .left) (a .right)) following

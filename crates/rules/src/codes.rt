@@ -26,6 +26,12 @@ pub const SEND_TREE: u8 = 11;
 
 pub const DIVIDE: u8 = 12;
 
+pub const PACK: u8 = 13;
+
+pub const UNPACK: u8 = 14;
+
+pub const DECIMAL_ADD: u8 = 15;
+
 // Operators of ASSIGN, and of IF.
 pub const COPY: u8 = 1;
 
@@ -100,6 +106,8 @@ pub const HELD_FULL: u8 = 6;
 pub const BELOW_ZERO: u8 = 7;
 
 pub const ZERO_DIVISOR: u8 = 8;
+
+pub const NOT_DECIMAL: u8 = 9;
 
 // Numbers of a refusal.
 pub const BAD_IMAGE_LENGTH: u32 = 1;

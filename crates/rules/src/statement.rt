@@ -15,6 +15,9 @@ pub enum Operation {
     Subtract,
     Multiply,
     Divide,
+    Pack,
+    Unpack,
+    DecimalAdd,
 }
 
 // The operands of such an opcode besides a destination and a left source: a second destination, and a right source.

@@ -17,7 +17,7 @@ use lines::try_file;
 use memory::Lengths;
 use memory::Memory;
 
-// The lines that name `call`, a call of a machine: of the limits, and of the vectors of the base and of four requests.
+// The lines that name `call`, a call of a machine: of the limits, and of the vectors of the base and of five requests.
 fn try_call(call: &[u8], memory: &mut Memory, lengths: &mut Lengths) {
     try_file(b"limits.txt", call, memory, lengths).print(call, b" lines of the limits agree\n");
     let base = try_file(b"base/damaged.txt", call, memory, lengths);
@@ -30,6 +30,8 @@ fn try_call(call: &[u8], memory: &mut Memory, lengths: &mut Lengths) {
     differences.print(call, b" lines of the vectors of subtraction agree\n");
     let divisions = try_file(b"106/damaged.txt", call, memory, lengths);
     divisions.print(call, b" lines of the vectors of division agree\n");
+    let decimals = try_file(b"107/damaged.txt", call, memory, lengths);
+    decimals.print(call, b" lines of the vectors of packed decimal agree\n");
 }
 
 // Walks from states near those of the cases.
@@ -42,6 +44,8 @@ fn try_near(memory: &mut Memory, lengths: &mut Lengths) {
     differences.print(b"walk", b" lines near states after subtractions agree\n");
     let divisions = try_file(b"106/near.txt", b"walk", memory, lengths);
     divisions.print(b"walk", b" lines near states after divisions agree\n");
+    let decimals = try_file(b"107/near.txt", b"walk", memory, lengths);
+    decimals.print(b"walk", b" lines near states after packed decimal agree\n");
 }
 
 // The cases, each with its walks.
@@ -70,6 +74,11 @@ fn try_cases(memory: &mut Memory, lengths: &mut Lengths) {
     divisions.print(
         b"run",
         b" cases of division agree, with the walks of eight threads\n",
+    );
+    let decimals = try_file(b"107/index.txt", b"run=", memory, lengths);
+    decimals.print(
+        b"run",
+        b" cases of packed decimal agree, with the walks of eight threads\n",
     );
 }
 

@@ -1,4 +1,5 @@
 use Rattle.rules.specs.Statements.{operationAt}
+use borrow.Author.Needs.{needs}
 use borrow.Author.Tests.{ne-eqb}
 use Rattle.decoding.proofs.operation_at.Statement.{statement}
 use Rattle.decoding.proofs.operation_at.Tie as tie
@@ -27,20 +28,40 @@ returns-5 c =
 
 returns-6 : tie.Need-returns-6
 unfolding operationAt
-returns-6 c = rw (c .before .match .keys2, c .match3 .keys1)
+returns-6 c = rw (c .before .match .keys2) (c .without-operator .ensures)
 
 returns-7 : tie.Need-returns-7
 unfolding operationAt
-returns-7 c = simp (c .before .match .keys2, ne-eqb _ 0 (c .match3 .rest .1))
+returns-7 c = rw (c .before .match .keys3) (c .without-operator2 .ensures)
 
 returns-8 : tie.Need-returns-8
 unfolding operationAt
-returns-8 c = let no = c .match .rest in simp (ne-eqb _ 2 (no .0 .1), ne-eqb _ 12 (no .1))
+returns-8 c = rw (c .before .match .keys4) (c .without-operator3 .ensures)
+
+returns-9 : tie.Need-returns-9
+unfolding operationAt
+returns-9 c = rw (c .before .match .keys5) (c .without-operator4 .ensures)
+
+returns-10 : tie.Need-returns-10
+unfolding operationAt
+returns-10 c =
+    let no = c .match .rest in
+    simp (
+      ne-eqb _ 2 (no .0 .0 .0 .0 .1),
+      ne-eqb _ 12 (no .0 .0 .0 .1),
+      ne-eqb _ 13 (no .0 .0 .1),
+      ne-eqb _ 14 (no .0 .1),
+      ne-eqb _ 15 (no .1),
+    )
 
 pub operation-at-spec : {M : Type 1} → statement M
 operation-at-spec =
     tie.close
     (tie.spec
+    (λ c κs. search needs)
+    (λ c κs. search needs)
+    (λ c κs. search needs)
+    (λ c κs. search needs)
     returns
     returns-2
     returns-3
@@ -48,4 +69,6 @@ operation-at-spec =
     returns-5
     returns-6
     returns-7
-    returns-8)
+    returns-8
+    returns-9
+    returns-10)
