@@ -49,7 +49,7 @@ build/%-safe: $$(SOURCES_$$*) $(HEADERS) $(LIBRARY) | build
 build/%-race: $$(SOURCES_$$*) $(HEADERS) $(LIBRARY) | build
 	$(COMPILE) -g -fsanitize=thread -o $@ $(SOURCES_$*) $(LIBRARY) $(LDLIBS)
 
-build/header++: $(SOURCES_header) include/plex.h $(LIBRARY) | build
+build/header++: $(SOURCES_header) $(HEADERS) $(LIBRARY) | build
 	$(CXX) $(CXXFLAGS) -Iinclude -o $@ -x c++ $(SOURCES_header) -x none $(LIBRARY)
 
 build/%: $$(SOURCES_$$*) $(HEADERS) $(LIBRARY) | build
@@ -92,7 +92,7 @@ map:
 	dot -Tsvg -o docs/map.svg docs/map.dot
 
 # what the library asks of a host and of the system; the demo's output is held to a file
-CASES = $(sort $(basename $(foreach set,base 102 104 105 106,$(wildcard crates/trials/data/$(set)/*.image))))
+CASES = $(sort $(basename $(foreach set,base 102 104 105 106 107,$(wildcard crates/trials/data/$(set)/*.image))))
 HOST_TESTS = header header++ words-safe explanations-safe plain-safe lending lending-safe pictures-safe
 host: $(addprefix build/,$(HOST_TESTS) stack demo-safe)
 	sh tests/progress.sh

@@ -44,7 +44,7 @@ extern "C" {
 
 /* ---- Versions: of the library and its papers, and of the formats. The latter is raised by each
  * change of a format; no buffer holds it, so a host notes it beside the bytes that it keeps. */
-#define PLEX_VERSION "0.7.0"
+#define PLEX_VERSION "0.8.0"
 #define PLEX_FORMAT_VERSION 3
 
 /* ---- Limits. */
@@ -123,7 +123,8 @@ enum { PLEX_ANSWER_CODE = 0, PLEX_ANSWER_DETAIL = 1 };
 
 /* ---- What the fields hold. */
 
-/* Opcodes. */
+/* Opcodes. A packed number is four decimal digits in 16 bits, four bits each, the highest first: 1,234
+ * packed is 0x1234. */
 enum {
     PLEX_SKIP = 1,          /* on to A */
     PLEX_ASSIGN = 2,        /* operands destination, p, and q except for copy; on to A */
@@ -135,9 +136,14 @@ enum {
     PLEX_RETURN = 8,        /* to the newest return label */
     PLEX_TRANSFER = 9,      /* to A, in its own block */
     PLEX_EXIT = 10,
-    PLEX_SEND_TREE = 11, /* SEND JOBTREE to A, on to B: the signal is held, and founds a tree at EXIT */
-    PLEX_DIVIDE = 12     /* operands quotient destination, remainder destination (a different one), p, q; on to A.
-                          * p = q x quotient + remainder, with the remainder below q; a zero q is a trap */
+    PLEX_SEND_TREE = 11,  /* SEND JOBTREE to A, on to B: the signal is held, and founds a tree at EXIT */
+    PLEX_DIVIDE = 12,     /* operands quotient destination, remainder destination (a different one), p, q; on to A.
+                           * p = q x quotient + remainder, with the remainder below q; a zero q is a trap */
+    PLEX_PACK = 13,       /* operands destination, p; on to A. The number p, packed; p above 9,999 is a trap */
+    PLEX_UNPACK = 14,     /* operands destination, p; on to A. The packed number p, as a number; a digit above 9 is
+                           * a trap */
+    PLEX_DECIMAL_ADD = 15 /* operands destination, p, q; on to A. The sum of packed numbers modulo 10,000, packed;
+                           * a digit above 9 is a trap */
 };
 
 /* Operators of ASSIGN and of IF. Sum and product go modulo 65,536; a difference below zero is a trap. */
@@ -171,6 +177,7 @@ enum {
     PLEX_ABSENT_REGISTER = 1, /* an absent register is read */
     PLEX_BELOW_ZERO = 7,      /* ASSIGN subtract with q above p */
     PLEX_ZERO_DIVISOR = 8,    /* DIVIDE with q zero */
+    PLEX_NOT_DECIMAL = 9,     /* PACK with p above 9,999; UNPACK or DECIMAL ADD with a digit above 9 */
     PLEX_NO_RETURN_LABEL = 2, /* RETURN with no return label */
     PLEX_RETURNS_FULL = 3,    /* CALL with 8 return labels */
     PLEX_PENDING_FULL = 4,    /* buffered SEND with 8 pending in the job's own tree */

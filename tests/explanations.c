@@ -30,8 +30,9 @@ static void try_image(void)
     memcpy(tried, image, sizeof image);
     memcpy(tried_table, table, sizeof table);
     if (below(8) == 0) {
-        uint32_t label = find_division(tried, RECORDS), fault = below(DIVISION_FAULTS);
-        break_division(tried, RECORDS, label, (enum division_fault)fault);
+        uint32_t opcode = any_calculation();
+        uint32_t label = find_statement(tried, RECORDS, opcode), fault = below(faults_of(opcode));
+        break_calculation(tried, RECORDS, label, (enum calculation_fault)fault);
     }
     for (uint32_t i = 0; i < edits; i++)
         damage_record(tried, RECORDS);
@@ -73,7 +74,7 @@ static void try_link(void)
     bench_guest_image(first, first_records, 0);
     bench_guest_image(second, second_records, GUEST_BLOCKS - (below(4) == 0 ? below(GUEST_BLOCKS + 1) : 0));
     make_tree_sends(second, second_records);
-    make_divisions(second, second_records);
+    make_calculations(second, second_records);
     if (below(4) == 0)
         damage_record(first, first_records);
     if (below(4) == 0)
@@ -142,7 +143,7 @@ static void begin(void)
     static const uint8_t words[PLEX_WORDS_SIZE];
     bench_mixed_image(image, RECORDS);
     make_tree_sends(image, RECORDS);
-    make_divisions(image, RECORDS);
+    make_calculations(image, RECORDS);
     for (uint32_t block = 0; block < PLEX_BLOCKS; block++)
         put_row(table, block, block % PLEX_THREADS, block % 3 == 0 ? PLEX_FD : PLEX_CMX, PLEX_LOCKS - 1 - block / 2);
     if (plex_fresh(image, sizeof image, table, sizeof table, words, sizeof words, state, sizeof state) != 0)

@@ -1,4 +1,4 @@
-/* What is said of one fault at a time: of a division, of the block table's locks, and of a state. */
+/* What is said of one fault at a time: of a calculation, of the block table's locks, and of a state. */
 #include "faults.h"
 #include "build.h"
 #include "explain.h"
@@ -24,16 +24,14 @@ static uint32_t refused_with(uint32_t number, uint32_t place)
     return 65536 * number + place;
 }
 
-/* A division at label 0, and what is said of it; nothing if it keeps the rules. Label 1 is in its block,
- * label 2 in another one. */
+/* A statement at label 0 that divides, packs, unpacks or adds packed numbers, and what is said of it; nothing if it
+ * keeps the rules. Label 1 is in its block, label 2 in another one. */
 static const struct {
     struct statement statement;
     const char *words;
-} divisions[] = {
+} calculations[] = {
     {{0, 0, PLEX_DIVIDE, 0, 1, 0, 4, {REGISTER(3), WORD(3), REGISTER(0), NUMBER(10)}}, ""},
     {{0, 0, PLEX_DIVIDE, 0, 1, 0, 4, {WORD(0), WORD(1), WORD(1), WORD(0)}}, ""},
-    {{0, 0, PLEX_DIVIDE + 1, 0, 1, 0, 4, {REGISTER(3), WORD(3), REGISTER(0), NUMBER(10)}},
-     "opcode 13 is none of 1 to 12"},
     {{0, 0, PLEX_DIVIDE, 1, 1, 0, 4, {REGISTER(3), WORD(3), REGISTER(0), NUMBER(10)}},
      "DIVIDE has no operator, so byte 3 is 0 and not 1"},
     {{0, 0, PLEX_DIVIDE, 0, 1, 0, 3, {REGISTER(3), WORD(3), REGISTER(0)}}, "its operand count is 3, and DIVIDE has 4"},
@@ -57,17 +55,45 @@ static const struct {
      "operand 0 is register 25, and registers are 0 to 24"},
     {{0, 0, PLEX_DIVIDE, 0, 1, 0, 4, {REGISTER(3), REGISTER(3), REGISTER(0), WORD(16)}},
      "operand 3 is shared word 16, and a block's words are 0 to 15"},
+    {{0, 0, PLEX_PACK, 0, 1, 0, 2, {REGISTER(24), NUMBER(10000)}}, ""},
+    {{0, 0, PLEX_PACK, 1, 1, 0, 2, {REGISTER(3), WORD(3)}}, "PACK has no operator, so byte 3 is 0 and not 1"},
+    {{0, 0, PLEX_PACK, 0, 1, 0, 3, {REGISTER(3), WORD(3), WORD(3)}}, "its operand count is 3, and PACK has 2"},
+    {{0, 0, PLEX_PACK, 0, 2, 0, 2, {REGISTER(3), WORD(3)}},
+     "label A is 2, in block 1, and here it is in the record's block 0"},
+    {{0, 0, PLEX_PACK, 0, 1, 1, 2, {REGISTER(3), WORD(3)}}, "PACK uses no label B, so it is 0 and not 1"},
+    {{0, 0, PLEX_PACK, 0, 1, 0, 2, {NUMBER(3), WORD(3)}},
+     "the destination is a number, and it is a register or a shared word"},
+    {{0, 0, PLEX_UNPACK, 0, 1, 0, 2, {WORD(15), NUMBER(0xffff)}}, ""},
+    {{0, 0, PLEX_UNPACK, 2, 1, 0, 2, {REGISTER(3), WORD(3)}}, "UNPACK has no operator, so byte 3 is 0 and not 2"},
+    {{0, 0, PLEX_UNPACK, 0, 1, 0, 1, {REGISTER(3)}}, "its operand count is 1, and UNPACK has 2"},
+    {{0, 0, PLEX_UNPACK, 0, 3, 0, 2, {REGISTER(3), WORD(3)}}, "label A is 3, and the image's labels are below 3"},
+    {{0, 0, PLEX_UNPACK, 0, 1, 2, 2, {REGISTER(3), WORD(3)}}, "UNPACK uses no label B, so it is 0 and not 2"},
+    {{0, 0, PLEX_UNPACK, 0, 1, 0, 2, {NUMBER(0), WORD(3)}},
+     "the destination is a number, and it is a register or a shared word"},
+    {{0, 0, PLEX_DECIMAL_ADD, 0, 1, 0, 3, {WORD(0), WORD(0), WORD(0)}}, ""},
+    {{0, 0, PLEX_DECIMAL_ADD, 2, 1, 0, 3, {REGISTER(3), WORD(3), NUMBER(1)}},
+     "DECIMAL ADD has no operator, so byte 3 is 0 and not 2"},
+    {{0, 0, PLEX_DECIMAL_ADD, 0, 1, 0, 2, {REGISTER(3), WORD(3)}}, "its operand count is 2, and DECIMAL ADD has 3"},
+    {{0, 0, PLEX_DECIMAL_ADD, 0, 1, 0, 4, {REGISTER(3), WORD(3), NUMBER(1), NUMBER(1)}},
+     "its operand count is 4, and DECIMAL ADD has 3"},
+    {{0, 0, PLEX_DECIMAL_ADD, 0, 1, 1, 3, {REGISTER(3), WORD(3), NUMBER(1)}},
+     "DECIMAL ADD uses no label B, so it is 0 and not 1"},
+    {{0, 0, PLEX_DECIMAL_ADD, 0, 1, 0, 3, {NUMBER(0x9999), WORD(3), NUMBER(1)}},
+     "the destination is a number, and it is a register or a shared word"},
+    {{0, 0, PLEX_DECIMAL_ADD, 0, 1, 0, 3, {REGISTER(3), WORD(3), REGISTER(25)}},
+     "operand 2 is register 25, and registers are 0 to 24"},
+    {{0, 0, PLEX_DECIMAL_ADD + 1, 0, 1, 0, 3, {REGISTER(3), WORD(3), NUMBER(1)}}, "opcode 16 is none of 1 to 15"},
 };
 
-static void try_divisions(void)
+static void try_calculations(void)
 {
     static const struct statement others[] = {{0, PLEX_NO_ENTRY, PLEX_EXIT, 0, 0, 0, 0, {NUMBER(0)}},
                                               {1, PLEX_NO_ENTRY, PLEX_EXIT, 0, 0, 0, 0, {NUMBER(0)}}};
-    for (size_t i = 0; i < sizeof divisions / sizeof divisions[0]; i++) {
+    for (size_t i = 0; i < sizeof calculations / sizeof calculations[0]; i++) {
         uint8_t tried[3 * PLEX_RECORD_SIZE];
-        const char *words = divisions[i].words;
+        const char *words = calculations[i].words;
         struct line why = {0};
-        put_statement(tried, &divisions[i].statement);
+        put_statement(tried, &calculations[i].statement);
         put_statements(tried + PLEX_RECORD_SIZE, others, 2);
         explain_record(&why, tried, 3, 0);
         expect_said(plex_check(tried, sizeof tried, table, sizeof table),
@@ -171,7 +197,7 @@ uint32_t try_faults(void)
     put_lone_rows(table);
     put_row(table, 0, 0, PLEX_FD, PLEX_LOCKS - 1);
     put_row(table, PLEX_BLOCKS - 1, 0, PLEX_FD, 0);
-    try_divisions();
+    try_calculations();
     try_holder();
     try_locks();
     return failures;

@@ -1,19 +1,19 @@
 /* The header by itself, in the part of the language that C and C++ share: the five calls carry out the
- * whole-list trial, subtract and divide, found trees, wait for a lock of two blocks and link two guests. */
-#include "plex.h"
+ * whole-list trial, calculate, found trees, wait for a lock of two blocks and link two guests. */
+#include "header.h"
 
 #include <stdio.h>
 #include <string.h>
 
-enum { RECORDS = 2, EVENTS = 5, FOUNDER_EVENTS = 7, MANY = PLEX_RECORDS_MAX - 1 };
+enum { EVENTS = 5, FOUNDER_EVENTS = 7, MANY = PLEX_RECORDS_MAX - 1 };
 
-static uint8_t image[RECORDS * PLEX_RECORD_SIZE], table[PLEX_TABLE_SIZE], words[PLEX_WORDS_SIZE];
-static uint8_t state[PLEX_STATE_SIZE], events[FOUNDER_EVENTS * PLEX_EVENT_SIZE];
+uint8_t image[RECORDS * PLEX_RECORD_SIZE], table[PLEX_TABLE_SIZE], words[PLEX_WORDS_SIZE], state[PLEX_STATE_SIZE];
+static uint8_t events[FOUNDER_EVENTS * PLEX_EVENT_SIZE];
 static uint8_t answers[FOUNDER_EVENTS * PLEX_ANSWER_SIZE], met[PLEX_MET_SIZE];
 static uint8_t second[sizeof image], linked[2 * sizeof image], exits[MANY * PLEX_RECORD_SIZE];
 static int failed;
 
-static void expect(const char *what, int holds)
+void expect(const char *what, int holds)
 {
     if (!holds) {
         printf("header: %s: not so\n", what);
@@ -21,15 +21,15 @@ static void expect(const char *what, int holds)
     }
 }
 
-static void put_operand(uint8_t *record, int index, uint8_t kind, uint8_t value)
+void put_operand(uint8_t *record, int index, uint8_t kind, uint16_t value)
 {
     uint8_t *operand = record + PLEX_RECORD_OPERANDS + index * PLEX_OPERAND_SIZE;
     operand[PLEX_OPERAND_KIND] = kind;
-    operand[PLEX_OPERAND_VALUE] = value;
+    operand[PLEX_OPERAND_VALUE] = (uint8_t)value;
+    operand[PLEX_OPERAND_VALUE + 1] = (uint8_t)(value >> 8);
 }
 
-/* Label 0: block 0, entry external, ASSIGN copy shared word 0 from 7, on to 1. Label 1: EXIT. One
- * arrival at 0, and steps of thread 0: four, and some for the founder. */
+/* The image, and one arrival at label 0 and steps of thread 0: four, and some for the founder. */
 static void fill(void)
 {
     image[PLEX_RECORD_OPCODE] = PLEX_ASSIGN;
@@ -60,72 +60,13 @@ static void carry_out(void)
     expect("met", met[0] == 3 && met[1] == PLEX_UNMET && met[PLEX_MET_SIZE - 1] == PLEX_UNMET);
 }
 
-/* One Run of an image from a fresh machine: what it answers to the last of so many events. */
-static void run_afresh(const char *what, const uint8_t *records, size_t size, int count, uint8_t code, uint8_t detail)
+void run_afresh(const char *what, const uint8_t *records, size_t size, int count, uint8_t code, uint8_t detail)
 {
     const uint8_t *last = answers + PLEX_ANSWER_SIZE * (count - 1);
     expect(what, plex_fresh(records, size, table, sizeof table, words, sizeof words, state, sizeof state) == 0 &&
                      plex_run(records, size, table, sizeof table, state, sizeof state, events, PLEX_EVENT_SIZE * count,
                               answers, PLEX_ANSWER_SIZE * count) == 0 &&
                      last[PLEX_ANSWER_CODE] == code && last[PLEX_ANSWER_DETAIL] == detail);
-}
-
-/* Label 0 is now ASSIGN subtract: shared word 0, which is 9, is to become p - 1. Where p is an absent
- * register or 0, the job traps; the word stays. */
-static void subtract(void)
-{
-    static uint8_t charging[sizeof image];
-    const uint8_t *word = state + PLEX_STATE_WORDS, *label = state + PLEX_STATE_THREADS + PLEX_THREAD_LABEL;
-    memcpy(charging, image, sizeof image);
-    charging[PLEX_RECORD_OPERATOR] = PLEX_SUBTRACT;
-    charging[PLEX_RECORD_COUNT] = 3;
-    put_operand(charging, 1, PLEX_REGISTER_OPERAND, 0);
-    put_operand(charging, 2, PLEX_NUMBER_OPERAND, 1);
-    words[0] = 9;
-    run_afresh("an absent register - 1", charging, sizeof charging, 3, PLEX_TRAPPED, PLEX_ABSENT_REGISTER);
-    expect("the word after an absent register - 1", word[0] == 9 && word[1] == 0);
-    put_operand(charging, 1, PLEX_NUMBER_OPERAND, 0);
-    run_afresh("0 - 1", charging, sizeof charging, 3, PLEX_TRAPPED, PLEX_BELOW_ZERO);
-    expect("the word after 0 - 1", word[0] == 9 && word[1] == 0);
-    expect("idle after 0 - 1", label[0] + 256 * label[1] == PLEX_IDLE);
-    put_operand(charging, 1, PLEX_NUMBER_OPERAND, 1);
-    run_afresh("1 - 1", charging, sizeof charging, 3, PLEX_MOVED_ON, 0);
-    expect("1 - 1 is 0", word[0] == 0 && word[1] == 0);
-    words[0] = 0;
-}
-
-/* Shared words 0 and 1. */
-static void expect_words(const char *what, uint8_t first, uint8_t next)
-{
-    const uint8_t *word = state + PLEX_STATE_WORDS;
-    expect(what, word[0] == first && word[1] == 0 && word[2] == next && word[3] == 0);
-}
-
-/* Label 0 is now DIVIDE: shared words 0 and 1, which are 9, are to become p / q and what is left of p.
- * Where p is an absent register or q is 0, the job traps; both words stay. One destination for both
- * results is refused. */
-static void divide(void)
-{
-    static uint8_t tariff[sizeof image];
-    memcpy(tariff, image, sizeof image);
-    tariff[PLEX_RECORD_OPCODE] = PLEX_DIVIDE;
-    tariff[PLEX_RECORD_OPERATOR] = 0;
-    tariff[PLEX_RECORD_COUNT] = 4;
-    put_operand(tariff, 1, PLEX_WORD_OPERAND, 1);
-    put_operand(tariff, 2, PLEX_REGISTER_OPERAND, 0);
-    put_operand(tariff, 3, PLEX_NUMBER_OPERAND, 0);
-    words[0] = words[2] = 9;
-    run_afresh("an absent register / 0", tariff, sizeof tariff, 3, PLEX_TRAPPED, PLEX_ABSENT_REGISTER);
-    expect_words("the words after an absent register / 0", 9, 9);
-    put_operand(tariff, 2, PLEX_NUMBER_OPERAND, 23);
-    run_afresh("23 / 0", tariff, sizeof tariff, 3, PLEX_TRAPPED, PLEX_ZERO_DIVISOR);
-    expect_words("the words after 23 / 0", 9, 9);
-    put_operand(tariff, 3, PLEX_WORD_OPERAND, 1);
-    run_afresh("23 / 9", tariff, sizeof tariff, 3, PLEX_MOVED_ON, 0);
-    expect_words("23 / 9 is 2, and 5 are left", 2, 5);
-    put_operand(tariff, 1, PLEX_WORD_OPERAND, 0);
-    expect("one destination", PLEX_NUMBER(plex_check(tariff, sizeof tariff, table, sizeof table)) == PLEX_BAD_RECORD);
-    words[0] = words[2] = 0;
 }
 
 /* Label 0: block 0, entry external, SEND JOBTREE to 2, on to 0 again or to 1. Label 1: EXIT. Label 2:
@@ -281,8 +222,7 @@ int main(void)
     versions();
     fill();
     carry_out();
-    subtract();
-    divide();
+    calculate();
     hold_signals();
     share_lock();
     link_guests();

@@ -3,7 +3,7 @@
 #include "bench_image.h"
 #include "build.h"
 #include "damage.h"
-#include "plain_states.h"
+#include "plain_sights.h"
 
 #include <stdio.h>
 #include <string.h>
@@ -26,8 +26,8 @@ static const struct machine machine = {image, table};
 static uint32_t failures, codes[256], reasons[256], losing_exits, group_jobs;
 static uint32_t refusals[PLEX_BAD_OUTPUT_LENGTH + 1];
 
-/* Steps that are their thread's first event in a run, by what they subtract, and by what is seen of their division. */
-static uint32_t subtractions[SUBTRACTIONS], divisions[DIVISIONS];
+/* Steps that are their thread's first event in a run, by what they subtract. */
+static uint32_t subtractions[SUBTRACTIONS];
 
 /* Walks over states that this part alone was changed in. */
 static uint32_t refused_parts[DAMAGED_PARTS], accepted_parts[DAMAGED_PARTS];
@@ -70,12 +70,12 @@ static void make_equal_operands(uint32_t records)
     }
 }
 
-/* Any words, or small ones, which are zero and equal at times, and whose differences are near zero. */
+/* Any words; or small ones, which are zero and equal at times, and whose differences are near zero; or decimal ones. */
 static void make_words(void)
 {
-    uint32_t limit = below(2) == 0 ? 4 : 65536;
+    uint32_t sort = below(3);
     for (uint32_t i = 0; i < PLEX_WORDS_SIZE; i += 2)
-        put16(words + i, below(limit));
+        put16(words + i, sort == 0 ? below(65536) : sort == 1 ? below(4) : decimal_number());
 }
 
 static void make_machine(void)
@@ -86,7 +86,7 @@ static void make_machine(void)
     make_tree_sends(image, records);
     if (below(4) != 0)
         fill_registers(records);
-    make_divisions(image, records);
+    make_calculations(image, records);
     make_equal_operands(records);
     make_table(table);
     make_words();
@@ -136,14 +136,6 @@ static void count_answers(void)
     }
 }
 
-static void count_step(const uint8_t *state, uint32_t thread)
-{
-    subtractions[next_subtraction(&machine, state, thread)]++;
-    uint32_t seen = next_division(&machine, state, thread);
-    for (uint32_t sight = 0; sight < DIVISIONS; sight++)
-        divisions[sight] += seen >> sight & 1;
-}
-
 /* A thread's p and q are in its registers and in a block whose lock it holds: until its first event, what others
  * do leaves them as they were before the run. */
 static void count_first_steps(const uint8_t *before)
@@ -152,7 +144,7 @@ static void count_first_steps(const uint8_t *before)
     for (const uint8_t *event = events; event < events + events_len; event += PLEX_EVENT_SIZE) {
         uint32_t kind = event[PLEX_EVENT_KIND], thread = event[PLEX_EVENT_THREAD];
         if (kind == PLEX_STEP && !(threads_met >> thread & 1))
-            count_step(before, thread);
+            subtractions[next_subtraction(&machine, before, thread)]++;
         if (kind != PLEX_ARRIVAL)
             threads_met |= 1u << thread;
     }
@@ -194,14 +186,6 @@ static void try_walk(void)
     memcpy(by_plain.state, before.state, PLEX_STATE_SIZE);
 }
 
-static bool are_all_met(const uint32_t *counts, uint32_t first, uint32_t last)
-{
-    bool all = true;
-    for (uint32_t i = first; i <= last; i++)
-        all = all && counts[i] != 0;
-    return all;
-}
-
 bool do_runs_agree(void)
 {
     for (uint32_t i = 0; i < MACHINES; i++) {
@@ -212,9 +196,8 @@ bool do_runs_agree(void)
         }
     }
     bool all_met = are_all_met(codes, PLEX_ARRIVED, PLEX_NOTHING_TO_CUT) &&
-                   are_all_met(reasons, PLEX_ABSENT_REGISTER, PLEX_ZERO_DIVISOR) &&
-                   are_all_met(subtractions, P_ABOVE_Q, ABSENT_BELOW_Q) &&
-                   are_all_met(divisions, ABSENT_BY_NUMBER, TO_Q_AND_P) && losing_exits != 0 && group_jobs != 0 &&
+                   are_all_met(reasons, PLEX_ABSENT_REGISTER, PLEX_NOT_DECIMAL) &&
+                   are_all_met(subtractions, P_ABOVE_Q, ABSENT_BELOW_Q) && losing_exits != 0 && group_jobs != 0 &&
                    refusals[PLEX_BAD_EVENT] != 0 && are_all_met(refused_parts, HELD_SIGNALS, ANY_BYTES) &&
                    are_all_met(accepted_parts, HELD_SIGNALS, ANY_BYTES);
     printf("plain: %d runs and walks%s; %u failures\n", MACHINES * RUNS,

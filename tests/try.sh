@@ -6,9 +6,9 @@ folder=$(mktemp -d)
 trap 'rm -rf "$folder"' EXIT
 cp -r crates crates.txt "$folder"
 cd "$folder"
-for set in 102 104 105; do
+for set in 102 104 105 106; do
     : >crates/trials/data/$set/damaged.txt
     : >crates/trials/data/$set/near.txt
 done
-sed -E -i '/ lines .*(held signals|groups|subtractions?) agree/s/[0-9]+ of [0-9]+/0 of 0/' crates/trials/stdout
+sed -E -i '/ lines .*(held signals|groups|subtractions?|divisions?) agree/s/[0-9]+ of [0-9]+/0 of 0/' crates/trials/stdout
 rt try trials

@@ -1,6 +1,7 @@
-/* Statements, events, answers, locks, threads and names in words, one of each sort. */
+/* Statements, events, answers, locks, threads, packed numbers and names in words, one of each sort. */
 #include "build.h"
 #include "names.h"
+#include "packed.h"
 #include "words.h"
 
 #include <stdio.h>
@@ -20,6 +21,18 @@ static const struct {
      "DIVIDE r24, w15 := w3 / 10, on to 1"},
     {{0, 0, PLEX_DIVIDE, 0, 511, 0, 4, {WORD(3), REGISTER(3), REGISTER(0), REGISTER(3)}},
      "DIVIDE w3, r3 := r0 / r3, on to 511"},
+    {{0, 0, PLEX_PACK, 0, 4, 0, 2, {REGISTER(0), REGISTER(1)}}, "PACK r0 := r1, on to 4"},
+    {{0, 0, PLEX_PACK, 0, 4, 0, 2, {WORD(15), NUMBER(10000)}}, "PACK w15 := 10000, on to 4"},
+    {{0, 0, PLEX_UNPACK, 0, 511, 0, 2, {REGISTER(24), WORD(2)}}, "UNPACK r24 := w2, on to 511"},
+    {{0, 0, PLEX_UNPACK, 0, 4, 0, 2, {REGISTER(0), NUMBER(0x1234)}}, "UNPACK r0 := packed 1234, on to 4"},
+    {{0, 0, PLEX_UNPACK, 0, 4, 0, 2, {REGISTER(0), NUMBER(0)}}, "UNPACK r0 := packed 0000, on to 4"},
+    {{0, 0, PLEX_UNPACK, 0, 4, 0, 2, {REGISTER(0), NUMBER(0xa)}}, "UNPACK r0 := (not packed: 0x000a), on to 4"},
+    {{0, 0, PLEX_UNPACK, 0, 4, 0, 2, {REGISTER(0), NUMBER(0xa000)}}, "UNPACK r0 := (not packed: 0xa000), on to 4"},
+    {{0, 0, PLEX_DECIMAL_ADD, 0, 4, 0, 3, {REGISTER(0), REGISTER(1), WORD(2)}}, "DECIMAL ADD r0 := r1 + w2, on to 4"},
+    {{0, 0, PLEX_DECIMAL_ADD, 0, 4, 0, 3, {WORD(0), NUMBER(0x42), NUMBER(0x12a4)}},
+     "DECIMAL ADD w0 := packed 0042 + (not packed: 0x12a4), on to 4"},
+    {{0, 0, PLEX_DECIMAL_ADD, 0, 4, 0, 3, {NUMBER(0x42), NUMBER(0x9999), {9, 8}}},
+     "DECIMAL ADD 66 := packed 9999 + (kind 9: 8), on to 4"},
     {{0, 0, PLEX_GOTO, 0, 300, 0, 0, {NUMBER(0)}}, "GOTO 300"},
     {{0, 0, PLEX_IF, PLEX_EQUAL, 3, 4, 2, {REGISTER(0), NUMBER(1)}}, "IF r0 = 1 THEN 3 ELSE 4"},
     {{0, 0, PLEX_IF, PLEX_LESS, 3, 4, 2, {REGISTER(0), WORD(1)}}, "IF r0 < w1 THEN 3 ELSE 4"},
@@ -55,6 +68,7 @@ static const struct {
     {{PLEX_TRAPPED, PLEX_RETURNS_FULL}, "trap 3, CALL with 8 return labels"},
     {{PLEX_TRAPPED, PLEX_BELOW_ZERO}, "trap 7, subtraction below zero"},
     {{PLEX_TRAPPED, PLEX_ZERO_DIVISOR}, "trap 8, division by zero"},
+    {{PLEX_TRAPPED, PLEX_NOT_DECIMAL}, "trap 9, a number above 9,999 packed, or a digit above 9"},
     {{PLEX_WAS_CUT, 0}, "cut"},
     {{PLEX_NOTHING_TO_CUT, 0}, "nothing to cut"},
     {{11, 0}, "unknown"},
@@ -87,6 +101,69 @@ static void try_events(void)
     put_cut(event, 0);
     add_event(&cut, event);
     expect(&cut, "cut of thread 0");
+}
+
+/* Steps, and a cut, of a thread at label 0. Register 1 is 42, register 2 packed 0075, no other is present; words 1 and
+ * 2 of the block are 0x9950 and 0x12a4. What is stored is read from the state after it, where register 3 and word 3 are
+ * 0x0025. */
+enum { DECIMAL_THREAD = 7, DECIMAL_BLOCK = 15 };
+static const struct {
+    struct statement statement;
+    uint8_t answer[PLEX_ANSWER_SIZE];
+    const char *words;
+} decimal_steps[] = {
+    {{DECIMAL_BLOCK, 0, PLEX_PACK, 0, 1, 0, 2, {REGISTER(3), REGISTER(1)}},
+     {PLEX_MOVED_ON, 0},
+     "read 42, stored packed 0025"},
+    {{DECIMAL_BLOCK, 0, PLEX_PACK, 0, 1, 0, 2, {WORD(3), NUMBER(10000)}},
+     {PLEX_TRAPPED, PLEX_NOT_DECIMAL},
+     "read 10000"},
+    {{DECIMAL_BLOCK, 0, PLEX_UNPACK, 0, 1, 0, 2, {WORD(3), WORD(1)}},
+     {PLEX_MOVED_ON, 0},
+     "read packed 9950, stored 37"},
+    {{DECIMAL_BLOCK, 0, PLEX_UNPACK, 0, 1, 0, 2, {REGISTER(3), WORD(2)}},
+     {PLEX_TRAPPED, PLEX_NOT_DECIMAL},
+     "read (not packed: 0x12a4)"},
+    {{DECIMAL_BLOCK, 0, PLEX_DECIMAL_ADD, 0, 1, 0, 3, {WORD(3), WORD(1), REGISTER(2)}},
+     {PLEX_MOVED_ON, 0},
+     "read packed 9950, packed 0075, stored packed 0025"},
+    {{DECIMAL_BLOCK, 0, PLEX_DECIMAL_ADD, 0, 1, 0, 3, {REGISTER(3), NUMBER(0x12), REGISTER(0)}},
+     {PLEX_TRAPPED, PLEX_ABSENT_REGISTER},
+     "read packed 0012, absent"},
+    {{DECIMAL_BLOCK, 0, PLEX_PACK, 0, 1, 0, 2, {REGISTER(3), REGISTER(1)}}, {PLEX_WAS_CUT, 0}, ""},
+    {{DECIMAL_BLOCK, 0, PLEX_ASSIGN, PLEX_ADD, 1, 0, 3, {REGISTER(3), REGISTER(1), REGISTER(2)}},
+     {PLEX_MOVED_ON, 0},
+     ""},
+};
+
+static void put_word(uint8_t *state, uint32_t word, uint32_t value)
+{
+    put16(state + PLEX_STATE_WORDS + 2 * (PLEX_BLOCK_WORDS * DECIMAL_BLOCK + word), value);
+}
+
+static void put_register(uint8_t *state, uint32_t number, uint32_t value)
+{
+    uint8_t *thread = state + PLEX_STATE_THREADS + PLEX_THREAD_SIZE * DECIMAL_THREAD;
+    put32(thread + PLEX_THREAD_PRESENCE, get32(thread + PLEX_THREAD_PRESENCE) | 1u << number);
+    put16(thread + PLEX_THREAD_VALUES + 2 * number, value);
+}
+
+static void try_decimal_steps(void)
+{
+    static uint8_t before[PLEX_STATE_SIZE], after[PLEX_STATE_SIZE];
+    put_register(before, 1, 42);
+    put_register(before, 2, 0x0075);
+    put_word(before, 1, 0x9950);
+    put_word(before, 2, 0x12a4);
+    put_register(after, 3, 0x0025);
+    put_word(after, 3, 0x0025);
+    for (size_t i = 0; i < sizeof decimal_steps / sizeof decimal_steps[0]; i++) {
+        uint8_t image[PLEX_RECORD_SIZE];
+        struct line line = {0};
+        put_statement(image, &decimal_steps[i].statement);
+        add_decimal_step(&line, image, DECIMAL_THREAD, decimal_steps[i].answer, before, after);
+        expect(&line, decimal_steps[i].words);
+    }
 }
 
 /* A thread without signals that it holds, with some, and with more than it may hold. */
@@ -146,7 +223,7 @@ static void try_any_bytes(void)
     uint8_t bytes[PLEX_THREAD_SIZE];
     struct line line = {0};
     memset(bytes, 255, sizeof bytes);
-    for (uint8_t opcode = PLEX_SKIP; opcode <= PLEX_DIVIDE; opcode++) {
+    for (uint8_t opcode = PLEX_SKIP; opcode <= PLEX_DECIMAL_ADD; opcode++) {
         bytes[PLEX_RECORD_OPCODE] = opcode;
         add_statement(&line, bytes);
         add_thread(&line, bytes);
@@ -172,10 +249,11 @@ int main(void)
         expect(&line, answers[i].words);
     }
     try_events();
+    try_decimal_steps();
     try_threads();
     try_groups();
-    try_names("opcode", opcode_name, PLEX_DIVIDE);
-    try_names("trap", trap_name, PLEX_ZERO_DIVISOR);
+    try_names("opcode", opcode_name, PLEX_DECIMAL_ADD);
+    try_names("trap", trap_name, PLEX_NOT_DECIMAL);
     try_names("refusal", refusal_name, PLEX_BAD_OUTPUT_LENGTH);
     try_any_bytes();
     return failed;

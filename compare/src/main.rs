@@ -7,15 +7,20 @@
 
 mod both;
 mod cases;
+mod codes;
+mod decimals;
 mod divisions;
+mod faults;
 mod groups;
 mod held;
 mod library;
 mod links;
 mod seen;
 mod sizes;
+mod sorts;
 mod steps;
 mod subtractions;
+mod unmet;
 
 use seen::Seen;
 use std::process::ExitCode;
@@ -38,13 +43,14 @@ fn main() -> ExitCode {
         _ => Err("use: compare | compare soak SECONDS | compare replay SEED".into()),
     };
     let Seen { calls, events, in_two_blocks, rings, longest_walk, links, largest_link, .. } = seen;
-    let (lost, below_zero, by_zero) = (seen.lost(), seen.below_zero(), seen.by_zero());
+    let (below_zero, by_zero) = (seen.below_zero(), seen.by_zero());
+    let (not_decimal, lost) = (seen.not_decimal(), seen.lost());
     match compared {
         Ok(what) => {
             println!(
                 "compare: {what}, {calls} calls, {events} events, \
                  {below_zero} subtractions below zero, {by_zero} divisions by zero, \
-                 {lost} held signals lost, \
+                 {not_decimal} numbers that are not decimal, {lost} held signals lost, \
                  {in_two_blocks} threads in two blocks of a group, {rings} rings, \
                  walks of up to {longest_walk} threads, \
                  {links} links of up to {largest_link} records: no difference"

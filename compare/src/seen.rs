@@ -1,13 +1,14 @@
 //! What the calls of a comparison have shown, to tell an idle one from a good one.
 
 use crate::both::Call;
-use crate::divisions::{divides, refused_for_equal_destinations, Division};
+use crate::faults::UnmetFaults;
 use crate::groups::{locks_of_two, share_lock};
 use crate::held::held_counts;
 use crate::sizes::{ANSWER, BLOCKS, LOCKS, MOST_HELD, RECORD, RECORDS, THREADS};
-use crate::steps::{first_steps, Step};
-use crate::subtractions::Subtraction;
+use crate::sorts::UnmetSorts;
+use crate::steps::first_steps;
 use second::generate::{Lent, Pair};
+use std::collections::BTreeSet;
 
 /// What a call returns that refuses the last row of the table.
 const LAST_BLOCK: u32 = 3 * 65_536 + BLOCKS as u32 - 1;
@@ -19,14 +20,13 @@ pub struct Seen {
     refusals: [u64; 16],
     /// Of the refusals those for the lock of the table's last row alone.
     last_locks: u64,
-    /// Of the refusals those for equal destinations alone.
-    equal_destinations: u64,
+    /// Faults that no record was refused for alone.
+    faults: UnmetFaults,
     codes: [u64; 11],
-    traps: [u64; 9],
-    /// Subtractions by sort, of those that Runs did as their threads' first events.
-    subtractions: [u64; Subtraction::ALL.len()],
-    /// What was seen of divisions among the same.
-    divisions: [u64; Division::ALL.len()],
+    traps: [u64; 10],
+    /// Sorts that no step was of, among those that Runs did as their threads' first
+    /// events.
+    sorts: UnmetSorts,
     /// Waits by lock.
     waits: [u64; LOCKS],
     /// EXITs by how many held signals they lost.
@@ -54,9 +54,9 @@ pub struct Seen {
     pub links: u64,
     /// Of these the pairs that share a lock.
     links_of_groups: u64,
-    /// And those whose second guest has a record that divides: the link shifts
-    /// its label.
-    links_of_divisions: u64,
+    /// And those whose second guest has a record of an opcode, by the opcode: the
+    /// link shifts its labels.
+    links_of_opcodes: [u64; 16],
     /// Of the refusals those of links.
     link_refusals: [u64; 16],
     /// Records of the largest linked image.
@@ -77,12 +77,11 @@ impl Seen {
     /// What a call returned, was lent as its state, and left.
     pub fn note(&mut self, call: Call, returned: u32, state_before: &[u8], lent: &Lent) {
         self.note_return(returned, &lent.table);
-        let equal = refused_for_equal_destinations(returned, &lent.image, &lent.table);
-        self.equal_destinations += u64::from(equal);
+        self.faults.note(returned, &lent.image, &lent.table);
         match call {
             Call::Run if returned == 0 => {
                 first_steps(&lent.image, state_before, &lent.events)
-                    .for_each(|step| self.note_step(&step));
+                    .for_each(|step| self.sorts.note(&step));
                 lent.answers.chunks(ANSWER).for_each(|answer| self.note_answer(answer));
                 held_counts(&lent.state).for_each(|count| self.held[count] += 1);
                 self.in_two_blocks += locks_of_two(&lent.image, &lent.table, &lent.state).count();
@@ -92,15 +91,6 @@ impl Seen {
                 self.longest_walk = self.longest_walk.max(returned % 256);
             }
             _ => {}
-        }
-    }
-
-    fn note_step(&mut self, step: &Step) {
-        if let Some(sort) = Subtraction::of(step) {
-            self.subtractions[sort as usize] += 1;
-        }
-        for sight in Division::all_of(step) {
-            self.divisions[sight as usize] += 1;
         }
     }
 
@@ -146,7 +136,9 @@ impl Seen {
             let Pair { first, second, table, .. } = pair;
             self.links += 1;
             self.links_of_groups += u64::from(share_lock(table, &first.image, &second.image));
-            self.links_of_divisions += u64::from(divides(&second.image));
+            let opcodes: BTreeSet<u8> =
+                second.image.chunks(RECORD).map(|record| record[0]).collect();
+            opcodes.iter().for_each(|&opcode| self.links_of_opcodes[usize::from(opcode)] += 1);
             self.largest_link = self.largest_link.max(pair.out.len() / RECORD);
         }
     }
@@ -166,9 +158,15 @@ impl Seen {
         self.traps[8]
     }
 
+    /// How many jobs a packed decimal ended.
+    pub fn not_decimal(&self) -> u64 {
+        self.traps[9]
+    }
+
     /// What should have been seen in a comparison of many cases and was not.
     pub fn missing(&self) -> Vec<String> {
-        [self.missing_numbers(), self.missing_sights()].concat()
+        let of_opcodes = [self.sorts.words(), self.faults.words()].concat();
+        [of_opcodes, self.missing_numbers(), self.missing_sights()].concat()
     }
 
     fn missing_numbers(&self) -> Vec<String> {
@@ -181,6 +179,7 @@ impl Seen {
             ("thread by signals held,", 0, &self.held[..]),
             ("refusal of a link", 1, &self.link_refusals[1..=4]),
             ("refusal of a link", 13, &self.link_refusals[13..]),
+            ("link of a second guest with opcode", 1, &self.links_of_opcodes[1..]),
         ];
         let mut missing: Vec<String> = Vec::new();
         for (sort, first, counts) in sorts {
@@ -191,19 +190,13 @@ impl Seen {
     }
 
     fn missing_sights(&self) -> Vec<String> {
-        let subtractions =
-            Subtraction::ALL.map(|sort| (self.subtractions[sort as usize] > 0, sort.name().into()));
-        let divisions =
-            Division::ALL.map(|sight| (self.divisions[sight as usize] > 0, sight.name().into()));
-        let others = [
+        let sights = [
             (self.last_locks > 0, "a refusal for the last row's lock alone".into()),
-            (self.equal_destinations > 0, "a refusal for equal destinations alone".into()),
             (self.in_two_blocks > 0, "a thread in two blocks of one group".into()),
             (self.damaged_locks[0] > 0, "other lock sets that are accepted".into()),
             (self.damaged_locks[1] > 0, "damaged lock sets that are refused".into()),
             (self.group_waits_one_by_one > 0, "waits for a group one by one".into()),
             (self.links_of_groups > 0, "a link of guests that share a lock".into()),
-            (self.links_of_divisions > 0, "a link of a second guest that divides".into()),
             (self.damaged_held[0] > 0, "other held signals that are accepted".into()),
             (self.damaged_held[1] > 0, "damaged held signals that are refused".into()),
             (self.lost_one_by_one > 0, "held signals lost one by one".into()),
@@ -211,8 +204,7 @@ impl Seen {
             (self.rings > 0 && self.longest_walk == 8, "a ring and a walk of 8 threads".into()),
             (self.largest_link == RECORDS, format!("a link of {RECORDS} records")),
         ];
-        let sights = subtractions.into_iter().chain(divisions).chain(others);
-        let unseen = sights.filter(|(seen, _)| !seen);
+        let unseen = sights.into_iter().filter(|(seen, _)| !seen);
         unseen.map(|(_, what)| what).collect()
     }
 }

@@ -1,13 +1,18 @@
 //! The sizes of the formats in bytes, the places in their records that are read,
 //! and how many there are of what is counted.
 
+use std::ops::Range;
+
 pub const RECORD: usize = 84;
 pub const RECORDS: usize = 512;
-/// Where in an image record its block is, its operator, and its operands.
+/// Where in an image record its block is, its operator, its label B, the count of
+/// operands, and then they are.
 pub const BLOCK: usize = 1;
 pub const OPERATOR: usize = 3;
-pub const OPERANDS: usize = 9;
-pub const OPERAND: usize = 3;
+pub const LABEL_B: usize = 6;
+pub const OPERAND_COUNT: usize = 8;
+const OPERANDS: usize = 9;
+const OPERAND: usize = 3;
 pub const BLOCKS: usize = 16;
 pub const BLOCK_WORDS: usize = 16;
 /// A block's row of the table.
@@ -32,3 +37,9 @@ pub const MOST_HELD: usize = 4;
 pub const STATE: usize = 9_633;
 pub const EVENT: usize = 55;
 pub const ANSWER: usize = 2;
+
+/// Where in an image record an operand is: its kind, and then its value.
+pub fn operand(index: usize) -> Range<usize> {
+    let place = OPERANDS + OPERAND * index;
+    place..place + OPERAND
+}

@@ -1,7 +1,8 @@
 //! The first steps of threads in a Run, in the bytes of images, states and events.
 
+use crate::codes::{NUMBER, REGISTER};
 use crate::sizes::{
-    BLOCK, BLOCK_WORDS, EVENT, LABEL, OPERAND, OPERANDS, PRESENCE, RECORD, REGISTERS, THREAD, WORDS,
+    operand, BLOCK, BLOCK_WORDS, EVENT, LABEL, PRESENCE, RECORD, REGISTERS, THREAD, WORDS,
 };
 use std::collections::BTreeSet;
 
@@ -39,13 +40,30 @@ impl<'a> Step<'a> {
         Some(Step { record, thread, state })
     }
 
+    /// The kind of an operand, and then its value.
+    pub fn operand(&self, index: usize) -> &[u8] {
+        &self.record[operand(index)]
+    }
+
+    pub fn kind(&self, index: usize) -> u8 {
+        self.operand(index)[0]
+    }
+
+    /// Whether the two operands of each pair are the same.
+    pub fn are_same(&self, pairs: &[(usize, usize)]) -> bool {
+        pairs.iter().all(|&(one, other)| self.operand(one) == self.operand(other))
+    }
+
+    pub fn values<const COUNT: usize>(&self, indices: [usize; COUNT]) -> [Option<u16>; COUNT] {
+        indices.map(|index| self.value(index))
+    }
+
     /// The value of an operand, none for an absent register.
     pub fn value(&self, index: usize) -> Option<u16> {
-        let operand = operand(self.record, index);
-        let value = number(operand, 1);
-        match operand[0] {
-            1 => Some(value),
-            2 => self.register(usize::from(value)),
+        let value = number(self.operand(index), 1);
+        match self.kind(index) {
+            NUMBER => Some(value),
+            REGISTER => self.register(usize::from(value)),
             _ => {
                 let word = BLOCK_WORDS * usize::from(self.record[BLOCK]) + usize::from(value);
                 Some(number(self.state, 2 * word))
@@ -57,11 +75,6 @@ impl<'a> Step<'a> {
         let is_present = self.thread[PRESENCE + register / 8] >> (register % 8) & 1 == 1;
         is_present.then(|| number(self.thread, REGISTERS + 2 * register))
     }
-}
-
-/// An operand of a record: its kind, and then its value.
-pub fn operand(record: &[u8], index: usize) -> &[u8] {
-    &record[OPERANDS + OPERAND * index..][..OPERAND]
 }
 
 fn number(bytes: &[u8], place: usize) -> u16 {

@@ -1,49 +1,22 @@
-//! Subtractions among steps.
+//! Sorts of subtractions.
 
+use crate::codes::SUBTRACT;
 use crate::sizes::OPERATOR;
+use crate::sorts::Sort;
 use crate::steps::Step;
-use std::cmp::Ordering;
 
-/// An opcode, and an operator of it.
-const ASSIGN: u8 = 2;
-const SUBTRACT: u8 = 3;
+pub const SUBTRACTIONS: &[Sort] = &[
+    ("with p above q", |step| matches!(p_and_q(step), [Some(p), Some(q)] if p > q)),
+    ("with p equal to q", |step| matches!(p_and_q(step), [Some(p), Some(q)] if p == q)),
+    ("with p below q", |step| matches!(p_and_q(step), [Some(p), Some(q)] if p < q)),
+    ("of q above zero from an absent register", |step| matches!(p_and_q(step), [None, Some(1..)])),
+];
 
-/// How p and q of a subtraction compare.
-#[derive(Clone, Copy)]
-pub enum Subtraction {
-    Above,
-    Equal,
-    Below,
-    /// p is an absent register, and q is above zero.
-    OfAbsent,
-}
-
-impl Subtraction {
-    pub const ALL: [Subtraction; 4] =
-        [Subtraction::Above, Subtraction::Equal, Subtraction::Below, Subtraction::OfAbsent];
-
-    pub fn name(self) -> &'static str {
-        match self {
-            Subtraction::Above => "a subtraction with p above q",
-            Subtraction::Equal => "a subtraction with p equal to q",
-            Subtraction::Below => "a subtraction with p below q",
-            Subtraction::OfAbsent => "a subtraction from an absent register",
-        }
-    }
-
-    /// What a step subtracts, if it does.
-    pub fn of(step: &Step) -> Option<Subtraction> {
-        if (step.record[0], step.record[OPERATOR]) != (ASSIGN, SUBTRACT) {
-            return None;
-        }
-        match (step.value(1), step.value(2)) {
-            (Some(p), Some(q)) => Some(match p.cmp(&q) {
-                Ordering::Greater => Subtraction::Above,
-                Ordering::Equal => Subtraction::Equal,
-                Ordering::Less => Subtraction::Below,
-            }),
-            (None, Some(1..)) => Some(Subtraction::OfAbsent),
-            _ => None,
-        }
+/// The values of a step of ASSIGN, none if it does not subtract.
+fn p_and_q(step: &Step) -> [Option<u16>; 2] {
+    if step.record[OPERATOR] == SUBTRACT {
+        step.values([1, 2])
+    } else {
+        [None; 2]
     }
 }

@@ -7,6 +7,7 @@
  * Use: bench [FOLDER]    a folder for the plots */
 #define _POSIX_C_SOURCE 199309L
 
+#include "bench_calls.h"
 #include "bench_plot.h"
 #include "bench_rows.h"
 

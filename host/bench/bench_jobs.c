@@ -1,5 +1,4 @@
 #include "bench_jobs.h"
-#include "build.h"
 
 #include <stdbool.h>
 
@@ -97,19 +96,25 @@ void bench_send_image(uint8_t *image, size_t records, uint8_t blocks, uint8_t va
     }
 }
 
-void bench_divide_image(uint8_t *image, size_t records)
+const struct statement bench_division = {
+    0, PLEX_EXTERNAL, PLEX_DIVIDE, 0, 0, 0, 4, {REGISTER(2), WORD(0), REGISTER(0), REGISTER(1)}};
+const struct statement bench_packing = {0, PLEX_EXTERNAL, PLEX_PACK, 0, 0, 0, 2, {REGISTER(2), REGISTER(0)}};
+const struct statement bench_unpacking = {0, PLEX_EXTERNAL, PLEX_UNPACK, 0, 0, 0, 2, {REGISTER(2), REGISTER(3)}};
+const struct statement bench_decimal_sum = {
+    0, PLEX_EXTERNAL, PLEX_DECIMAL_ADD, 0, 0, 0, 3, {REGISTER(3), REGISTER(3), REGISTER(4)}};
+
+void bench_loop_image(uint8_t *image, size_t records, const struct statement *statement)
 {
-    struct statement divide = {
-        0, PLEX_EXTERNAL, PLEX_DIVIDE, 0, 0, 0, 4, {REGISTER(2), WORD(0), REGISTER(0), REGISTER(1)}};
+    struct statement moved = *statement;
     for (size_t label = 0; label < records; label++) {
-        divide.a = (uint16_t)((label + 1) % records);
-        put_statement(image + PLEX_RECORD_SIZE * label, &divide);
+        moved.a = (uint16_t)((label + 1) % records);
+        put_statement(image + PLEX_RECORD_SIZE * label, &moved);
     }
 }
 
 void bench_loop_start(uint8_t *events, uint8_t values)
 {
-    static const uint16_t numbers[PLEX_REGISTERS] = {300, 7, 5};
+    static const uint16_t numbers[PLEX_REGISTERS] = {300, 7, 5, 0x1234, 0x0678};
     put_arrival(events, 0, numbers, values);
     put_step(events + PLEX_EVENT_SIZE, 0);
 }

@@ -2,8 +2,7 @@
 #ifndef BENCH_JOBS_H
 #define BENCH_JOBS_H
 
-#include <stddef.h>
-#include <stdint.h>
+#include "build.h"
 
 /* A multiple of 16 records, up to 512: routines of 16 records in two blocks each. */
 void bench_job_image(uint8_t *image, size_t records);
@@ -20,8 +19,13 @@ void bench_job_events(uint8_t *events, size_t count, size_t records);
  * blocks by turns. */
 void bench_send_image(uint8_t *image, size_t records, uint8_t blocks, uint8_t values);
 
-/* 1 record or more: a job of two values that does nothing but divide one by the other, without end. */
-void bench_divide_image(uint8_t *image, size_t records);
+/* 1 record or more: a job of LOOP_VALUES values that does nothing but one statement, without end. */
+enum { LOOP_VALUES = 5 };
+void bench_loop_image(uint8_t *image, size_t records, const struct statement *statement);
+
+/* Such statements, which do not trap: a division, a packing, an unpacking, and a decimal sum that is added to again
+ * and again. */
+extern const struct statement bench_division, bench_packing, bench_unpacking, bench_decimal_sum;
 
 /* For an image of either, whose job has so many values: 2 events that start the job on thread 0, and so many
  * that each do one statement. */

@@ -1,91 +1,11 @@
 #include "bench_rows.h"
+#include "bench_calls.h"
 #include "bench_image.h"
 #include "bench_jobs.h"
 #include "bench_table.h"
 #include "build.h"
-#include "plain.h"
-#include "plex.h"
 
 #include <string.h>
-
-/* What an engine alters. */
-struct altered {
-    uint8_t state[PLEX_STATE_SIZE];
-    uint8_t answers[PLEX_ANSWER_SIZE * PLEX_EVENTS_MAX];
-    uint8_t met[PLEX_MET_SIZE];
-    uint8_t linked[PLEX_RECORD_SIZE * PLEX_RECORDS_MAX];
-};
-
-/* What the row in hand lends: the same to both engines, but for what they alter. */
-static struct {
-    uint8_t image[PLEX_RECORD_SIZE * PLEX_RECORDS_MAX];
-    uint8_t second_image[PLEX_RECORD_SIZE * PLEX_RECORDS_MAX];
-    size_t image_len; /* of either */
-    uint8_t table[PLEX_TABLE_SIZE];
-    uint8_t words[PLEX_WORDS_SIZE];
-    uint8_t events[PLEX_EVENT_SIZE * PLEX_EVENTS_MAX];
-    size_t event_count;
-} work;
-
-static struct altered by_plex, by_plain;
-
-#define IMAGE work.image, work.image_len
-#define SECOND_IMAGE work.second_image, work.image_len
-#define TABLE work.table, sizeof work.table
-#define WORDS work.words, sizeof work.words
-#define STATE(engine) engine.state, sizeof engine.state
-#define EVENTS work.events, PLEX_EVENT_SIZE *work.event_count
-#define ANSWERS(engine) engine.answers, PLEX_ANSWER_SIZE *work.event_count
-#define MET(engine) engine.met, sizeof engine.met
-#define LINKED(engine) engine.linked, 2 * work.image_len
-
-static uint32_t plex_check_call(void)
-{
-    return plex_check(IMAGE, TABLE);
-}
-static uint32_t plain_check_call(void)
-{
-    return plain_check(IMAGE, TABLE);
-}
-
-static uint32_t plex_fresh_call(void)
-{
-    return plex_fresh(IMAGE, TABLE, WORDS, STATE(by_plex));
-}
-static uint32_t plain_fresh_call(void)
-{
-    return plain_fresh(IMAGE, TABLE, WORDS, STATE(by_plain));
-}
-
-static uint32_t plex_run_call(void)
-{
-    return plex_run(IMAGE, TABLE, STATE(by_plex), EVENTS, ANSWERS(by_plex));
-}
-
-static uint32_t plain_run_call(void)
-{
-    return plain_run(IMAGE, TABLE, STATE(by_plain), EVENTS, ANSWERS(by_plain));
-}
-
-static uint32_t plex_walk_call(void)
-{
-    return plex_walk(IMAGE, TABLE, STATE(by_plex), 0, MET(by_plex));
-}
-
-static uint32_t plain_walk_call(void)
-{
-    return plain_walk(IMAGE, TABLE, STATE(by_plain), 0, MET(by_plain));
-}
-
-static uint32_t plex_link_call(void)
-{
-    return plex_link(IMAGE, SECOND_IMAGE, TABLE, LINKED(by_plex));
-}
-
-static uint32_t plain_link_call(void)
-{
-    return plain_link(IMAGE, SECOND_IMAGE, TABLE, LINKED(by_plain));
-}
 
 /* The table is for rows that do not make another. */
 static void begin(const struct bench_row *row)
@@ -113,7 +33,7 @@ static void prepare_exit(const struct bench_row *row)
 /* Both states are made by the plain engine, so that a row times one call of the other alone. */
 static void begin_state(void)
 {
-    plain_fresh(IMAGE, TABLE, WORDS, STATE(by_plain));
+    plain_fresh_call();
     by_plex = by_plain;
 }
 
@@ -147,8 +67,8 @@ static void prepare_idle(const struct bench_row *row)
 /* The events so far made are carried out by the plain engine; the row begins with what they leave. */
 static void begin_after_events(void)
 {
-    plain_fresh(IMAGE, TABLE, WORDS, STATE(by_plain));
-    plain_run(IMAGE, TABLE, STATE(by_plain), EVENTS, ANSWERS(by_plain));
+    plain_fresh_call();
+    plain_run_call();
     by_plex = by_plain;
 }
 
@@ -202,12 +122,32 @@ static void prepare_sends_in_group(const struct bench_row *row)
     prepare_sends(row, 2, 3);
 }
 
-/* Each event is a division. */
-static void prepare_divisions(const struct bench_row *row)
+/* Each event is the one statement of the job. */
+static void prepare_loop(const struct bench_row *row, const struct statement *statement)
 {
     begin(row);
-    bench_divide_image(work.image, row->records);
-    begin_loop(row, 2);
+    bench_loop_image(work.image, row->records, statement);
+    begin_loop(row, LOOP_VALUES);
+}
+
+static void prepare_divisions(const struct bench_row *row)
+{
+    prepare_loop(row, &bench_division);
+}
+
+static void prepare_packings(const struct bench_row *row)
+{
+    prepare_loop(row, &bench_packing);
+}
+
+static void prepare_unpackings(const struct bench_row *row)
+{
+    prepare_loop(row, &bench_unpacking);
+}
+
+static void prepare_decimal_sums(const struct bench_row *row)
+{
+    prepare_loop(row, &bench_decimal_sum);
 }
 
 /* Two guests with the opcodes up to EXIT, in blocks of their own. */
@@ -257,18 +197,8 @@ const struct bench_row bench_rows[] = {
     {"run, SEND in a group", 16, 1024, NO_PLOT, prepare_sends_in_group, plex_run_call, plain_run_call},
     {"run, new trees", 16, 1024, NO_PLOT, prepare_founders, plex_run_call, plain_run_call},
     {"run, DIVIDE", 16, 1024, NO_PLOT, prepare_divisions, plex_run_call, plain_run_call},
+    {"run, PACK", 16, 1024, NO_PLOT, prepare_packings, plex_run_call, plain_run_call},
+    {"run, UNPACK", 16, 1024, NO_PLOT, prepare_unpackings, plex_run_call, plain_run_call},
+    {"run, DECIMAL ADD", 16, 1024, NO_PLOT, prepare_decimal_sums, plex_run_call, plain_run_call},
 };
 const size_t bench_row_count = sizeof bench_rows / sizeof bench_rows[0];
-
-int bench_same_bytes(void)
-{
-    return memcmp(&by_plex, &by_plain, sizeof by_plex) == 0;
-}
-
-int bench_any_trap(void)
-{
-    int any = 0;
-    for (size_t i = 0; i < work.event_count; i++)
-        any |= by_plain.answers[PLEX_ANSWER_SIZE * i + PLEX_ANSWER_CODE] == PLEX_TRAPPED;
-    return any;
-}

@@ -31,10 +31,4 @@ struct bench_row {
 extern const struct bench_row bench_rows[];
 extern const size_t bench_row_count;
 
-/* Whether both engines left the same bytes. */
-int bench_same_bytes(void);
-
-/* Whether the last events that the plain engine carried out have ended a job by a trap. */
-int bench_any_trap(void);
-
 #endif

@@ -31,8 +31,14 @@ const struct opcode_rule plain_opcode_rules[] = {
     [PLEX_SEND_TREE] = {ZERO_BITS(UNUSED, USED, USED), ENTRY_BOUND, AT_BUFFERED, BLOCK_BOUND, ONLY_ZERO, 0,
                         PLEX_REGISTERS},
     [PLEX_DIVIDE] = {ZERO_BITS(UNUSED, USED, UNUSED), BLOCK_BOUND, 0, 0, ONLY_ZERO, 4, 0},
+    [PLEX_PACK] = {ZERO_BITS(UNUSED, USED, UNUSED), BLOCK_BOUND, 0, 0, ONLY_ZERO, 2, 0},
+    [PLEX_UNPACK] = {ZERO_BITS(UNUSED, USED, UNUSED), BLOCK_BOUND, 0, 0, ONLY_ZERO, 2, 0},
+    [PLEX_DECIMAL_ADD] = {ZERO_BITS(UNUSED, USED, UNUSED), BLOCK_BOUND, 0, 0, ONLY_ZERO, 3, 0},
 };
 enum { LAST_OPCODE = sizeof plain_opcode_rules / sizeof plain_opcode_rules[0] - 1 };
+
+/* The opcodes whose first operand is a destination. */
+enum { STORING = 1 << PLEX_ASSIGN | 1 << PLEX_DIVIDE | 1 << PLEX_PACK | 1 << PLEX_UNPACK | 1 << PLEX_DECIMAL_ADD };
 
 const uint8_t plain_zeros[PLEX_TREES_MAX * PLEX_TREE_SIZE];
 
@@ -102,19 +108,24 @@ static inline bool operands_hold(const uint8_t *record)
     return all_negative < 0 && all_zero(end, (size_t)(record + PLEX_RECORD_SIZE - end));
 }
 
-/* The destination is no number, and copy alone has two operands. */
+/* Copy alone has two operands. */
 static inline bool assign_holds(const uint8_t *record)
 {
-    uint32_t count = record[PLEX_RECORD_OPERATOR] == PLEX_COPY ? 2 : 3;
-    return record[PLEX_RECORD_OPERANDS] != PLEX_NUMBER_OPERAND && record[PLEX_RECORD_COUNT] == count;
+    return record[PLEX_RECORD_COUNT] == (record[PLEX_RECORD_OPERATOR] == PLEX_COPY ? 2 : 3);
 }
 
-/* The destinations are no numbers, and not the same. */
+/* The second destination is no number either, and not the first. */
 static inline bool divide_holds(const uint8_t *record)
 {
     const uint8_t *quotient = operand_at(record, 0), *remainder = operand_at(record, 1);
-    return quotient[PLEX_OPERAND_KIND] != PLEX_NUMBER_OPERAND && remainder[PLEX_OPERAND_KIND] != PLEX_NUMBER_OPERAND &&
-           memcmp(quotient, remainder, PLEX_OPERAND_SIZE) != 0;
+    return remainder[PLEX_OPERAND_KIND] != PLEX_NUMBER_OPERAND && memcmp(quotient, remainder, PLEX_OPERAND_SIZE) != 0;
+}
+
+/* Given an opcode that stores: the destination is no number. */
+static inline bool destinations_hold(const uint8_t *record, uint32_t opcode)
+{
+    return record[PLEX_RECORD_OPERANDS] != PLEX_NUMBER_OPERAND && (opcode != PLEX_ASSIGN || assign_holds(record)) &&
+           (opcode != PLEX_DIVIDE || divide_holds(record));
 }
 
 static inline bool record_holds(const uint8_t *image, uint32_t records, const uint8_t *record)
@@ -122,7 +133,7 @@ static inline bool record_holds(const uint8_t *image, uint32_t records, const ui
     uint32_t opcode = record[PLEX_RECORD_OPCODE];
     const struct opcode_rule *rule = &plain_opcode_rules[opcode <= LAST_OPCODE ? opcode : 0];
     return header_holds(record, rule) && labels_hold(image, records, record, rule) && operands_hold(record) &&
-           (opcode != PLEX_ASSIGN || assign_holds(record)) && (opcode != PLEX_DIVIDE || divide_holds(record));
+           (!(STORING >> opcode & 1) || destinations_hold(record, opcode));
 }
 
 uint32_t plain_check(const uint8_t *image, size_t image_len, const uint8_t *table, size_t table_len)

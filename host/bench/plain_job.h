@@ -46,4 +46,7 @@ uint32_t plain_step(const struct job *job);
 /* Ends the job, drops the signals that it holds, and hands the answer back. */
 uint32_t plain_end_job(const struct job *job, uint32_t result);
 
+/* EXIT: once the job's own tree is settled, each held signal founds a tree, or is lost for want of room. */
+uint32_t plain_leave(const struct job *job);
+
 #endif

@@ -1,61 +1,6 @@
-/* One step of a running thread, and the end of its job. */
+/* One step of a running thread. */
+#include "plain_decimal.h"
 #include "plain_job.h"
-
-/* The bytes of a tree up to its newest signal; those after are zero. */
-static size_t used_bytes(const uint8_t *tree)
-{
-    return PLEX_TREE_SIGNALS + PLEX_SIGNAL_SIZE * (size_t)tree[PLEX_TREE_PENDING];
-}
-
-/* The job's tree, if empty, leaves the list; otherwise it goes to the list's end,
- * on the thread of its oldest signal's block. */
-static void retire_tree(const struct job *job)
-{
-    uint32_t index = first_tree(job->state, job->thread);
-    uint32_t count = job->state[PLEX_STATE_TREE_COUNT];
-    uint8_t *tree = job->state + PLEX_STATE_TREES + PLEX_TREE_SIZE * index;
-    uint8_t *last = job->state + PLEX_STATE_TREES + PLEX_TREE_SIZE * (count - 1);
-    uint8_t retired[PLEX_TREE_SIZE];
-    size_t retired_bytes = used_bytes(tree);
-    memcpy(retired, tree, retired_bytes);
-    memmove(tree, tree + PLEX_TREE_SIZE, (size_t)(last - tree));
-    memset(last, 0, used_bytes(last));
-    if (retired[PLEX_TREE_PENDING] == 0) {
-        job->state[PLEX_STATE_TREE_COUNT] = (uint8_t)(count - 1);
-        return;
-    }
-    memcpy(last, retired, retired_bytes);
-    last[PLEX_TREE_THREAD] = (uint8_t)thread_of_oldest(job->program, last);
-}
-
-/* Where nothing is held, of the held signals the count alone is read; the places past it are zero. */
-static void make_idle(const struct job *job)
-{
-    uint32_t held = job->bytes[PLEX_THREAD_HELD_COUNT];
-    memset(job->bytes, 0, PLEX_THREAD_HELD_COUNT);
-    put16(job->bytes + PLEX_THREAD_LABEL, PLEX_IDLE);
-    if (held != 0)
-        memset(job->bytes + PLEX_THREAD_HELD_COUNT, 0,
-               PLEX_THREAD_HELD - PLEX_THREAD_HELD_COUNT + PLEX_SIGNAL_SIZE * held);
-}
-
-uint32_t plain_end_job(const struct job *job, uint32_t result)
-{
-    retire_tree(job);
-    make_idle(job);
-    return result;
-}
-
-/* EXIT: once the job's own tree is settled, each held signal founds a tree, or is lost for want of room. */
-static uint32_t leave(const struct job *job)
-{
-    uint32_t held = job->bytes[PLEX_THREAD_HELD_COUNT], lost = 0;
-    retire_tree(job);
-    for (uint32_t i = 0; i < held; i++)
-        lost += !add_tree(job->program, job->state, held_at(job->bytes, i));
-    make_idle(job);
-    return answer(PLEX_EXITED, lost);
-}
 
 static uint32_t trap(const struct job *job, uint32_t reason)
 {
@@ -81,20 +26,33 @@ static void store(const struct job *job, uint32_t block, const uint8_t *destinat
     }
 }
 
+/* Stores to the record's only destination, and goes on to A. */
+static uint32_t store_and_move_on(const struct job *job, const uint8_t *record, uint32_t value)
+{
+    store(job, record[PLEX_RECORD_BLOCK], operand_at(record, 0), value);
+    return move_on(job, get16(record + PLEX_RECORD_A));
+}
+
 static uint32_t assign(const struct job *job, const uint8_t *record)
 {
-    const uint8_t *destination = record + PLEX_RECORD_OPERANDS;
     uint32_t operation = record[PLEX_RECORD_OPERATOR], block = record[PLEX_RECORD_BLOCK], read = 0, q = 0;
-    uint32_t p = operand_value(job->state, job->bytes, block, destination + PLEX_OPERAND_SIZE, &read);
+    uint32_t p = operand_value(job->state, job->bytes, block, operand_at(record, 1), &read);
     if (operation != PLEX_COPY)
-        q = operand_value(job->state, job->bytes, block, destination + 2 * PLEX_OPERAND_SIZE, &read);
+        q = operand_value(job->state, job->bytes, block, operand_at(record, 2), &read);
     if ((read & ~get32(job->bytes + PLEX_THREAD_PRESENCE)) != 0)
         return trap(job, PLEX_ABSENT_REGISTER);
     if (operation == PLEX_SUBTRACT && p < q)
         return trap(job, PLEX_BELOW_ZERO);
     uint32_t value = operation == PLEX_SUBTRACT ? p - q : operation == PLEX_MULTIPLY ? p * q : p + q;
-    store(job, block, destination, value);
-    return move_on(job, get16(record + PLEX_RECORD_A));
+    return store_and_move_on(job, record, value);
+}
+
+/* The value of a packing's or unpacking's p; returns whether no absent register was read. */
+static inline bool read_one(const struct job *job, const uint8_t *record, uint32_t *p)
+{
+    uint32_t read = 0;
+    *p = operand_value(job->state, job->bytes, record[PLEX_RECORD_BLOCK], operand_at(record, 1), &read);
+    return (read & ~get32(job->bytes + PLEX_THREAD_PRESENCE)) == 0;
 }
 
 /* The values of the operand and of the one behind it; returns whether no absent register was read. */
@@ -118,6 +76,36 @@ static uint32_t divide(const struct job *job, const uint8_t *record)
     store(job, record[PLEX_RECORD_BLOCK], operand_at(record, 0), p / q);
     store(job, record[PLEX_RECORD_BLOCK], operand_at(record, 1), p % q);
     return move_on(job, get16(record + PLEX_RECORD_A));
+}
+
+static uint32_t pack(const struct job *job, const uint8_t *record)
+{
+    uint32_t p;
+    if (!read_one(job, record, &p))
+        return trap(job, PLEX_ABSENT_REGISTER);
+    if (p > LARGEST_DECIMAL)
+        return trap(job, PLEX_NOT_DECIMAL);
+    return store_and_move_on(job, record, packed_number(p));
+}
+
+static uint32_t unpack(const struct job *job, const uint8_t *record)
+{
+    uint32_t p;
+    if (!read_one(job, record, &p))
+        return trap(job, PLEX_ABSENT_REGISTER);
+    if (!is_packed(p))
+        return trap(job, PLEX_NOT_DECIMAL);
+    return store_and_move_on(job, record, unpacked_number(p));
+}
+
+static uint32_t add_decimals(const struct job *job, const uint8_t *record)
+{
+    uint32_t p, q;
+    if (!read_two(job, record, operand_at(record, 1), &p, &q))
+        return trap(job, PLEX_ABSENT_REGISTER);
+    if (!is_packed(p) || !is_packed(q))
+        return trap(job, PLEX_NOT_DECIMAL);
+    return store_and_move_on(job, record, packed_sum(p, q));
 }
 
 static uint32_t branch(const struct job *job, const uint8_t *record)
@@ -239,11 +227,17 @@ uint32_t plain_step(const struct job *job)
     case PLEX_TRANSFER:
         return transfer(job, record);
     case PLEX_EXIT:
-        return leave(job);
+        return plain_leave(job);
     case PLEX_SEND_TREE:
         return send_tree(job, record);
     case PLEX_DIVIDE:
         return divide(job, record);
+    case PLEX_PACK:
+        return pack(job, record);
+    case PLEX_UNPACK:
+        return unpack(job, record);
+    case PLEX_DECIMAL_ADD:
+        return add_decimals(job, record);
     default:
         return move_on(job, get16(record + PLEX_RECORD_A));
     }

@@ -26,6 +26,9 @@ static const struct opcode_rule {
     [PLEX_EXIT] = {.a = UNUSED},
     [PLEX_SEND_TREE] = {.a = SIGNAL, .b = INSIDE, .entry_at_a = PLEX_BUFFERED, .most = PLEX_REGISTERS},
     [PLEX_DIVIDE] = {.a = INSIDE, .fewest = 4, .most = 4, .destinations = 2},
+    [PLEX_PACK] = {.a = INSIDE, .fewest = 2, .most = 2, .destinations = 1},
+    [PLEX_UNPACK] = {.a = INSIDE, .fewest = 2, .most = 2, .destinations = 1},
+    [PLEX_DECIMAL_ADD] = {.a = INSIDE, .fewest = 3, .most = 3, .destinations = 1},
 };
 enum { LAST_OPCODE = sizeof rules / sizeof rules[0] - 1 };
 

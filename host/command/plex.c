@@ -20,7 +20,8 @@ static const struct part {
     {"show", show_command, "IMAGE",
      "Lists an image as statements, block by block: label, entry, statement. r0 is register 0 and\n"
      "w0 shared word 0 of the record's block. DIVIDE r0, w0 := p / q has the quotient in r0 and the\n"
-     "remainder in w0.\n"},
+     "remainder in w0. A number that UNPACK or DECIMAL ADD reads is shown by its digits, as packed\n"
+     "0042, or as (not packed: 0x12a4) where one is above 9.\n"},
     {"link", link_command, "FIRST SECOND TABLE --out IMAGE",
      "Links two images that are meant for one block table: the second is laid behind the first, and\n"
      "its labels become higher by the first's number of records. If they are refused, says which\n"
@@ -30,7 +31,8 @@ static const struct part {
     {"run", run_command, "IMAGE TABLE WORDS|--state STATE EVENTS [OPTIONS]",
      "Carries the events of a file out, from a fresh machine with the initial words or from a\n"
      "state, and prints a line for each event: its place in the file, the event, the statement\n"
-     "carried out, the answer and the thread after it. A summary follows.\n"
+     "carried out, the answer and the thread after it. Of PACK, UNPACK and DECIMAL ADD it says what\n"
+     "they read and stored, packed numbers by their digits. A summary follows.\n"
      "\n"
      "  --state STATE   begin with this state and not with a fresh machine\n"
      "  --out STATE     write the state left\n"

@@ -1,6 +1,7 @@
 #include "trace.h"
 #include "command.h"
 #include "names.h"
+#include "packed.h"
 
 #include <inttypes.h>
 
@@ -50,6 +51,8 @@ void print_traced(const struct traced *traced, const uint8_t *image, const struc
     add_answer(&said, traced->answer, groups);
     if (traced->event[PLEX_EVENT_KIND] != PLEX_ARRIVAL) {
         add_carried_out(&what, image, thread_at(traced->before, thread));
+        add_decimal_step(&where, image, thread, traced->answer, traced->before, traced->after);
+        add(&where, where.length == 0 ? "" : "; ");
         add_thread(&where, thread_at(traced->after, thread));
     }
     print("%8" PRIu64 "  %-64s  %s%s%s", traced->index, what.text, colour_on(stdout, colour_of(traced->answer)),

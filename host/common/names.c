@@ -12,7 +12,8 @@ static const char *const opcodes[] = {
     [PLEX_SKIP] = "SKIP", [PLEX_ASSIGN] = "ASSIGN",           [PLEX_GOTO] = "GOTO",
     [PLEX_IF] = "IF",     [PLEX_SEND_DIRECT] = "SEND direct", [PLEX_SEND_BUFFERED] = "SEND buffered",
     [PLEX_CALL] = "CALL", [PLEX_RETURN] = "RETURN",           [PLEX_TRANSFER] = "TRANSFER",
-    [PLEX_EXIT] = "EXIT", [PLEX_SEND_TREE] = "SEND JOBTREE",  [PLEX_DIVIDE] = "DIVIDE"};
+    [PLEX_EXIT] = "EXIT", [PLEX_SEND_TREE] = "SEND JOBTREE",  [PLEX_DIVIDE] = "DIVIDE",
+    [PLEX_PACK] = "PACK", [PLEX_UNPACK] = "UNPACK",           [PLEX_DECIMAL_ADD] = "DECIMAL ADD"};
 
 static const char *const assign_operators[] = {
     [PLEX_COPY] = "copy", [PLEX_ADD] = "+", [PLEX_SUBTRACT] = "-", [PLEX_MULTIPLY] = "*"};
@@ -35,6 +36,7 @@ static const char *const codes[] = {[PLEX_ARRIVED] = "arrived", [PLEX_LIST_FULL]
 static const char *const traps[] = {[PLEX_ABSENT_REGISTER] = "an absent register is read",
                                     [PLEX_BELOW_ZERO] = "subtraction below zero",
                                     [PLEX_ZERO_DIVISOR] = "division by zero",
+                                    [PLEX_NOT_DECIMAL] = "a number above 9,999 packed, or a digit above 9",
                                     [PLEX_NO_RETURN_LABEL] = "RETURN with no return label",
                                     [PLEX_RETURNS_FULL] = "CALL with 8 return labels",
                                     [PLEX_PENDING_FULL] = "buffered SEND with 8 signals pending in the job's own tree",

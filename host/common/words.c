@@ -1,5 +1,6 @@
 #include "words.h"
 #include "names.h"
+#include "packed.h"
 
 #include <stdarg.h>
 #include <stdio.h>
@@ -75,6 +76,31 @@ static void add_divide(struct line *line, const uint8_t *record)
     add(line, ", on to %u", get16(record + PLEX_RECORD_A));
 }
 
+/* A source; a number that is taken for a packed one, by its digits. */
+static void add_source(struct line *line, const uint8_t *record, uint32_t index)
+{
+    const uint8_t *operand = operand_at(record, index);
+    if (reads_packed(record) && operand[PLEX_OPERAND_KIND] == PLEX_NUMBER_OPERAND)
+        add_packed(line, get16(operand + PLEX_OPERAND_VALUE));
+    else
+        add_operand(line, operand);
+}
+
+/* PACK, UNPACK and DECIMAL ADD. */
+static void add_decimal(struct line *line, const uint8_t *record)
+{
+    uint32_t opcode = record[PLEX_RECORD_OPCODE];
+    add(line, "%s ", opcode_name(opcode));
+    add_operand(line, operand_at(record, 0));
+    add(line, " := ");
+    add_source(line, record, 1);
+    if (opcode == PLEX_DECIMAL_ADD) {
+        add(line, " + ");
+        add_source(line, record, 2);
+    }
+    add(line, ", on to %u", get16(record + PLEX_RECORD_A));
+}
+
 static void add_if(struct line *line, const uint8_t *record)
 {
     add(line, "IF ");
@@ -110,6 +136,11 @@ void add_statement(struct line *line, const uint8_t *record)
         break;
     case PLEX_DIVIDE:
         add_divide(line, record);
+        break;
+    case PLEX_PACK:
+    case PLEX_UNPACK:
+    case PLEX_DECIMAL_ADD:
+        add_decimal(line, record);
         break;
     case PLEX_IF:
         add_if(line, record);

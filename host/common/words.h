@@ -14,7 +14,8 @@ struct line {
 void add(struct line *line, const char *format, ...) __attribute__((format(printf, 2, 3)));
 
 /* As "CALL to 3 WITH r0, return to 1": r is a register, w a shared word of the record's block. In
- * "DIVIDE r0, w0 := r1 / 10, on to 4" the quotient goes to r0, and the remainder to w0. */
+ * "DIVIDE r0, w0 := r1 / 10, on to 4" the quotient goes to r0, and the remainder to w0. In
+ * "UNPACK r0 := packed 0042, on to 4" the number is read as a packed one, and is 0x0042. */
 void add_statement(struct line *line, const uint8_t *record);
 
 /* As "  3  direct    CALL to 6 WITH r0, return to 4": label, entry and statement. */

@@ -25,7 +25,8 @@ static const struct statement program[CASE_RECORDS] = {
 
 /* East's guest adds up what it is sent. Its ledger keeps the sum, in a job of a tree of its own. Its
  * charging takes what it is sent from a prepaid subscriber's balance. Its tariff is sent pulses, and how
- * many a unit has: it adds those that it has kept, counts the units, and keeps the pulses left. */
+ * many a unit has: it adds those that it has kept, counts the units, and keeps the pulses left. Its meter is
+ * sent a subscriber's counter, packed: it adds it to its own, and its pulses to those that are to be charged. */
 static const struct statement east_program[EAST_RECORDS] = {
     {EAST_GUEST, PLEX_EXTERNAL, PLEX_ASSIGN, PLEX_ADD, 1, 0, 3, {WORD(0), WORD(0), REGISTER(0)}},
     {EAST_GUEST, PLEX_NO_ENTRY, PLEX_SEND_TREE, 0, 3, 2, 1, {WORD(0)}},
@@ -38,6 +39,10 @@ static const struct statement east_program[EAST_RECORDS] = {
     {EAST_TARIFF, PLEX_NO_ENTRY, PLEX_DIVIDE, 0, 9, 0, 4, {REGISTER(0), WORD(KEPT), REGISTER(0), REGISTER(1)}},
     {EAST_TARIFF, PLEX_NO_ENTRY, PLEX_ASSIGN, PLEX_ADD, 10, 0, 3, {WORD(UNITS), WORD(UNITS), REGISTER(0)}},
     {EAST_TARIFF, PLEX_NO_ENTRY, PLEX_EXIT, 0, 0, 0, 0, {NUMBER(0)}},
+    {EAST_METER, PLEX_EXTERNAL, PLEX_DECIMAL_ADD, 0, 12, 0, 3, {WORD(COUNTER), WORD(COUNTER), REGISTER(0)}},
+    {EAST_METER, PLEX_NO_ENTRY, PLEX_UNPACK, 0, 13, 0, 2, {REGISTER(0), REGISTER(0)}},
+    {EAST_METER, PLEX_NO_ENTRY, PLEX_ASSIGN, PLEX_ADD, 14, 0, 3, {WORD(METERED), WORD(METERED), REGISTER(0)}},
+    {EAST_METER, PLEX_NO_ENTRY, PLEX_EXIT, 0, 0, 0, 0, {NUMBER(0)}},
 };
 
 static const struct {
@@ -54,14 +59,16 @@ static const struct {
     [EAST_LEDGER] = {"East's ledger", 3, EAST_LEDGER, 0},
     [EAST_CHARGING] = {"East's charging", 2, EAST_CHARGING, 20},
     [EAST_TARIFF] = {"East's tariff", 2, EAST_TARIFF, KEPT_PULSES},
+    [EAST_METER] = {"East's meter", 2, METER_LOCK, FIRST_COUNTER},
 };
 
 /* The thread of each step after the case's three arrivals. */
 static const uint8_t stepped[] = {0, 0, 1, 1, 0, 0, 1, 0, 0, 1, 1, 1};
 
-/* The same after each of East's four arrivals. */
+/* The same after each of East's six arrivals. */
 static const uint8_t stepped_for_guest[] = {2, 2, 2, 2, 3, 3, 3}, stepped_for_charge[] = {2, 2};
 static const uint8_t stepped_for_units[] = {2, 2, 2, 2, 2}, stepped_without_units[] = {2, 2, 2};
+static const uint8_t stepped_for_meter[] = {2, 2, 2, 2, 2}, stepped_for_bad_counter[] = {2, 2};
 
 static const char *const notes[LINKED_EVENTS] = {
     [0] = "North's guest, to be charged for 25 pulses",
@@ -85,6 +92,12 @@ static const char *const notes[LINKED_EVENTS] = {
     [30] = "the 3 units are charged",
     [32] = "East's tariff, where a unit has 0 pulses",
     [35] = "nobody is charged, and the pulses kept stay",
+    [36] = "East's meter, a subscriber's counter of 0075, packed",
+    [38] = "the meter's own counter begins again after 9999",
+    [39] = "the pulses of the subscriber's counter, as a number",
+    [40] = "the 75 pulses are to be charged",
+    [42] = "East's meter, a counter whose third digit is 10",
+    [44] = "nobody is charged, and the meter's counter stays",
 };
 
 const char *case_event_note(uint32_t index)
@@ -109,6 +122,7 @@ static void make_events(uint8_t *event)
 {
     static const uint16_t north_pulses[] = {25}, south_value[] = {999}, east_value[] = {40}, east_charge[] = {90};
     static const uint16_t east_pulses[] = {SENT_PULSES, UNIT_PULSES}, without_unit[] = {SENT_PULSES, 0};
+    static const uint16_t east_counter[] = {SENT_COUNTER}, bad_counter[] = {BAD_COUNTER};
     put_arrival(event, 0, north_pulses, 1);
     put_arrival(event += PLEX_EVENT_SIZE, 8, south_value, 1);
     put_arrival(event += PLEX_EVENT_SIZE, 9, NULL, 0);
@@ -120,7 +134,11 @@ static void make_events(uint8_t *event)
     put_arrival(event, CASE_RECORDS + 7, east_pulses, 2);
     event = put_steps(event + PLEX_EVENT_SIZE, stepped_for_units, sizeof stepped_for_units);
     put_arrival(event, CASE_RECORDS + 7, without_unit, 2);
-    put_steps(event + PLEX_EVENT_SIZE, stepped_without_units, sizeof stepped_without_units);
+    event = put_steps(event + PLEX_EVENT_SIZE, stepped_without_units, sizeof stepped_without_units);
+    put_arrival(event, CASE_RECORDS + 11, east_counter, 1);
+    event = put_steps(event + PLEX_EVENT_SIZE, stepped_for_meter, sizeof stepped_for_meter);
+    put_arrival(event, CASE_RECORDS + 11, bad_counter, 1);
+    put_steps(event + PLEX_EVENT_SIZE, stepped_for_bad_counter, sizeof stepped_for_bad_counter);
 }
 
 void make_case(struct field_case *made)
@@ -129,8 +147,6 @@ void make_case(struct field_case *made)
     put_statements(made->image, program, CASE_RECORDS);
     put_statements(made->east_image, east_program, EAST_RECORDS);
     put_lone_rows(made->table);
-    /* Block 9 gets the lock that the family leaves, so that the family's lock guards no other block. */
-    put_row(made->table, FAMILY_LOCK, 0, PLEX_FD, NORTH_CHARGING);
     for (uint32_t block = 0; block < CASE_BLOCKS; block++) {
         put_row(made->table, block, blocks[block].thread, PLEX_CMX, blocks[block].lock);
         put16(made->words + 2 * PLEX_BLOCK_WORDS * block, blocks[block].first_word);

@@ -2,20 +2,22 @@
  * next guest on the same thread does RETURN. The two blocks that the job calls have one lock, for
  * which an audit on another thread waits. An engine that kept the return labels of the ended
  * job would let South's RETURN go on at label 4 and charge North for it; one that kept its locks
- * would let the audit wait for ever. East's guest, its ledger, its charging and its tariff, which come
- * as an image of their own, are linked behind the case first, and run after it: the guest's job founds a
- * tree for the ledger; the charging is sent a charge of 90 and has a prepaid balance of 20, of which an
- * engine that subtracts modulo 65,536 would make 65,466; the tariff splits pulses into units and keeps
- * those left over, and where a unit has no pulses its job traps, charges nobody and drops the pulses that
- * it was sent.
+ * would let the audit wait for ever. East's guest, its ledger, its charging, its tariff and its meter,
+ * which come as an image of their own, are linked behind the case first, and run after it: the guest's job
+ * founds a tree for the ledger; the charging is sent a charge of 90 and has a prepaid balance of 20, of
+ * which an engine that subtracts modulo 65,536 would make 65,466; the tariff splits pulses into units and
+ * keeps those left over, and where a unit has no pulses its job traps, charges nobody and drops the pulses
+ * that it was sent; the meter adds a subscriber's packed counter to its own, and one with a digit above 9
+ * traps, and nobody is charged for it.
  *
- * Use: demo          prints the trace; the status is 1 if a charging word changed, or a pulse is lost that was
- *                    kept at first or sent where a unit has pulses
+ * Use: demo          prints the trace; the status is 1 if a charging word changed, a pulse is lost that was
+ *                    kept at first or sent where a unit has pulses, or the meter has not counted right
  *      demo FOLDER   writes the case and East's image there, as files of the command plex */
 #include "case.h"
 #include "fields.h"
 #include "files.h"
 #include "names.h"
+#include "packed.h"
 #include "words.h"
 
 #include <stdio.h>
@@ -75,6 +77,16 @@ static uint32_t east_kept(void)
     return get16(word_at(state, EAST_TARIFF, KEPT));
 }
 
+static uint32_t east_counter(void)
+{
+    return get16(word_at(state, EAST_METER, COUNTER));
+}
+
+static uint32_t east_metered(void)
+{
+    return get16(word_at(state, EAST_METER, METERED));
+}
+
 static void print_event(uint32_t index, const uint8_t *event)
 {
     const char *note = case_event_note(index);
@@ -110,6 +122,24 @@ static void print_answer(const uint8_t *answer)
     printf("    answer    code %u, detail %u: %s\n", answer[PLEX_ANSWER_CODE], answer[PLEX_ANSWER_DETAIL], line.text);
 }
 
+/* What the step has read and stored, where packed numbers are concerned. */
+static void print_values(uint32_t thread, const uint8_t *answer, const uint8_t *before)
+{
+    struct line line = {0};
+    add_decimal_step(&line, linked, thread, answer, before, state);
+    if (line.length != 0)
+        printf("    values    %s\n", line.text);
+}
+
+static void print_charges(void)
+{
+    struct line counter = {0};
+    add_packed(&counter, east_counter());
+    printf("    charges   North %u, South %u; balance East %u; units East %u, pulses kept %u; meter %s, pulses metered "
+           "%u\n",
+           north_charge(), south_charge(), east_balance(), east_units(), east_kept(), counter.text, east_metered());
+}
+
 /* Who is in the way of a thread that was told to wait. */
 static int print_walk(uint32_t thread)
 {
@@ -130,7 +160,8 @@ static int replay(uint32_t index)
     const uint8_t *event = field.events + PLEX_EVENT_SIZE * index;
     uint32_t thread = event[PLEX_EVENT_THREAD];
     int is_arrival = event[PLEX_EVENT_KIND] == PLEX_ARRIVAL;
-    uint8_t answer[PLEX_ANSWER_SIZE];
+    uint8_t answer[PLEX_ANSWER_SIZE], before[PLEX_STATE_SIZE];
+    memcpy(before, state, sizeof before);
     print_event(index, event);
     if (!is_arrival) {
         print_thread("before", thread);
@@ -140,10 +171,11 @@ static int replay(uint32_t index)
                                        event, PLEX_EVENT_SIZE, answer, sizeof answer)))
         return 0;
     print_answer(answer);
-    if (!is_arrival)
+    if (!is_arrival) {
+        print_values(thread, answer, before);
         print_thread("after", thread);
-    printf("    charges   North %u, South %u; balance East %u; units East %u, pulses kept %u\n", north_charge(),
-           south_charge(), east_balance(), east_units(), east_kept());
+    }
+    print_charges();
     return answer[PLEX_ANSWER_CODE] != PLEX_WAITING || print_walk(thread);
 }
 
@@ -176,8 +208,25 @@ static int print_units(void)
     return none_lost;
 }
 
+/* Whether East's meter has counted what came packed, and nothing else. */
+static int print_meter(void)
+{
+    struct line words = {0};
+    int is_right = east_counter() == LAST_COUNTER && east_metered() == COUNTED_PULSES;
+    add(&words, "East's meter had ");
+    add_packed(&words, FIRST_COUNTER);
+    add(&words, " and was sent ");
+    add_packed(&words, SENT_COUNTER);
+    add(&words, ": it has ");
+    add_packed(&words, east_counter());
+    printf("%s, and %u pulses are to be charged%s.\n", words.text, east_metered(), is_right ? "" : ", which is WRONG");
+    printf("The counter with a digit above 9 is not among them: the trap dropped it.\n");
+    return is_right;
+}
+
 static int trace(void)
 {
+    struct line counter = {0};
     if (!begin())
         return 1;
     uint32_t north = north_charge(), south = south_charge(), east = east_balance();
@@ -185,6 +234,9 @@ static int trace(void)
            north, NORTH_CHARGING, south, SOUTH_GUEST, east, EAST_CHARGING);
     printf("units: East %u (block %d, word %d); pulses kept: %u (block %d, word %d)\n", east_units(), EAST_TARIFF,
            UNITS, east_kept(), EAST_TARIFF, KEPT);
+    add_packed(&counter, east_counter());
+    printf("meter: East %s (block %d, word %d); pulses metered: %u (block %d, word %d)\n", counter.text, EAST_METER,
+           COUNTER, east_metered(), EAST_METER, METERED);
     for (uint32_t index = 0; index < LINKED_EVENTS; index++)
         if (!replay(index))
             return 1;
@@ -194,7 +246,8 @@ static int trace(void)
            kept ? "are as they were" : "CHANGED", north_charge(), south_charge(), east_balance(),
            get16(word_at(state, AUDIT, 0)), get16(word_at(state, EAST_GUEST, 0)),
            get16(word_at(state, EAST_LEDGER, 0)));
-    return print_units() && kept ? 0 : 1;
+    int are_units_right = print_units(), is_meter_right = print_meter();
+    return kept && are_units_right && is_meter_right ? 0 : 1;
 }
 
 static int write_part(const char *folder, const char *name, const uint8_t *bytes, size_t size)

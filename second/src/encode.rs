@@ -48,9 +48,9 @@ fn fields(statement: &Statement) -> Fields {
     match statement {
         Statement::Skip { on } => fields(1, on.number(), 0, &[]),
         Statement::Assign { to, formula, on } => {
-            let (operator, mut operands) = formula_fields(formula);
-            operands.insert(0, Operand::Kept(*to));
-            Fields { operator, ..fields(2, on.number(), 0, &operands) }
+            let (opcode, operator) = formula_fields(formula);
+            let operands = [vec![Operand::Kept(*to)], formula.operands()].concat();
+            Fields { operator, ..fields(opcode, on.number(), 0, &operands) }
         }
         Statement::Goto { on } => fields(3, on.number(), 0, &[]),
         Statement::If { test, holds, fails } => {
@@ -82,12 +82,16 @@ fn test_fields(test: &Test) -> (u8, [Operand; 2]) {
     }
 }
 
-fn formula_fields(formula: &Formula) -> (u8, Vec<Operand>) {
-    match *formula {
-        Formula::Copy(p) => (1, vec![p]),
-        Formula::Add(p, q) => (2, vec![p, q]),
-        Formula::Subtract(p, q) => (3, vec![p, q]),
-        Formula::Multiply(p, q) => (4, vec![p, q]),
+/// The opcode and the operator.
+fn formula_fields(formula: &Formula) -> (u8, u8) {
+    match formula {
+        Formula::Copy(_) => (2, 1),
+        Formula::Add(..) => (2, 2),
+        Formula::Subtract(..) => (2, 3),
+        Formula::Multiply(..) => (2, 4),
+        Formula::Pack(_) => (13, 0),
+        Formula::Unpack(_) => (14, 0),
+        Formula::AddPacked(..) => (15, 0),
     }
 }
 

@@ -58,6 +58,8 @@ pub enum Trap {
     /// A subtraction takes more than there is.
     BelowZero,
     DivisionByZero,
+    /// A number above 9,999 is packed, or a digit above 9 is unpacked or added.
+    NotDecimal,
 }
 
 impl Trap {
@@ -71,6 +73,7 @@ impl Trap {
             Trap::HeldFull => 6,
             Trap::BelowZero => 7,
             Trap::DivisionByZero => 8,
+            Trap::NotDecimal => 9,
         }
     }
 }

@@ -6,6 +6,7 @@
 
 mod bytes;
 mod calls;
+mod decimal;
 mod encode;
 mod events;
 mod form;
@@ -17,6 +18,7 @@ mod linked_guest;
 mod one_by_one;
 mod refusal;
 mod registers;
+mod sight;
 mod sorts;
 mod state;
 mod statement;

@@ -25,14 +25,31 @@ pub enum Operand {
     Kept(Place),
 }
 
-/// The right side of ASSIGN. Sums and products are modulo 65,536; a difference
-/// is exact, and below zero there is none.
+/// What is stored at one destination: the right side of ASSIGN, where sums and
+/// products are modulo 65,536 and a difference is exact, with none below zero; or
+/// what opcodes 13 to 15 make of decimals, where sums are modulo 10,000.
 #[derive(Clone, Copy, Debug)]
 pub enum Formula {
     Copy(Operand),
     Add(Operand, Operand),
     Subtract(Operand, Operand),
     Multiply(Operand, Operand),
+    Pack(Operand),
+    Unpack(Operand),
+    AddPacked(Operand, Operand),
+}
+
+impl Formula {
+    /// p, and q if there is one.
+    pub fn operands(&self) -> Vec<Operand> {
+        match *self {
+            Formula::Copy(p) | Formula::Pack(p) | Formula::Unpack(p) => vec![p],
+            Formula::Add(p, q)
+            | Formula::Subtract(p, q)
+            | Formula::Multiply(p, q)
+            | Formula::AddPacked(p, q) => vec![p, q],
+        }
+    }
 }
 
 /// p divided by q. The two places are different; either may be an operand too.
@@ -50,7 +67,8 @@ pub enum Test {
     Less(Operand, Operand),
 }
 
-/// `SendJobTree` is the buffered SEND whose signal founds a new tree at EXIT.
+/// `Assign` is opcode 2, and 13 to 15 as well. `SendJobTree` is the buffered SEND
+/// whose signal founds a new tree at EXIT.
 #[derive(Clone, Debug)]
 pub enum Statement {
     Skip { on: Label },
@@ -163,7 +181,7 @@ impl Fields {
             return None;
         }
         match self.opcode {
-            2 | 4 => self.computing(links),
+            2 | 4 | 13..=15 => self.computing(links),
             _ if self.operator != 0 => None,
             5..=9 | 11 => self.signalling(links),
             12 => self.dividing(links),
@@ -175,7 +193,8 @@ impl Fields {
         }
     }
 
-    /// ASSIGN and IF, which have an operator.
+    /// ASSIGN and IF, which have an operator, and opcodes 13 to 15, which store as
+    /// ASSIGN does and have none.
     fn computing(self, links: &Links) -> Option<Statement> {
         let assign = |to: Operand, formula| match to {
             Operand::Kept(to) => Some(Statement::Assign { to, formula, on: links.inside(self.a)? }),
@@ -192,6 +211,9 @@ impl Fields {
             (2, 4, &[to, p, q]) => assign(to, Formula::Multiply(p, q)),
             (4, 1, &[p, q]) => choose(Test::Equal(p, q)),
             (4, 2, &[p, q]) => choose(Test::Less(p, q)),
+            (13, 0, &[to, p]) => assign(to, Formula::Pack(p)),
+            (14, 0, &[to, p]) => assign(to, Formula::Unpack(p)),
+            (15, 0, &[to, p, q]) => assign(to, Formula::AddPacked(p, q)),
             _ => None,
         }
     }

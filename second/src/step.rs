@@ -4,9 +4,10 @@ use crate::events::{Answer, Event, Trap};
 use crate::image::Program;
 use crate::job::Job;
 use crate::registers::Registers;
+use crate::sight::Sight;
 use crate::sorts::{Label, Lock, Thread};
 use crate::state::State;
-use crate::statement::{Division, Formula, Operand, Place, Statement, Test};
+use crate::statement::{Division, Place, Statement};
 use crate::tree::{Signal, Tree};
 
 pub fn carry_out(program: &Program, state: &mut State, event: &Event) -> Answer {
@@ -238,54 +239,4 @@ fn store_both(
 
 fn held_by_another(state: &State, lock: Lock, thread: Thread) -> bool {
     state.holder(lock).is_some_and(|holder| holder != thread)
-}
-
-/// What a statement can read. Reading an absent register is a trap.
-struct Sight<'a> {
-    words: &'a [u16],
-    registers: &'a Registers,
-}
-
-impl Sight<'_> {
-    fn read(&self, operand: &Operand) -> Result<u16, Trap> {
-        match *operand {
-            Operand::Number(number) => Ok(number),
-            Operand::Kept(Place::Register(register)) => {
-                self.registers.get(register).ok_or(Trap::AbsentRegister)
-            }
-            Operand::Kept(Place::Word(word)) => Ok(self.words[usize::from(word)]),
-        }
-    }
-
-    fn all(&self, data: &[Operand]) -> Result<Vec<u16>, Trap> {
-        data.iter().map(|operand| self.read(operand)).collect()
-    }
-
-    /// Both operands are read before their difference is found below zero.
-    fn compute(&self, formula: &Formula) -> Result<u16, Trap> {
-        match formula {
-            Formula::Copy(p) => self.read(p),
-            Formula::Add(p, q) => Ok(self.read(p)?.wrapping_add(self.read(q)?)),
-            Formula::Subtract(p, q) => {
-                self.read(p)?.checked_sub(self.read(q)?).ok_or(Trap::BelowZero)
-            }
-            Formula::Multiply(p, q) => Ok(self.read(p)?.wrapping_mul(self.read(q)?)),
-        }
-    }
-
-    /// The quotient and the remainder. Both operands are read before q is found
-    /// zero.
-    fn divide(&self, division: &Division) -> Result<(u16, u16), Trap> {
-        match (self.read(&division.p)?, self.read(&division.q)?) {
-            (_, 0) => Err(Trap::DivisionByZero),
-            (p, q) => Ok((p / q, p % q)),
-        }
-    }
-
-    fn holds(&self, test: &Test) -> Result<bool, Trap> {
-        Ok(match test {
-            Test::Equal(p, q) => self.read(p)? == self.read(q)?,
-            Test::Less(p, q) => self.read(p)? < self.read(q)?,
-        })
-    }
 }

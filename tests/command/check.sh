@@ -39,7 +39,7 @@ faulty() {
     byte "$whole" "$1" "$2" bad
     tried "byte $1 of $whole set to octal $2" 1 "$3" check bad "$table"
 }
-faulty 0 15 'opcode 13 is none of 1 to 12'
+faulty 0 20 'opcode 16 is none of 1 to 15'
 faulty 0 14 'its operand count is 1, and DIVIDE has 4'
 faulty 0 13 'label A is 3, whose entry is direct, and the signal of SEND JOBTREE has entry buffered'
 faulty 84 0 'opcode 0 is none of'
@@ -73,3 +73,24 @@ faulty 684 2 'both destinations are register 0, and DIVIDE has two different one
 faulty 684 2 'record at label 8 (block 8) breaks a rule: DIVIDE r0, r0 := r0 / r1, on to 9$'
 faulty 684 2 'refused with number 4, place 8$'
 faulty 693 1 'a byte after its last operand is not 0'
+
+# ---- a decimal sum, at label 11 of East's image, an unpacking, at label 12, and a packing in its place
+faulty 927 2 'DECIMAL ADD has no operator, so byte 3 is 0 and not 2'
+faulty 928 10 'label A is 8, in block 8, and here it is in the record.s block 9'
+faulty 930 1 'DECIMAL ADD uses no label B, so it is 0 and not 1'
+faulty 932 2 'its operand count is 2, and DECIMAL ADD has 3'
+faulty 933 1 'the destination is a number, and it is a register or a shared word'
+faulty 933 1 'record at label 11 (block 9) breaks a rule: DECIMAL ADD 0 := w0 + r0, on to 12$'
+faulty 942 1 'a byte after its last operand is not 0'
+faulty 924 16 'its operand count is 3, and UNPACK has 2'
+faulty 1011 1 'UNPACK has no operator, so byte 3 is 0 and not 1'
+faulty 1014 1 'UNPACK uses no label B, so it is 0 and not 1'
+faulty 1017 1 'the destination is a number, and it is a register or a shared word'
+faulty 1008 17 'its operand count is 2, and DECIMAL ADD has 3'
+byte "$east" 1008 15 packing
+tried 'a packing' 0 'accepted' check packing "$table"
+whole=packing
+faulty 1011 4 'PACK has no operator, so byte 3 is 0 and not 4'
+faulty 1014 1 'PACK uses no label B, so it is 0 and not 1'
+faulty 1016 1 'its operand count is 1, and PACK has 2'
+faulty 1017 1 'the destination is a number, and it is a register or a shared word'

@@ -1,12 +1,17 @@
 # plex link: two images for one table.
-tried 'a link' 0 '^linked: both, 24 records, 13 of good/case.image and 11 of good/east.image; labels of good/east.image are 13 higher$' \
+tried 'a link' 0 '^linked: both, 28 records, 13 of good/case.image and 15 of good/east.image; labels of good/east.image are 13 higher$' \
     link "$image" "$east" "$table" --out both
-tried 'the check of the linked image' 0 'accepted: both, 24 records in 9 blocks' check both "$table"
+tried 'the check of the linked image' 0 'accepted: both, 28 records in 10 blocks' check both "$table"
 head -c 1092 both >part
 same 'the first image' part "$image"
 tried "the second image's labels" 0 '^   13  external  ASSIGN w0 := w0 + r0, on to 14$' show both
 tried 'both labels of a statement' 0 '^   14            SEND JOBTREE to 16 WITH w0, on to 15$' show both
 tried 'the label of a division' 0 '^   21            DIVIDE r0, w0 := r0 / r1, on to 22$' show both
+tried 'the label of a decimal sum' 0 '^   24  external  DECIMAL ADD w0 := w0 + r0, on to 25$' show both
+tried 'the label of an unpacking' 0 '^   25            UNPACK r0 := r0, on to 26$' show both
+byte "$east" 1008 15 packing
+tried 'a link of a packing' 0 '^linked: packed, 28 records' link "$image" packing "$table" --out packed
+tried 'its label' 0 '^   25            PACK r0 := r0, on to 26$' show packed
 tail -c 84 both >part
 tail -c 84 "$east" >exit
 same 'labels that are not used' part exit
@@ -16,15 +21,15 @@ ran 'the first guest alone' alone answered "$image" "$table" "$words" "$events"
 ran 'the first guest' linked answered-2 both "$table" "$words" "$events"
 same 'answers of the first guest' answered answered-2
 same 'state of the first guest' alone linked
-tried 'the other way round' 0 '^linked: turned, 24 records, 11 of .*; labels of good/case.image are 11 higher$' \
+tried 'the other way round' 0 '^linked: turned, 28 records, 15 of .*; labels of good/case.image are 15 higher$' \
     link "$east" "$image" "$table" --out turned
-altered "$events" moved 2:13 57:23 112:24
+altered "$events" moved 2:17 57:27 112:30
 ran 'the second guest' linked answered-2 turned "$table" "$words" moved
 same 'answers of the second guest' answered answered-2
 same 'state of the second guest' alone linked
 # after eight events thread 0 is inside two calls, thread 1 inside a job, and tree 1 has a signal
 head -c 440 moved >moved-eight
-altered waiting waiting-2 512:21 517:14 519:17 800:24 3245:23
+altered waiting waiting-2 512:25 517:20 519:23 800:30 3245:27
 ran 'the second guest at work' linked answered-2 turned "$table" "$words" moved-eight
 same 'state of the second guest at work' waiting-2 linked
 # thread 2 is inside a job that holds a signal
@@ -54,7 +59,7 @@ head -c 100 "$image" >short
 repeated exit 513 long
 repeated exit 500 many-exits
 byte "$image" 508 143 bad
-byte "$east" 84 15 bad-east
+byte "$east" 84 20 bad-east
 byte "$table" 19 2 bad-table
 look_around
 unlinked 'no such file' 'nowhere: cannot be read: No such file' "$image" nowhere "$table"
@@ -70,12 +75,12 @@ unlinked 'a bad table before a record' 'bad-table: block 6 (thread 3, kind 2, lo
 unlinked 'a record of the first' '^plex: bad: the record at label 6 (block 2) breaks a rule' bad "$east" "$table"
 unlinked 'a record of the second' '^plex: bad-east: the record at label 1 (block 5) breaks a rule' \
     "$image" bad-east "$table"
-unlinked 'why' 'opcode 13 is none of 1 to 12' "$image" bad-east "$table"
+unlinked 'why' 'opcode 16 is none of 1 to 15' "$image" bad-east "$table"
 unlinked 'its place' 'refused with number 4, place 1$' "$image" bad-east "$table"
 unlinked 'a record of each' '^plex: bad: the record at label 6' bad bad-east "$table"
 unlinked 'a block of both' '^plex: both and good/east.image: both images name the same block$' both "$east" "$table"
-unlinked 'which block' '^      both have records in block 8$' both exit "$table"
-unlinked 'which blocks of the second' '^      both have records in blocks 5 6 7 8$' both "$east" "$table"
+unlinked 'which block' '^      both have records in block 9$' both exit "$table"
+unlinked 'which blocks of the second' '^      both have records in blocks 5 6 7 8 9$' both "$east" "$table"
 unlinked 'which blocks' '^      both have records in blocks 0 1 2 3 4$' both "$image" "$table"
 unlinked 'the number of a block of both' 'refused with number 13, place 0' both "$east" "$table"
 unlinked 'too many records' ': the images have more than 512 records together$' "$image" many-exits "$table"
@@ -89,7 +94,7 @@ tried 'the most records' 0 '^linked: most, 512 records, 13 of' link "$image" man
 # ---- the file that is written
 tried 'no --out' 2 '--out is missing' link "$image" "$east" "$table"
 cp "$image" own
-tried 'the first image in place' 0 '^linked: own, 24 records, 13 of own' link own "$east" "$table" --out own
+tried 'the first image in place' 0 '^linked: own, 28 records, 13 of own' link own "$east" "$table" --out own
 same 'the first image in place' own both
 cp "$east" own
 tried 'the second image in place' 0 'labels of own are 13 higher' link "$image" own "$table" --out own
@@ -107,7 +112,7 @@ holds 'a table from standard input: status' [ $? = 0 ]
 same 'a table from standard input' new-link both
 "$plex" link - "$east" "$table" --out=own <"$image" >said 2>&1
 holds 'an image from standard input: status' [ $? = 0 ]
-holds 'an image from standard input' grep -q '13 of standard input and 11 of good/east.image' said
+holds 'an image from standard input' grep -q '13 of standard input and 15 of good/east.image' said
 same 'an image from standard input' own both
 tried 'standard input twice' 2 'stands for one file alone' link - - "$table" --out own
 look_around

@@ -84,6 +84,46 @@ altered to-units without-unit 4:1 7:0
 tried 'no number of pulses' 0 'label 8: DIVIDE .* trap 1, an absent register is read; idle' \
     run "$east" "$table" "$words" without-unit
 
+# ---- packed decimal: East's meter has 9950 and is sent 0075, a counter with a digit of 10, and none
+altered arrival counter 2:13 5:165
+cat counter step-2 step-2 step-2 >counted
+tried 'a decimal sum' 0 \
+    'DECIMAL ADD w0 := w0 + r0, on to 12 *moved on; read packed 9950, packed 0075, stored packed 0025; at label 12, locks 1,' \
+    run "$east" "$table" "$words" counted --out left-2
+holds 'an unpacking' \
+    grep -q 'label 12: UNPACK r0 := r0, on to 13 *moved on; read packed 0075, stored 75; at label 13, locks 1,' said
+holds 'the start of its job' grep -q '1  step of thread 2 *started; at label 11, locks 1, return labels none$' said
+tried 'its register' 0 '^  2  at label 13, .*, registers r0=75$' state left-2
+tried 'its word, as a number' 0 '^  block 9: w0=37$' state left-2
+cat counted step-2 step-2 >metered
+tried 'pulses metered' 0 '^           1  EXIT$' run "$east" "$table" "$words" metered --summary --out left-2
+tried 'and the counter' 0 '^  block 9: w0=37 w1=75$' state left-2
+altered metered bad-digit 5:247
+tried 'a digit above 9' 0 \
+    'trap 9, a number above 9,999 packed, or a digit above 9; read packed 9950, (not packed: 0x00a7); idle, locks none,' \
+    run "$east" "$table" "$words" bad-digit --out left-2
+tried 'what it leaves' 0 '^  block 9: w0=39248$' state left-2
+tried 'in the summary' 0 '^           1  of the traps: 9, a number above 9,999 packed, or a digit above 9$' \
+    run "$east" "$table" "$words" bad-digit --summary
+altered metered no-counter 4:0 5:0
+tried 'no counter' 0 'label 11: DECIMAL ADD .* trap 1, an absent register is read; read packed 9950, absent; idle' \
+    run "$east" "$table" "$words" no-counter
+altered step-2 cut-2 0:3
+cat counter step-2 cut-2 >cut-short
+tried 'a cut before it' 0 'cut of thread 2, label 11: DECIMAL ADD w0 := w0 + r0, on to 12 *cut; idle' \
+    run "$east" "$table" "$words" cut-short
+
+# ---- a packing in place of the meter's unpacking, where an arrival comes in: of 75, and of 10,000
+altered "$east" packing 1008:15 1010:3
+altered arrival number 2:14 5:113
+cat number step-2 step-2 >packed
+tried 'a packing' 0 'label 12: PACK r0 := r0, on to 13 *moved on; read 75, stored packed 0075; at label 13, locks 1,' \
+    run packing "$table" "$words" packed --out left-2
+tried 'its register' 0 '^  2  at label 13, .*, registers r0=117$' state left-2
+altered packed too-large 5:20 6:47
+tried 'a number above 9,999' 0 'trap 9, a number above 9,999 packed, or a digit above 9; read 10000; idle, locks none,' \
+    run packing "$table" "$words" too-large
+
 tried '4,500 events' 0 '^4500 events in 5 calls$' \
     run "$image" "$table" "$words" many --summary --out left --answers answers
 tried 'the same one by one' 0 '^4500 events in 4500 calls$' \

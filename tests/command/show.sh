@@ -2,6 +2,14 @@
 tried 'a statement' 0 '^    3  direct    CALL to 6 WITH r0, return to 4$' show "$image"
 tried 'a SEND JOBTREE' 0 '^    1            SEND JOBTREE to 3 WITH w0, on to 2$' show "$east"
 tried 'a DIVIDE' 0 '^    8            DIVIDE r0, w0 := r0 / r1, on to 9$' show "$east"
+tried 'a DECIMAL ADD' 0 '^   11  external  DECIMAL ADD w0 := w0 + r0, on to 12$' show "$east"
+tried 'an UNPACK' 0 '^   12            UNPACK r0 := r0, on to 13$' show "$east"
+altered "$east" digits 936:1 937:102 938:0 939:1 940:244 941:22 1020:1 1021:64 1022:22
+tried 'a packed number, and one that is not' 0 \
+    '^   11  external  DECIMAL ADD w0 := packed 0042 + (not packed: 0x12a4), on to 12$' show digits
+tried 'a number to be unpacked' 0 '^   12            UNPACK r0 := packed 1234, on to 13$' show digits
+byte digits 1008 15 packing
+tried 'a number to be packed' 0 '^   12            PACK r0 := 4660, on to 13$' show packing
 tried 'its block' 0 '^block 1$' show "$image"
 byte "$image" 0 143 bad
 tried 'unknown opcode' 1 '^    0  external  unknown opcode 99$' show bad

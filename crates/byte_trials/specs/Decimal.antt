@@ -27,8 +27,8 @@ use Rattle.rules.specs.Link.{shiftRecord, records, linked, names, shareBlock}
 use Rattle.rules.specs.Calls.{stateLengthFault, stateFault, eventsLengthFault, eventFault, answersLengthFault, wordsLengthFault}
 use Rattle.rules.specs.Calls.{sharedBlockFault, tooManyRecordsFault, outputLengthFault}
 use Rattle.rules.specs.Calls.{checkReturn, freshReturn, freshState, runReturn, runState, runAnswers, linkReturn, linkOut}
-use Rattle.byte_trials.specs.Lent.{recordBytes, number, register, word, exiting, arrivalBytes, turnBytes, times, table, freshWith, answersWith}
-use Rattle.byte_trials.specs.Lent.{stateWith, presenceSet}
+use Rattle.byte_trials.specs.Lent.{recordBytes, number, register, word, exiting, arrivalBytes, turnBytes, times, table}
+use Rattle.byte_trials.specs.Lent.{freshWith, answersWith, stateWith, presenceSet}
 
 -- label 0: a record of block 0 of this opcode, without operator, with n operands, on to 1; label 1: EXIT
 abbrev only : ℕ → ℕ → List ℕ → List ℕ

@@ -27,8 +27,8 @@ use Rattle.rules.specs.Link.{shiftRecord, records, linked, names, shareBlock}
 use Rattle.rules.specs.Calls.{stateLengthFault, stateFault, eventsLengthFault, eventFault, answersLengthFault, wordsLengthFault}
 use Rattle.rules.specs.Calls.{sharedBlockFault, tooManyRecordsFault, outputLengthFault}
 use Rattle.rules.specs.Calls.{checkReturn, freshReturn, freshState, runReturn, runState, runAnswers, linkReturn, linkOut}
-use Rattle.byte_trials.specs.Lent.{recordBytes, number, register, word, exiting, arrivalBytes, turnBytes, times, table, freshWith, answersWith}
-use Rattle.byte_trials.specs.Lent.{stateWith, presenceSet}
+use Rattle.byte_trials.specs.Lent.{recordBytes, number, register, word, exiting, arrivalBytes, turnBytes, times, table}
+use Rattle.byte_trials.specs.Lent.{freshWith, answersWith, stateWith, presenceSet}
 
 -- a record of block 0: DIVIDE (12), on to label a, with the destinations d and e, of p and q
 abbrev record12 : ℕ → List ℕ → List ℕ → List ℕ → List ℕ → List ℕ

@@ -1,12 +1,13 @@
 -- The four digits of a packed number, as the code has them.
-use mathlib.Core.Path.{_≡_, refl, sym}
-use mathlib.Core.Bool.{Bool, true, false}
+use mathlib.Core.Path.{_≡_}
+use mathlib.Core.Bool.{true}
 use Prim.Native.Nat.{ℕ, _+_, _-_, _*_, _/_, _%_, _^_, _<_}
 use native.Mathlib.Omega.{arith}
-use lib.Dec.{ltb}
-use borrow.Author.Tests.{lt-ltb, ltb-true, ltb-false}
+use lib.Dec.{eqb, ltb}
+use borrow.Author.Tests.{lt-ltb, ltb-true}
 use Rattle.decimals.specs.Digits.{digits, below}
 use Rattle.decimals.specs.DigitLaws.{both, parts}
+use Rattle.decimals.specs.AboveNine.{above, none-above}
 use Rattle.decimals.specs.Packed.{pack, packed, unpack, sum}
 
 pub record FourDigits (x : ℕ) : Type 0 where
@@ -28,37 +29,10 @@ module _ (x : ℕ) where
       let highest = thousands .0 in
       record { ones = ones .0; tens = tens .0; hundreds = hundreds .0; thousands = omega arith }
 
-  pub digits-packed : FourDigits x → packed 4 x ≡ true
+  -- all digits are tested at once
+  pub none-above-nine : x < 65536 → eqb (above 4 x) 0 ≡ packed 4 x
   unfolding packed
-  digits-packed f =
-      let ones = f .ones in
-      let tens = f .tens in
-      let hundreds = f .hundreds in
-      let thousands = f .thousands in
-      let highest : x / 16 / 16 / 16 % 16 < 10 = omega arith in
-      rw (
-        lt-ltb x 65536 (omega arith),
-        lt-ltb (x % 16) 10 ones,
-        lt-ltb (x / 16 % 16) 10 tens,
-        lt-ltb (x / 16 / 16 % 16) 10 hundreds,
-        lt-ltb (x / 16 / 16 / 16 % 16) 10 highest,
-      )
-      refl
-
-  pub not-packed : (FourDigits x → ⊥) → packed 4 x ≡ false
-  not-packed h = case (packed 4 x) refl
-    where
-      case : (t : Bool) → packed 4 x ≡ t → packed 4 x ≡ false
-      case true e = absurd (h (packed-digits e))
-      case false e = e
-
-  -- where the three lower digits are decimal, the highest says whether the number is packed
-  pub by-highest : x % 16 < 10 → x / 16 % 16 < 10 → x / 16 / 16 % 16 < 10 → ltb (x / 16 / 16 / 16) 10 ≡ packed 4 x
-  by-highest o t h = case (ltb (x / 16 / 16 / 16) 10) refl
-    where
-      case : (b : Bool) → ltb (x / 16 / 16 / 16) 10 ≡ b → b ≡ packed 4 x
-      case true e = sym (digits-packed (record { ones = o; tens = t; hundreds = h; thousands = ltb-true (x / 16 / 16 / 16) 10 e }))
-      case false e = sym (not-packed (λ f. let k = f .thousands in let m = ltb-false (x / 16 / 16 / 16) 10 e in absurd (omega arith)))
+  none-above-nine h = rw (lt-ltb x 65536 h) (none-above 4 x)
 
 -- a digit above a place that was worth 10 of it is worth 16 of it packed, and the other way
 module _ (x : ℕ) where

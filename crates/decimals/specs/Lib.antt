@@ -3,5 +3,6 @@ pub mod Digits
 pub mod DigitLaws
 pub mod Packed
 pub mod PackedLaws
-pub mod FourDigits
 pub mod WrittenOut
+pub mod AboveNine
+pub mod FourDigits

@@ -66,7 +66,8 @@ module _ (n x : ℕ) where
     unfolding pack unpack
     pack-unpack =
         let same : digits 10 n (number 10 (digits 16 n x)) ≡ digits 16 n x =
-        ap (λ (k : ℕ). digits 10 k (number 10 (digits 16 n x))) (sym (length-digits 16 n x)) ∙ digits-of-number 10 (digits 16 n x) decimal in
+        ap (λ (k : ℕ). digits 10 k (number 10 (digits 16 n x))) (sym (length-digits 16 n x))
+        ∙ digits-of-number 10 (digits 16 n x) decimal in
         ap (number 16) same ∙ number-of-digits 16 (omega arith) n x ∙ mod-eq-of-lt fits
 
     pub unpack-below : unpack n x < 10 ^ n

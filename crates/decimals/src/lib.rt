@@ -15,20 +15,14 @@ pub fn pack_number(x: u16) -> u16
     x + 6 * (tens + 16 * (hundreds + 16 * thousands))
 }
 
-// Whether each of the four digits is at most 9.
+// A digit of 1 at each of the four places.
+const ONES: u16 = 0x1111;
+
+// Whether each of the four digits is at most 9: none has the bit of 8 with that of 4 or of 2.
 pub fn is_packed(x: u16) -> bool
     ensures { λ z. ⌜ z ≡ packed 4 x ⌝ }
 {
-    if x % 16 > 9 {
-        return false;
-    }
-    if x / 16 % 16 > 9 {
-        return false;
-    }
-    if x / 16 / 16 % 16 > 9 {
-        return false;
-    }
-    x / 16 / 16 / 16 < 10
+    (x / 8 & (x / 4 | x / 2) & ONES) == 0
 }
 
 // The number of four packed digits: the digits above a place were worth 16 of it each, and are worth 10.

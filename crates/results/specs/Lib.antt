@@ -1,1 +1,1 @@
-pub mod Computes
+pub mod Reading

@@ -29,7 +29,8 @@ use Rattle.rules.proofs.Running.{cellsOf, MovesOn}
 use Rattle.rules.proofs.Opcodes.{stepOf, A}
 use Rattle.rules.proofs.Assigning.{operand, TrapsWith, goes-on, traps, reads-absent}
 use Rattle.rules.proofs.Standing.{Stands, placed}
-use Rattle.rules.proofs.Forms.{WithoutOperator, pack-form, unpack-form, decimal-add-form, operator-faulty, number-faulty, count-faulty}
+use Rattle.rules.proofs.Forms.{WithoutOperator, pack-form, unpack-form, decimal-add-form, operator-faulty, number-faulty}
+use Rattle.rules.proofs.Forms.{count-faulty}
 
 -- thread t holds these locks and runs this job, at whose label a record of opcode op stands, which has no operator
 pub record AtDecimal (image : List ℕ) (s : Machine) (t locks : ℕ) (j : Job) (op : ℕ) : Type 0 where

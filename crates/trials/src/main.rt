@@ -2,20 +2,14 @@
 mod calls;
 mod cases;
 mod claims;
-mod edits;
-mod files;
 mod limits;
 mod lines;
-mod marks;
-mod memory;
-mod tally;
-mod text;
 
 use limits::image_lengths;
 use limits::link_counts;
 use lines::try_file;
-use memory::Lengths;
-use memory::Memory;
+use trial_files::memory::Lengths;
+use trial_files::memory::Memory;
 
 // The lines that name `call`, a call of a machine: of the limits, and of the vectors of the base and of five requests.
 fn try_call(call: &[u8], memory: &mut Memory, lengths: &mut Lengths) {

@@ -1,5 +1,6 @@
 //! Damage to what a call is lent. Some damaged calls are still accepted.
 
+use super::decimal_damage::change_decimal;
 use super::division_damage::change_division;
 use super::events::thread;
 use super::lock_damage::change_locks;
@@ -130,13 +131,17 @@ fn held_label(random: &mut Random, image: &[u8]) -> u16 {
     }
 }
 
-/// Changes any record, or at times one that divides.
+/// Changes any record, or at times one that divides or one on packed decimals.
 pub fn change_image(random: &mut Random, image: &mut [u8]) {
-    let dividing = labels_where(image, |record| record[0] == 12);
-    match random.pick(&dividing).filter(|_| random.once_in(4)) {
+    let opcode = random.one_of([12, 12, 12, 13, 14, 15]);
+    let labels = labels_where(image, |record| record[0] == opcode);
+    match random.pick(&labels).filter(|_| random.once_in(3)) {
         Some(label) => {
             let record = &mut image[Record::WIDTH * usize::from(label)..][..Record::WIDTH];
-            change_division(random, record);
+            match opcode {
+                12 => change_division(random, record),
+                _ => change_decimal(random, record),
+            }
         }
         None => change_records(random, image, Record::WIDTH),
     }
@@ -182,7 +187,7 @@ pub fn change_table(random: &mut Random, table: &mut [u8]) {
 /// A byte at or beside a limit, or any.
 fn telling_byte(random: &mut Random) -> u8 {
     let any = random.byte();
-    random.one_of([0, 1, 2, 3, 4, 5, 7, 8, 9, 10, 11, 12, 13, 15, 16, 17, 24, 25, 26, 255, any])
+    random.one_of([0, 1, 2, 3, 4, 5, 7, 8, 9, 10, 11, 12, 13, 14, 15, 16, 17, 24, 25, 26, 255, any])
 }
 
 fn change_length(random: &mut Random, lent: &mut Lent) {

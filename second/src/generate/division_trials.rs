@@ -1,8 +1,7 @@
 //! Trials that generated machines meet every case of division.
 
-use super::trials::{begun, each_event, kind, one_to_ten_of_a_hundred_end, stepped, u16_at, value};
-use super::{damage, Random};
-use crate::check;
+use super::record_trials::{operands, record_faults_met, OTHER_FAULT};
+use super::trials::{each_event, kind, one_to_ten_of_a_hundred_end, stepped, u16_at, value};
 use crate::events::Event;
 use crate::image::Program;
 use crate::sorts::Thread;
@@ -172,63 +171,27 @@ const FAULTS: [&str; 9] = [
     "equal registers",
     "equal words",
 ];
-const OTHER_FAULT: &str = "another";
 
 /// What is wrong with a record of opcode 12 whose block, entry and label A are
 /// right, if anything is.
-fn fault(record: &[u8]) -> Option<&'static str> {
-    let operand = |place: usize| (record[9 + 3 * place], u16_at(record, 10 + 3 * place));
-    let good = |(kind, number)| match kind {
-        2 => number < 25,
-        3 => number < 16,
-        _ => kind == 1,
-    };
-    let count = usize::from(record[8]);
-    if count > 25 || !(0..count).all(|place| good(operand(place))) {
-        return Some(OTHER_FAULT);
+fn fault(record: &[u8]) -> Result<(), &'static str> {
+    match (record[3], u16_at(record, 6), operands(record)?.as_slice()) {
+        (1.., ..) => Err(FAULTS[1]),
+        (_, 1.., _) => Err(FAULTS[2]),
+        (_, _, [_, _, _]) => Err(FAULTS[3]),
+        (_, _, [_, _, _, _, _]) => Err(FAULTS[4]),
+        (_, _, [(1, _), _, _, _]) => Err(FAULTS[5]),
+        (_, _, [_, (1, _), _, _]) => Err(FAULTS[6]),
+        (_, _, [one, other, _, _]) if one == other => Err(FAULTS[if one.0 == 2 { 7 } else { 8 }]),
+        (_, _, [_, _, _, _]) => Ok(()),
+        _ => Err(OTHER_FAULT),
     }
-    if record[9 + 3 * count..].iter().any(|&byte| byte != 0) {
-        return Some(OTHER_FAULT);
-    }
-    match (record[3], u16_at(record, 6), count, operand(0), operand(1)) {
-        (1.., ..) => Some(FAULTS[1]),
-        (_, 1.., ..) => Some(FAULTS[2]),
-        (_, _, 3, ..) => Some(FAULTS[3]),
-        (_, _, 5, ..) => Some(FAULTS[4]),
-        (_, _, 4, (1, _), _) => Some(FAULTS[5]),
-        (_, _, 4, _, (1, _)) => Some(FAULTS[6]),
-        (_, _, 4, one, other) if one == other => Some(FAULTS[if one.0 == 2 { 7 } else { 8 }]),
-        (_, _, 4, ..) => None,
-        _ => Some(OTHER_FAULT),
-    }
-}
-
-/// The label and the record that alone differ between the images, if both
-/// records divide, with the same block, entry and label A.
-fn changed_division<'a>(before: &[u8], image: &'a [u8]) -> Option<(u32, &'a [u8])> {
-    let records = (0..).zip(before.chunks(84).zip(image.chunks(84)));
-    let mut changed = records.filter(|(_, (old, new))| old != new);
-    let (label, (old, new)) = changed.next()?;
-    let front = |record: &[u8]| (record[..3].to_vec(), record[4..6].to_vec());
-    let only = changed.next().is_none() && before.len() == image.len();
-    (only && old[0] == 12 && front(old) == front(new)).then_some((label, new))
 }
 
 #[test]
 fn damaged_divisions_have_every_fault_and_are_refused() {
-    let random = &mut Random::new(7);
-    let mut faults = BTreeSet::new();
-    for whole in (0..80).map(begun) {
-        for _ in 0..80 {
-            let mut lent = whole.clone();
-            damage(random, &mut lent);
-            if let Some((label, record)) = changed_division(&whole.image, &lent.image) {
-                let fault = fault(record);
-                faults.insert(fault.unwrap_or("none"));
-                let expected = fault.map_or(0, |_| 4 * 65_536 + label);
-                assert_eq!(check(&lent.image, &whole.table), expected);
-            }
-        }
+    let faults = record_faults_met(7, 12..=12, fault);
+    for fault in FAULTS {
+        assert!(faults.contains(&(12, fault)), "{fault}");
     }
-    assert!(faults.is_superset(&BTreeSet::from(FAULTS)), "{faults:?}");
 }

@@ -22,7 +22,7 @@ fn jobs_that_hold_signals_end_in_every_way() {
         }
     });
     let exits = (0..=4).map(|lost| [7, lost]);
-    let traps = (1..=8).map(|reason| [8, reason]);
+    let traps = (1..=9).map(|reason| [8, reason]);
     assert_eq!(ends, exits.chain(traps).chain([[9, 0]]).collect());
 }
 

@@ -47,14 +47,15 @@ struct Draft {
 }
 
 /// The weights of the opcodes, 1 first, at each position.
-type Weights = [[usize; 12]; 3];
+type Weights = [[usize; 15]; 3];
 
 /// The signals, 6, 7 and 11, weigh so much beside the opcodes that compute, 2, 4
-/// and 12, that return labels, trees, held signals and the list of trees get full.
+/// and 12 to 15, that return labels, trees, held signals and the list of trees get
+/// full.
 const USUAL_WEIGHTS: Weights = [
-    [1, 6, 1, 3, 1, 6, 13, 0, 1, 0, 7, 3],
-    [0, 0, 0, 0, 3, 0, 0, 8, 2, 1, 0, 0],
-    [0, 0, 0, 0, 4, 0, 0, 1, 2, 5, 0, 0],
+    [1, 6, 1, 3, 1, 6, 13, 0, 1, 0, 7, 3, 1, 1, 1],
+    [0, 0, 0, 0, 3, 0, 0, 8, 2, 1, 0, 0, 0, 0, 0],
+    [0, 0, 0, 0, 4, 0, 0, 1, 2, 5, 0, 0, 0, 0, 0],
 ];
 /// By what an image multiplies a usual weight.
 const MOODS: [usize; 10] = [0, 1, 1, 1, 1, 2, 2, 2, 4, 4];
@@ -72,8 +73,8 @@ impl Draft {
     }
 
     /// Within a routine, what the record before has set to a number is nearly
-    /// always an operand of a subtraction or a division: few of their other
-    /// operands are registers, and each edge is to be met with one.
+    /// always an operand of a subtraction, a division or a packed decimal: few of
+    /// their other operands are registers, and each edge is to be met with one.
     fn record(&self, random: &mut Random, at: Label, before: Option<&Record>) -> Record {
         let Slot { block, entry, position } = *self.slot(at);
         let next = self.next_inside(random, at);
@@ -97,25 +98,33 @@ impl Draft {
         Operands { block, register_odds: self.register_odds }
     }
 
-    /// A subtraction or, less often, a division of or by the known operand.
+    /// A subtraction or, less often, a division of or by the known operand, or
+    /// opcode 13, 14 or 15 of it, whichever its value is at an edge of.
     fn with_known(&self, random: &mut Random, known: &Known, block: Block, on: Label) -> Statement {
         let operands = self.operands(block);
-        if random.once_in(4) {
-            let pair = known.divided(random);
-            return Statement::Divide { division: operands.divided(random, pair), on };
-        }
-        let (to, formula) = (operands.place(random), known.subtraction(random));
-        Statement::Assign { to, formula, on }
+        let weights = if known.is_small_or_large() { [6, 3, 1] } else { [2, 1, 8] };
+        let formula = match random.weighted(&weights) {
+            0 => known.subtraction(random),
+            1 => {
+                let pair = known.divided(random);
+                return Statement::Divide { division: operands.divided(random, pair), on };
+            }
+            _ => {
+                let opcode = known.decimal_opcode(random);
+                known.decimal(random, opcode)
+            }
+        };
+        operands.assign(random, formula, on)
     }
 
-    /// A statement without data, opcodes 1 to 4, 10 and 12.
+    /// A statement without data, opcodes 1 to 4, 10 and 12 to 15.
     fn computing(&self, random: &mut Random, opcode: usize, at: Label, next: Label) -> Statement {
         let operands = self.operands(self.slot(at).block);
         match opcode {
             1 => Statement::Skip { on: next },
             2 => {
-                let (to, formula) = (operands.place(random), operands.formula(random));
-                Statement::Assign { to, formula, on: next }
+                let formula = operands.formula(random);
+                operands.assign(random, formula, next)
             }
             3 => Statement::Goto { on: next },
             4 => {
@@ -123,6 +132,10 @@ impl Draft {
                 Statement::If { test, holds: next, fails }
             }
             12 => Statement::Divide { division: operands.division(random), on: next },
+            13..=15 => {
+                let formula = operands.decimal(random, opcode);
+                operands.assign(random, formula, next)
+            }
             _ => Statement::Exit,
         }
     }
@@ -180,7 +193,8 @@ impl Draft {
 
 /// The usual weights in this image's mood. EXIT is always possible, one image
 /// in three is fond of ASSIGN, IF, buffered SEND, CALL, TRANSFER or division,
-/// and one in four of signals that found new trees, with an EXIT to follow them.
+/// one in six of packed decimals, and one in four of signals that found new trees,
+/// with an EXIT to follow them.
 fn weights(random: &mut Random) -> Weights {
     let mut weights = USUAL_WEIGHTS.map(|row| row.map(|weight| weight * random.one_of(MOODS)));
     for row in &mut weights {
@@ -190,6 +204,9 @@ fn weights(random: &mut Random) -> Weights {
     if random.once_in(3) {
         let fond_of = random.one_of([2, 2, 4, 6, 6, 7, 7, 9, 12]);
         within[fond_of - 1] += 40;
+    }
+    if random.once_in(6) {
+        within[13 - 1..].iter_mut().for_each(|weight| *weight += 20);
     }
     if random.once_in(4) {
         within[11 - 1] += random.one_of([10, 20, 40]);

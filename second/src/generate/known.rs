@@ -1,5 +1,6 @@
-//! Subtractions and divisions of known values, at random.
+//! Subtractions, divisions and packed decimals of known values, at random.
 
+use super::decimals::packed_beside;
 use super::random::Random;
 use crate::registers::Registers;
 use crate::statement::{Formula, Operand, Place, Statement};
@@ -13,6 +14,12 @@ pub struct Known {
 impl Known {
     pub fn number(value: u16) -> Known {
         Known { operand: Operand::Number(value), value }
+    }
+
+    /// Whether the value is at an edge of subtraction and division rather than of
+    /// packed decimals.
+    pub fn is_small_or_large(&self) -> bool {
+        !(4..65_532).contains(&self.value)
     }
 
     /// The place that the statement sets to a number, if it does that.
@@ -46,13 +53,37 @@ impl Known {
         let [multiple, below, above] = with_neighbours(self.value.saturating_mul(times));
         let any = random.value();
         let beside = Operand::Number(random.one_of([multiple, below, above, 0, 1, any]));
-        let weights = if self.value == 0 { [1, 8, 4, 4, 1] } else { [1, 4, 8, 1, 1] };
+        let weights = if self.value == 0 { [1, 7, 4, 6, 1] } else { [1, 4, 8, 1, 1] };
         match random.weighted(&weights) {
             0 => [self.operand, self.operand],
             1 => [self.operand, beside],
             2 => [beside, self.operand],
             3 => [any_register(random), self.operand],
             _ => [self.operand, any_register(random)],
+        }
+    }
+
+    /// 13, 14 or 15. What cannot be packed is mostly to be unpacked or added.
+    pub fn decimal_opcode(&self, random: &mut Random) -> usize {
+        let pack = if self.value > 10_001 { 1 } else { 6 };
+        13 + random.weighted(&[pack, 3, 6])
+    }
+
+    /// Opcode 13, 14 or 15 of the operand. It is added to itself or a number at
+    /// the edge of carries, at times to any register, mostly absent.
+    pub fn decimal(&self, random: &mut Random, opcode: usize) -> Formula {
+        let beside = Operand::Number(packed_beside(random, self.value));
+        let (p, q) = match random.weighted(&[1, 4, 4, 1, 1]) {
+            0 => (self.operand, self.operand),
+            1 => (self.operand, beside),
+            2 => (beside, self.operand),
+            3 => (any_register(random), self.operand),
+            _ => (self.operand, any_register(random)),
+        };
+        match opcode {
+            13 => Formula::Pack(self.operand),
+            14 => Formula::Unpack(self.operand),
+            _ => Formula::AddPacked(p, q),
         }
     }
 }

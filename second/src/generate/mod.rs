@@ -2,6 +2,10 @@
 //! seed, to compare engines byte for byte.
 
 mod damage;
+mod decimal_damage;
+#[cfg(test)]
+mod decimal_trials;
+mod decimals;
 mod division_damage;
 #[cfg(test)]
 mod division_trials;
@@ -17,6 +21,9 @@ mod lock_trials;
 mod operands;
 mod pair;
 mod random;
+mod record_damage;
+#[cfg(test)]
+mod record_trials;
 #[cfg(test)]
 mod subtraction_trials;
 mod table;

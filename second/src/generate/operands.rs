@@ -1,10 +1,11 @@
 //! Operands at random.
 
+use super::decimals::{number, packed};
 use super::known::Known;
 use super::random::Random;
 use crate::registers::Registers;
-use crate::sorts::Block;
-use crate::statement::{Division, Formula, Operand, Place, Test};
+use crate::sorts::{Block, Label};
+use crate::statement::{Division, Formula, Operand, Place, Statement, Test};
 
 /// The operands of the records of one block.
 pub struct Operands {
@@ -18,7 +19,7 @@ impl Operands {
         (0..random.few()).map(|_| self.operand(random)).collect()
     }
 
-    pub fn place(&self, random: &mut Random) -> Place {
+    fn place(&self, random: &mut Random) -> Place {
         if random.once_in(2) {
             register(random)
         } else {
@@ -47,14 +48,39 @@ impl Operands {
     /// The division of these operands, p first. Its results go to the places of
     /// operands or to any, at times to a register and the word of its number.
     pub fn divided(&self, random: &mut Random, [p, q]: [Operand; 2]) -> Division {
-        let mut destination = || match random.one_of([p, q]) {
-            Operand::Kept(place) if random.once_in(2) => place,
-            _ => self.place(random),
-        };
+        let mut destination = || self.destination(random, &[p, q]);
         let (quotient, other) = (destination(), destination());
         let twin = quotient == other || random.once_in(4);
         let remainder = if twin { self.twin(quotient) } else { other };
         Division { quotient, remainder, p, q }
+    }
+
+    /// Opcode 13, 14 or 15 of any operands, or of numbers at its edges; or such a
+    /// number, stored for the next record.
+    pub fn decimal(&self, random: &mut Random, opcode: usize) -> Formula {
+        let (p, q) = (self.operand(random), self.operand(random));
+        let edge = if opcode == 13 { number(random) } else { packed(random) };
+        match (random.weighted(&[5, 3, 1]), opcode) {
+            (0, _) => Formula::Copy(Operand::Number(edge)),
+            (1, _) => Known::number(edge).decimal(random, opcode),
+            (_, 13) => Formula::Pack(p),
+            (_, 14) => Formula::Unpack(p),
+            _ => Formula::AddPacked(p, q),
+        }
+    }
+
+    /// The result goes to the place of an operand or to any.
+    pub fn assign(&self, random: &mut Random, formula: Formula, on: Label) -> Statement {
+        let to = self.destination(random, &formula.operands());
+        Statement::Assign { to, formula, on }
+    }
+
+    /// The place of one of these operands, or any.
+    fn destination(&self, random: &mut Random, operands: &[Operand]) -> Place {
+        match random.pick(operands) {
+            Some(Operand::Kept(place)) if random.once_in(2) => place,
+            _ => self.place(random),
+        }
     }
 
     /// The register of a word's number, or the word of a register's; for a

@@ -1,5 +1,7 @@
 //! A stream of numbers that its seed determines.
 
+use super::decimals::number_or_packed;
+
 /// splitmix64: the same seed gives the same stream.
 pub struct Random {
     seed: u64,
@@ -60,13 +62,15 @@ impl Random {
         self.draw() as u8
     }
 
-    /// A 16-bit number: small, near a limit of its width, or any.
+    /// A 16-bit number: small, near a limit of its width, any, or at an edge of
+    /// packed decimals.
     pub fn value(&mut self) -> u16 {
         let any = self.draw() as u16;
-        match self.weighted(&[4, 1, 1]) {
+        match self.weighted(&[8, 2, 2, 3]) {
             0 => any % 4,
             1 => 65_535 - any % 4,
-            _ => any,
+            2 => any,
+            _ => number_or_packed(self),
         }
     }
 

@@ -1,7 +1,7 @@
 //! The trials of division, which keeps what is left.
 
 use super::bench::{at, step, Bench};
-use super::storing::{about_to, called, ended, kinds, moved_on, the_second_call_traps};
+use super::storing::{about_to, called, ended, kinds, moved_on, the_second_call_traps, ABSENT};
 use crate::statement::{Division, Operand, Place, Statement};
 
 fn divide([quotient, remainder]: [Place; 2], p: Operand, q: Operand, on: u16) -> Statement {
@@ -63,10 +63,9 @@ fn a_division_by_zero_traps_and_stores_neither() {
 
 #[test]
 fn an_absent_register_is_tested_before_a_division_by_zero() {
-    let absent = Operand::Kept(Place::Register(9));
-    let mut operands = vec![(absent, absent)];
-    operands.extend(kinds(7, 0).map(|p| (p, absent)));
-    operands.extend(kinds(0, 1).map(|q| (absent, q)));
+    let mut operands = vec![(ABSENT, ABSENT)];
+    operands.extend(kinds(7, 0).map(|p| (p, ABSENT)));
+    operands.extend(kinds(0, 1).map(|q| (ABSENT, q)));
     let places = [Place::Register(9), Place::Register(0), Place::Word(1), Place::Word(2)];
     for to in destinations(&places) {
         for &(p, q) in &operands {

@@ -30,7 +30,7 @@ fn opcode_11_has_the_fields_and_rules_of_opcode_6() {
             assert_eq!(code(opcode, byte, value), 4 * 65_536, "byte {byte} is {value}");
         }
     }
-    assert_eq!(code(13, 2, 0), 4 * 65_536);
+    assert_eq!(code(16, 2, 0), 4 * 65_536);
 }
 
 #[test]

@@ -104,7 +104,7 @@ fn used_labels_are_shifted_and_unused_ones_stay_zero() {
     let record = |front: &[u8]| [front, &[0; 84][front.len()..]].concat();
     let label = |image: &[u8], byte| u16::from_le_bytes([image[byte], image[byte + 1]]);
     // Each opcode in block 1, with labels A and B on the linked image.
-    let records: [(&[u8], [u16; 2]); 12] = [
+    let records: [(&[u8], [u16; 2]); 15] = [
         (&[1, 1, 1, 0, 4, 0], [304, 0]),
         (&[2, 1, 2, 1, 9, 0, 0, 0, 2, 2, 0, 0, 1, 7, 0], [309, 0]),
         (&[3, 1, 0, 0, 0, 0], [300, 0]),
@@ -117,6 +117,9 @@ fn used_labels_are_shifted_and_unused_ones_stay_zero() {
         (&[10, 1], [0, 0]),
         (&[11, 1, 0, 0, 1, 0, 10, 0, 1, 1, 9, 0], [301, 310]),
         (&[12, 1, 0, 0, 11, 0, 0, 0, 4, 2, 3, 0, 3, 3, 0, 1, 7, 0, 3, 3, 0], [311, 0]),
+        (&[13, 1, 0, 0, 12, 0, 0, 0, 2, 2, 3, 0, 1, 7, 0], [312, 0]),
+        (&[14, 1, 0, 0, 13, 0, 0, 0, 2, 3, 3, 0, 3, 3, 0], [313, 0]),
+        (&[15, 1, 0, 0, 14, 0, 0, 0, 3, 2, 3, 0, 3, 4, 0, 1, 7, 0], [314, 0]),
     ];
     let first = exits(&[0; 300]);
     let second: Vec<u8> = records.iter().flat_map(|(front, _)| record(front)).collect();

@@ -1,8 +1,8 @@
 //! Jobs about to store, and the states that they leave.
 
-use super::bench::{arrival, call, exit, hold, record, send, step, Bench, IDLE, TREES};
+use super::bench::{arrival, at, call, exit, hold, record, send, step, Bench, IDLE, TREES};
 use crate::image::Entry;
-use crate::statement::{Operand, Place, Statement};
+use crate::statement::{Formula, Operand, Place, Statement};
 
 /// A job of thread 0 that is about to carry out the statement. Registers 0 and
 /// 1 have these values, and so have words 0 and 1; word 2 is 770, and the
@@ -21,6 +21,61 @@ pub fn about_to(statement: Statement, values: [u16; 2]) -> Bench {
 pub fn kinds(value: u16, place: u8) -> [Operand; 3] {
     let (register, word) = (Place::Register(place), Place::Word(place));
     [Operand::Number(value), Operand::Kept(register), Operand::Kept(word)]
+}
+
+/// A register that is absent in `about_to`.
+pub const ABSENT: Operand = Operand::Kept(Place::Register(9));
+
+/// The formula of p, of every kind.
+pub fn of_one(formula: fn(Operand) -> Formula, p: u16) -> Vec<Formula> {
+    kinds(p, 0).map(formula).to_vec()
+}
+
+/// The formula of p and q, each of every kind.
+pub fn of_two(formula: fn(Operand, Operand) -> Formula, [p, q]: [u16; 2]) -> Vec<Formula> {
+    let pairs = kinds(p, 0).into_iter().flat_map(|p| kinds(q, 1).map(|q| (p, q)));
+    pairs.map(|(p, q)| formula(p, q)).collect()
+}
+
+/// The formula with an absent register for p, for q or for both, the other of
+/// every kind.
+pub fn of_absent(formula: fn(Operand, Operand) -> Formula, [p, q]: [u16; 2]) -> Vec<Formula> {
+    let of_p = kinds(p, 0).map(|p| formula(p, ABSENT));
+    let of_q = kinds(q, 1).map(|q| formula(ABSENT, q));
+    [&of_p[..], &of_q, &[formula(ABSENT, ABSENT)]].concat()
+}
+
+/// Jobs about to store the result of each formula at each of several places: those
+/// of its operands and others.
+fn about_to_assign(formulas: &[Formula], values: [u16; 2]) -> Vec<(Bench, Formula, Place)> {
+    let registers = [0, 1, 9, 24].map(Place::Register);
+    let words = [0, 1, 2].map(Place::Word);
+    let mut benches = Vec::new();
+    for to in registers.into_iter().chain(words) {
+        for &formula in formulas {
+            let assign = Statement::Assign { to, formula, on: at(1) };
+            benches.push((about_to(assign, values), formula, to));
+        }
+    }
+    benches
+}
+
+/// Each of the formulas gives the result, which alone is stored.
+pub fn all_store(formulas: &[Formula], values: [u16; 2], result: u16) {
+    for (mut bench, formula, to) in about_to_assign(formulas, values) {
+        let expected = moved_on(&bench, &[(to, result)]);
+        assert_eq!(bench.run(&[step(0)]), [[6, 0]], "{formula:?} of {values:?}");
+        assert!(bench.state == expected, "{formula:?} of {values:?} to {to:?}");
+    }
+}
+
+/// Each of the formulas traps with this reason, and nothing is stored.
+pub fn all_trap(formulas: &[Formula], values: [u16; 2], reason: u8) {
+    for (mut bench, formula, to) in about_to_assign(formulas, values) {
+        let expected = ended(&bench);
+        assert_eq!(bench.run(&[step(0)]), [[8, reason]], "{formula:?} of {values:?}");
+        assert!(bench.state == expected, "{formula:?} of {values:?} to {to:?}");
+    }
 }
 
 /// The state after the job of thread 0 has moved on to label 1 with these values

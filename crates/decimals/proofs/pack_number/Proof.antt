@@ -8,4 +8,13 @@ returns : tie.Need-returns
 returns c = four-packed (c .args .x) (omega arith)
 
 pub pack-number-spec : {M : Type 1} → statement M
-pack-number-spec = tie.close (tie.spec (λ c. search needs) (λ c. search needs) (λ c. search needs) (λ c. search needs) (λ c. search needs) (λ c. search needs) returns)
+pack-number-spec =
+    tie.close
+    (tie.spec
+    (λ c. search needs)
+    (λ c. search needs)
+    (λ c. search needs)
+    (λ c. search needs)
+    (λ c. search needs)
+    (λ c. search needs)
+    returns)

@@ -8,4 +8,13 @@ returns : tie.Need-returns
 returns c = four-unpacked (c .args .x) (omega arith)
 
 pub unpack-number-spec : {M : Type 1} → statement M
-unpack-number-spec = tie.close (tie.spec (λ c. search needs) (λ c. search needs) (λ c. search needs) (λ c. search needs) (λ c. search needs) (λ c. search needs) returns)
+unpack-number-spec =
+    tie.close
+    (tie.spec
+    (λ c. search needs)
+    (λ c. search needs)
+    (λ c. search needs)
+    (λ c. search needs)
+    (λ c. search needs)
+    (λ c. search needs)
+    returns)

@@ -1,5 +1,5 @@
 use Rattle.operands.specs.Cells.{cellsOf}
-use Rattle.results.specs.Computes.{unread, both-read}
+use Rattle.results.specs.Reading.{unread, both-read}
 use borrow.Author.Needs.{needs}
 use Rattle.results.proofs.results_of.Statement.{statement}
 use Rattle.results.proofs.results_of.Tie as tie
