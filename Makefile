@@ -118,7 +118,7 @@ papers: build/plex build/demo build/one_by_one build/guests
 	sh tests/papers.sh $(abspath $(LIBRARY)) README.md docs/MACHINE.md
 
 second:
-	cd second && CARGO_TARGET_DIR=$(CURDIR)/build/cargo cargo test --offline --quiet
+	cd second && CARGO_TARGET_DIR=$(CURDIR)/build/cargo cargo test --release --offline --quiet
 
 # the proved library against the second implementation
 COMPARE = cd compare && CARGO_TARGET_DIR=$(CURDIR)/build/cargo \

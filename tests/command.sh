@@ -107,8 +107,9 @@ altered() {
 
 # the files that more than one subject uses: 4,500 events; the case after them; the case after its
 # eighth event, where the audit waits for North's job; East's guest alone with a value of 25, a step
-# before its job ends, where it holds a signal; the case's table as format 2 had it, without locks, and
-# widened again, each block with the lock of its own number; and files that are to stay as they are
+# before its job ends, where it holds a signal; East's image with a packing in place of the meter's unpacking;
+# the case's table as format 2 had it, without locks, and widened again, each block with the lock of its own
+# number; and files that are to stay as they are
 : >empty
 repeated "$events" 300 many
 head -c 440 "$events" >eight
@@ -116,6 +117,7 @@ head -c 55 "$events" >arrival
 tail -c +166 "$events" | head -c 55 >step
 byte step 1 2 step-2
 cat arrival step-2 step-2 step-2 >to-holding
+byte "$east" 1008 15 packing
 : >former-table
 : >lone-table
 block=0

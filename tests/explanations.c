@@ -136,14 +136,16 @@ static void try_event(void)
     refusals[number]++;
 }
 
-/* Each block on a thread of its own as far as they go, every third block FD, and one lock for blocks 0
- * and 1, one for 2 and 3, and so on. */
+/* Each calculation is in the image. Each block is on a thread of its own as far as they go, every third block FD, and
+ * one lock is for blocks 0 and 1, one for 2 and 3, and so on. */
 static void begin(void)
 {
     static const uint8_t words[PLEX_WORDS_SIZE];
     bench_mixed_image(image, RECORDS);
     make_tree_sends(image, RECORDS);
     make_calculations(image, RECORDS);
+    for (uint32_t opcode = FIRST_CALCULATION; opcode <= LAST_CALCULATION; opcode++)
+        failures += find_statement(image, RECORDS, opcode) == 0;
     for (uint32_t block = 0; block < PLEX_BLOCKS; block++)
         put_row(table, block, block % PLEX_THREADS, block % 3 == 0 ? PLEX_FD : PLEX_CMX, PLEX_LOCKS - 1 - block / 2);
     if (plex_fresh(image, sizeof image, table, sizeof table, words, sizeof words, state, sizeof state) != 0)

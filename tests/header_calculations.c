@@ -104,12 +104,29 @@ static void count_in_digits(void)
         expect_answer(decimals[i].what, decimals[i].reason == 0 ? PLEX_MOVED_ON : PLEX_TRAPPED, decimals[i].reason);
         expect_words(decimals[i].what, decimals[i].word, 9);
     }
+}
+
+/* The statement with an absent register as this operand. */
+static void expect_absent(const char *what, int operand)
+{
+    put_operand(records, operand, PLEX_REGISTER_OPERAND, 0);
+    expect_answer(what, PLEX_TRAPPED, PLEX_ABSENT_REGISTER);
+    expect_words(what, 9, 9);
+}
+
+/* An absent register comes before a digit above 9. A number as destination is refused. */
+static void count_absent(void)
+{
+    put_calculation(PLEX_PACK, 0, 2);
+    expect_absent("PACK an absent register", 1);
+    put_calculation(PLEX_UNPACK, 0, 2);
+    expect_absent("UNPACK an absent register", 1);
     put_calculation(PLEX_DECIMAL_ADD, 0, 3);
     put_operand(records, 1, PLEX_NUMBER_OPERAND, 0x000a);
-    put_operand(records, 2, PLEX_REGISTER_OPERAND, 0);
-    expect_answer("DECIMAL ADD 0x000a + an absent register", PLEX_TRAPPED, PLEX_ABSENT_REGISTER);
+    expect_absent("DECIMAL ADD 0x000a + an absent register", 2);
     put_operand(records, 0, PLEX_NUMBER_OPERAND, 0);
-    expect("no destination", PLEX_NUMBER(plex_check(records, sizeof records, table, sizeof table)) == PLEX_BAD_RECORD);
+    expect("a number as destination",
+           PLEX_NUMBER(plex_check(records, sizeof records, table, sizeof table)) == PLEX_BAD_RECORD);
 }
 
 void calculate(void)
@@ -118,5 +135,6 @@ void calculate(void)
     subtract();
     divide();
     count_in_digits();
+    count_absent();
     words[0] = words[2] = 0;
 }

@@ -108,6 +108,7 @@ static void try_fault(uint32_t opcode, enum calculation_fault fault)
 {
     second = first;
     uint32_t label = find_statement(second.bytes, PLEX_RECORDS_MAX, opcode);
+    expect("a calculation of each opcode", 1, label != 0);
     break_calculation(second.bytes, PLEX_RECORDS_MAX, label, fault);
     uint32_t result = plex_check(second.bytes, second.size, table.bytes, PLEX_TABLE_SIZE);
     expect("a faulty calculation", 65536 * PLEX_BAD_RECORD + label, result);

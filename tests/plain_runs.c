@@ -1,30 +1,20 @@
 #include "plain_runs.h"
-#include "plain.h"
 #include "bench_image.h"
 #include "build.h"
 #include "damage.h"
+#include "plain_both.h"
 #include "plain_sights.h"
 
 #include <stdio.h>
 #include <string.h>
 
-enum { MACHINES = 400, RUNS = 30, MOST_EVENTS = 64, LEAST_RECORDS = 16 };
+enum { MACHINES = 400, RUNS = 30, LEAST_RECORDS = 16 };
 
-/* What is lent to both engines. */
 static uint8_t image[PLEX_RECORDS_MAX * PLEX_RECORD_SIZE], table[PLEX_TABLE_SIZE], words[PLEX_WORDS_SIZE];
 static uint8_t events[MOST_EVENTS * PLEX_EVENT_SIZE];
-static size_t image_len, events_len, answers_len;
+static struct both both = {{image, table}, 0, words, events, 0, 0};
 
-/* What an engine alters. */
-struct altered {
-    uint8_t state[PLEX_STATE_SIZE], answers[MOST_EVENTS * PLEX_ANSWER_SIZE], met[PLEX_MET_SIZE];
-};
-static struct altered by_plex, by_plain;
-
-static const struct machine machine = {image, table};
-
-static uint32_t failures, codes[256], reasons[256], losing_exits, group_jobs;
-static uint32_t refusals[PLEX_BAD_OUTPUT_LENGTH + 1];
+static uint32_t codes[256], reasons[256], losing_exits, group_jobs, refused_events;
 
 /* Steps that are their thread's first event in a run, by what they subtract. */
 static uint32_t subtractions[SUBTRACTIONS];
@@ -32,20 +22,11 @@ static uint32_t subtractions[SUBTRACTIONS];
 /* Walks over states that this part alone was changed in. */
 static uint32_t refused_parts[DAMAGED_PARTS], accepted_parts[DAMAGED_PARTS];
 
-static void expect(const char *call, uint32_t of_plex, uint32_t of_plain)
-{
-    refusals[PLEX_NUMBER(of_plex)]++;
-    if (of_plex == of_plain && memcmp(&by_plex, &by_plain, sizeof by_plex) == 0)
-        return;
-    failures++;
-    printf("plain: %s: number %u, expected %u, or other bytes\n", call, PLEX_NUMBER(of_plain), PLEX_NUMBER(of_plex));
-}
-
 /* Of most images, registers are words: their jobs come further than others, which soon read an
  * absent register. */
-static void fill_registers(uint32_t records)
+static void fill_registers(void)
 {
-    for (uint32_t label = 0; label < records; label++) {
+    for (uint32_t label = 0; label < both.records; label++) {
         uint8_t *record = image + PLEX_RECORD_SIZE * label;
         for (uint32_t i = 0; i < record[PLEX_RECORD_COUNT]; i++) {
             uint8_t *operand = record + PLEX_RECORD_OPERANDS + PLEX_OPERAND_SIZE * i;
@@ -57,16 +38,13 @@ static void fill_registers(uint32_t records)
     }
 }
 
-/* One subtraction in four and one division in four has p for q: they are its last operands. */
-static void make_equal_operands(uint32_t records)
+/* One subtraction in four has p, its second operand, for q, its third. */
+static void make_equal_operands(void)
 {
-    for (uint8_t *record = image; record < image + PLEX_RECORD_SIZE * records; record += PLEX_RECORD_SIZE) {
-        uint32_t opcode = record[PLEX_RECORD_OPCODE];
-        bool subtracts = opcode == PLEX_ASSIGN && record[PLEX_RECORD_OPERATOR] == PLEX_SUBTRACT;
-        if ((subtracts || opcode == PLEX_DIVIDE) && below(4) == 0) {
-            uint8_t *q = record + PLEX_RECORD_OPERANDS + PLEX_OPERAND_SIZE * (record[PLEX_RECORD_COUNT] - 1);
-            memcpy(q, q - PLEX_OPERAND_SIZE, PLEX_OPERAND_SIZE);
-        }
+    for (uint32_t label = 0; label < both.records; label++) {
+        uint8_t *record = image + PLEX_RECORD_SIZE * label, *p = record + PLEX_RECORD_OPERANDS + PLEX_OPERAND_SIZE;
+        if (record[PLEX_RECORD_OPCODE] == PLEX_ASSIGN && record[PLEX_RECORD_OPERATOR] == PLEX_SUBTRACT && below(4) == 0)
+            memcpy(p + PLEX_OPERAND_SIZE, p, PLEX_OPERAND_SIZE);
     }
 }
 
@@ -80,37 +58,32 @@ static void make_words(void)
 
 static void make_machine(void)
 {
-    uint32_t records = LEAST_RECORDS * (1 + below(PLEX_RECORDS_MAX / LEAST_RECORDS));
-    image_len = PLEX_RECORD_SIZE * records;
-    bench_mixed_image(image, records);
-    make_tree_sends(image, records);
+    both.records = LEAST_RECORDS * (1 + below(PLEX_RECORDS_MAX / LEAST_RECORDS));
+    bench_mixed_image(image, both.records);
+    make_tree_sends(image, both.records);
     if (below(4) != 0)
-        fill_registers(records);
-    make_calculations(image, records);
-    make_equal_operands(records);
+        fill_registers();
+    make_calculations(image, both.records);
+    make_equal_operands();
     make_table(table);
     make_words();
-    memset(&by_plex, 7, sizeof by_plex);
-    memset(&by_plain, 7, sizeof by_plain);
-    expect("fresh",
-           plex_fresh(image, image_len, table, sizeof table, words, sizeof words, by_plex.state, PLEX_STATE_SIZE),
-           plain_fresh(image, image_len, table, sizeof table, words, sizeof words, by_plain.state, PLEX_STATE_SIZE));
+    fresh_both(&both);
 }
 
 /* An arrival at a label of entry external, from any label on. */
 static void put_any_arrival(uint8_t *event)
 {
     static const uint16_t values[PLEX_REGISTERS] = {1, 2, 3, 65535, 5};
-    uint32_t records = (uint32_t)(image_len / PLEX_RECORD_SIZE), label = below(records);
+    uint32_t label = below(both.records);
     while (record_at(image, label)[PLEX_RECORD_ENTRY] != PLEX_EXTERNAL)
-        label = (label + 1) % records;
+        label = (label + 1) % both.records;
     put_arrival(event, label, values, (uint8_t)below(PLEX_REGISTERS + 1));
 }
 
 static void make_events(void)
 {
-    uint32_t count = below(MOST_EVENTS + 1);
-    for (uint32_t i = 0; i < count; i++) {
+    both.event_count = below(MOST_EVENTS + 1);
+    for (uint32_t i = 0; i < both.event_count; i++) {
         uint8_t *event = events + PLEX_EVENT_SIZE * i;
         if (below(8) == 0)
             put_any_arrival(event);
@@ -119,16 +92,15 @@ static void make_events(void)
         else
             put_step(event, below(PLEX_THREADS));
     }
-    if (below(16) == 0 && count != 0)
-        damage(events, PLEX_EVENT_SIZE * count);
-    events_len = PLEX_EVENT_SIZE * count;
-    answers_len = PLEX_ANSWER_SIZE * count;
+    if (below(16) == 0 && both.event_count != 0)
+        damage(events, PLEX_EVENT_SIZE * both.event_count);
 }
 
 static void count_answers(void)
 {
-    for (size_t i = 0; i < answers_len; i += PLEX_ANSWER_SIZE) {
-        uint32_t code = by_plex.answers[i + PLEX_ANSWER_CODE], detail = by_plex.answers[i + PLEX_ANSWER_DETAIL];
+    for (uint32_t i = 0; i < both.event_count; i++) {
+        const uint8_t *answer = by_plex.answers + PLEX_ANSWER_SIZE * i;
+        uint32_t code = answer[PLEX_ANSWER_CODE], detail = answer[PLEX_ANSWER_DETAIL];
         codes[code]++;
         if (code == PLEX_TRAPPED)
             reasons[detail]++;
@@ -141,10 +113,11 @@ static void count_answers(void)
 static void count_first_steps(const uint8_t *before)
 {
     uint32_t threads_met = 0;
-    for (const uint8_t *event = events; event < events + events_len; event += PLEX_EVENT_SIZE) {
+    for (uint32_t i = 0; i < both.event_count; i++) {
+        const uint8_t *event = events + PLEX_EVENT_SIZE * i;
         uint32_t kind = event[PLEX_EVENT_KIND], thread = event[PLEX_EVENT_THREAD];
         if (kind == PLEX_STEP && !(threads_met >> thread & 1))
-            subtractions[next_subtraction(&machine, before, thread)]++;
+            subtractions[next_subtraction(&both.machine, before, thread)]++;
         if (kind != PLEX_ARRIVAL)
             threads_met |= 1u << thread;
     }
@@ -154,33 +127,25 @@ static void try_run(void)
 {
     make_events();
     struct altered before = by_plex;
-    uint32_t result = plex_run(image, image_len, table, sizeof table, by_plex.state, PLEX_STATE_SIZE, events,
-                               events_len, by_plex.answers, answers_len);
-    expect("run", result,
-           plain_run(image, image_len, table, sizeof table, by_plain.state, PLEX_STATE_SIZE, events, events_len,
-                     by_plain.answers, answers_len));
+    uint32_t result = run_both(&both);
+    refused_events += PLEX_NUMBER(result) == PLEX_BAD_EVENT;
     if (result == 0) {
         count_answers();
         count_first_steps(before.state);
     }
-    group_jobs += is_job_twice_in_group(&machine, by_plex.state);
+    group_jobs += is_job_twice_in_group(&both.machine, by_plex.state);
 }
 
 /* The walk over the state that the run left, at times damaged. */
 static void try_walk(void)
 {
     struct altered before = by_plex;
-    enum damaged_part part = damage_state(&machine, by_plex.state);
+    enum damaged_part part = damage_state(&both.machine, by_plex.state);
     memcpy(by_plain.state, by_plex.state, PLEX_STATE_SIZE);
-    uint32_t thread = below(PLEX_THREADS);
-    uint32_t result = plex_walk(image, image_len, table, sizeof table, by_plex.state, PLEX_STATE_SIZE, thread,
-                                by_plex.met, PLEX_MET_SIZE);
-    expect("walk", result,
-           plain_walk(image, image_len, table, sizeof table, by_plain.state, PLEX_STATE_SIZE, thread, by_plain.met,
-                      PLEX_MET_SIZE));
+    uint32_t number = PLEX_NUMBER(walk_both(&both, below(PLEX_THREADS)));
     if (memcmp(by_plex.state, before.state, PLEX_STATE_SIZE) != 0) {
-        refused_parts[part] += PLEX_NUMBER(result) == PLEX_BAD_STATE;
-        accepted_parts[part] += PLEX_NUMBER(result) == 0;
+        refused_parts[part] += number == PLEX_BAD_STATE;
+        accepted_parts[part] += number == 0;
     }
     memcpy(by_plex.state, before.state, PLEX_STATE_SIZE);
     memcpy(by_plain.state, before.state, PLEX_STATE_SIZE);
@@ -198,9 +163,9 @@ bool do_runs_agree(void)
     bool all_met = are_all_met(codes, PLEX_ARRIVED, PLEX_NOTHING_TO_CUT) &&
                    are_all_met(reasons, PLEX_ABSENT_REGISTER, PLEX_NOT_DECIMAL) &&
                    are_all_met(subtractions, P_ABOVE_Q, ABSENT_BELOW_Q) && losing_exits != 0 && group_jobs != 0 &&
-                   refusals[PLEX_BAD_EVENT] != 0 && are_all_met(refused_parts, HELD_SIGNALS, ANY_BYTES) &&
+                   refused_events != 0 && are_all_met(refused_parts, HELD_SIGNALS, ANY_BYTES) &&
                    are_all_met(accepted_parts, HELD_SIGNALS, ANY_BYTES);
     printf("plain: %d runs and walks%s; %u failures\n", MACHINES * RUNS,
-           all_met ? ", with every case" : ", NOT with every case", failures);
-    return failures == 0 && all_met;
+           all_met ? ", with every case" : ", NOT with every case", both.differences);
+    return both.differences == 0 && all_met;
 }

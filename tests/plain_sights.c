@@ -91,12 +91,14 @@ static uint64_t sight(enum decimal seen)
     return (uint64_t)1 << seen;
 }
 
-/* Where a step stores to: of the four sights that begin with this one. */
+/* Where a step stores to: of the four sights that begin with this one, the last of which is p alone. Where there is no
+ * q, its bytes are zero and name no place. */
 static uint64_t sights_of_destination(const uint8_t *record, const uint8_t *thread, enum decimal to_register)
 {
     const uint8_t *destination = operand_at(record, 0);
     uint32_t number = get16(destination + PLEX_OPERAND_VALUE), presence = get32(thread + PLEX_THREAD_PRESENCE);
-    uint64_t seen = are_one_place(record, 0, 1) ? sight(to_register + 3) : 0;
+    bool is_to_p_alone = are_one_place(record, 0, 1) && !are_one_place(record, 0, 2);
+    uint64_t seen = is_to_p_alone ? sight(to_register + 3) : 0;
     if (destination[PLEX_OPERAND_KIND] == PLEX_WORD_OPERAND)
         return seen | sight(to_register + 2);
     return seen | sight(presence >> number & 1 ? to_register : to_register + 1);
@@ -158,7 +160,9 @@ static uint64_t sights_of_sum(const uint8_t *record, const uint8_t *thread, stru
 uint64_t next_decimal(const struct machine *machine, const uint8_t *state, uint32_t thread)
 {
     const uint8_t *bytes = thread_at(state, thread), *record = next_record(machine, bytes);
-    uint32_t opcode = record == NULL ? PLEX_EXIT : record[PLEX_RECORD_OPCODE];
+    if (record == NULL)
+        return 0;
+    uint32_t opcode = record[PLEX_RECORD_OPCODE];
     if (opcode == PLEX_PACK)
         return sights_of_packing(record, bytes, read_source(state, bytes, record, 1));
     if (opcode == PLEX_UNPACK)

@@ -77,7 +77,7 @@ enum decimal {
     SUM_TO_REGISTER,
     SUM_TO_ABSENT_REGISTER,
     SUM_TO_WORD,
-    SUM_TO_P,
+    SUM_TO_P,      /* and q is another place */
     SUM_TO_Q,      /* and p is another place */
     SUM_OF_ITSELF, /* p and q are the place that it goes to */
     DECIMALS

@@ -65,8 +65,8 @@ pub const DECIMAL_SUMS: &[Sort] = &[
     ("with a number as q", |step| stores(step) && step.kind(Q) == NUMBER),
     ("with a register as q", |step| stores(step) && step.kind(Q) == REGISTER),
     ("with a word as q", |step| stores(step) && step.kind(Q) == WORD),
-    ("over q", |step| stores(step) && step.are_same(&[(DESTINATION, Q)])),
-    ("over p and q", |step| stores(step) && step.are_same(&[(DESTINATION, P), (DESTINATION, Q)])),
+    ("over q alone", |step| stores(step) && is_over(step, Q) && !is_over(step, P)),
+    ("over p and q", |step| stores(step) && is_over(step, P) && is_over(step, Q)),
 ];
 
 /// Those of all three.
@@ -79,7 +79,7 @@ pub const DECIMALS: &[Sort] = &[
     }),
     ("to a register that is absent", |step| stores(step) && step.value(DESTINATION).is_none()),
     ("to a word", |step| stores(step) && step.kind(DESTINATION) == WORD),
-    ("over p", |step| stores(step) && step.are_same(&[(DESTINATION, P)])),
+    ("over p alone", |step| stores(step) && is_over(step, P) && !is_over(step, Q)),
     ("that traps before it stores to a word", |step| {
         reads_decimals(step) == Some(false) && step.kind(DESTINATION) == WORD
     }),
@@ -97,6 +97,12 @@ fn reads_decimals(step: &Step) -> Option<bool> {
         DECIMAL_ADD => Some(digits_above_9(step, P)? + digits_above_9(step, Q)? == 0),
         _ => digits_above_9(step, P).map(|count| count == 0),
     }
+}
+
+/// Whether an operand is the destination. A q that the record does not have is
+/// zero, and no place.
+fn is_over(step: &Step, index: usize) -> bool {
+    step.are_same(&[(DESTINATION, index)])
 }
 
 fn is_packed(step: &Step, index: usize) -> bool {

@@ -5,8 +5,8 @@ use std::ops::Range;
 
 pub const RECORD: usize = 84;
 pub const RECORDS: usize = 512;
-/// Where in an image record its block is, its operator, its label B, the count of
-/// operands, and then they are.
+/// Where in an image record its block, its operator and its label B are, the count
+/// of its operands, and the operands.
 pub const BLOCK: usize = 1;
 pub const OPERATOR: usize = 3;
 pub const LABEL_B: usize = 6;
@@ -23,15 +23,15 @@ pub const LOCKS: usize = 16;
 pub const WORDS: usize = 512;
 pub const THREAD: usize = 288;
 pub const THREADS: usize = 8;
-/// Where in a thread record the label is, the count of return labels, and then
-/// they are.
+/// Where in a thread record the label is, the count of return labels, and the
+/// return labels.
 pub const LABEL: usize = 0;
 pub const RETURNS: usize = 4;
 pub const RETURN_LABELS: usize = 5;
 /// Where in a thread record the registers' presence is, and then their values.
 pub const PRESENCE: usize = 21;
 pub const REGISTERS: usize = 25;
-/// Where in a thread record the count of held signals is, and then they are.
+/// Where in a thread record the count of held signals is, and then the signals.
 pub const HELD: usize = 75;
 pub const MOST_HELD: usize = 4;
 pub const STATE: usize = 9_633;

@@ -96,17 +96,30 @@ void bench_send_image(uint8_t *image, size_t records, uint8_t blocks, uint8_t va
     }
 }
 
-const struct statement bench_division = {
-    0, PLEX_EXTERNAL, PLEX_DIVIDE, 0, 0, 0, 4, {REGISTER(2), WORD(0), REGISTER(0), REGISTER(1)}};
-const struct statement bench_packing = {0, PLEX_EXTERNAL, PLEX_PACK, 0, 0, 0, 2, {REGISTER(2), REGISTER(0)}};
-const struct statement bench_unpacking = {0, PLEX_EXTERNAL, PLEX_UNPACK, 0, 0, 0, 2, {REGISTER(2), REGISTER(3)}};
-const struct statement bench_decimal_sum = {
-    0, PLEX_EXTERNAL, PLEX_DECIMAL_ADD, 0, 0, 0, 3, {REGISTER(3), REGISTER(3), REGISTER(4)}};
+/* What a job without end is sent. The results go to register 2, DIVIDE's remainder to word 0. */
+enum { DECIMALS = 8 };
+enum { P, Q, RESULT, NUMBERS, PACKED = NUMBERS + DECIMALS };
+static const uint16_t loop_values[PLEX_REGISTERS] = {
+    300, 7, 5, /* DIVIDE reads the first two, and DECIMAL ADD the third, as p: it is the sum so far, packed */
+    0,   7, 40,   305,   1234,   5678,   8096,   9999,   /* PACK, by turns */
+    0,   7, 0x40, 0x305, 0x1234, 0x5678, 0x8096, 0x9999, /* UNPACK, and DECIMAL ADD as q, by turns */
+};
 
-void bench_loop_image(uint8_t *image, size_t records, const struct statement *statement)
+const struct bench_loop bench_division = {
+    {0, PLEX_EXTERNAL, PLEX_DIVIDE, 0, 0, 0, 4, {REGISTER(RESULT), WORD(0), REGISTER(P), REGISTER(Q)}}, 1};
+const struct bench_loop bench_packing = {
+    {0, PLEX_EXTERNAL, PLEX_PACK, 0, 0, 0, 2, {REGISTER(RESULT), REGISTER(NUMBERS)}}, DECIMALS};
+const struct bench_loop bench_unpacking = {
+    {0, PLEX_EXTERNAL, PLEX_UNPACK, 0, 0, 0, 2, {REGISTER(RESULT), REGISTER(PACKED)}}, DECIMALS};
+const struct bench_loop bench_decimal_sum = {
+    {0, PLEX_EXTERNAL, PLEX_DECIMAL_ADD, 0, 0, 0, 3, {REGISTER(RESULT), REGISTER(RESULT), REGISTER(PACKED)}}, DECIMALS};
+
+void bench_loop_image(uint8_t *image, size_t records, const struct bench_loop *loop)
 {
-    struct statement moved = *statement;
+    struct statement moved = loop->statement;
+    uint16_t *source = &moved.operands[moved.count - 1].value, first = *source;
     for (size_t label = 0; label < records; label++) {
+        *source = (uint16_t)(first + label % loop->last_sources);
         moved.a = (uint16_t)((label + 1) % records);
         put_statement(image + PLEX_RECORD_SIZE * label, &moved);
     }
@@ -114,8 +127,7 @@ void bench_loop_image(uint8_t *image, size_t records, const struct statement *st
 
 void bench_loop_start(uint8_t *events, uint8_t values)
 {
-    static const uint16_t numbers[PLEX_REGISTERS] = {300, 7, 5, 0x1234, 0x0678};
-    put_arrival(events, 0, numbers, values);
+    put_arrival(events, 0, loop_values, values);
     put_step(events + PLEX_EVENT_SIZE, 0);
 }
 

@@ -19,13 +19,18 @@ void bench_job_events(uint8_t *events, size_t count, size_t records);
  * blocks by turns. */
 void bench_send_image(uint8_t *image, size_t records, uint8_t blocks, uint8_t values);
 
-/* 1 record or more: a job of LOOP_VALUES values that does nothing but one statement, without end. */
-enum { LOOP_VALUES = 5 };
-void bench_loop_image(uint8_t *image, size_t records, const struct statement *statement);
+/* A job that does nothing but one statement, without end. From label to label its last source is another register: so
+ * many by turns, from the one that it names on. */
+struct bench_loop {
+    struct statement statement;
+    uint8_t last_sources;
+};
 
-/* Such statements, which do not trap: a division, a packing, an unpacking, and a decimal sum that is added to again
- * and again. */
-extern const struct statement bench_division, bench_packing, bench_unpacking, bench_decimal_sum;
+/* 1 record or more, of such a job, which has 25 values. */
+void bench_loop_image(uint8_t *image, size_t records, const struct bench_loop *loop);
+
+/* These do not trap. The division has one last source, and the decimal sum is added to again and again. */
+extern const struct bench_loop bench_division, bench_packing, bench_unpacking, bench_decimal_sum;
 
 /* For an image of either, whose job has so many values: 2 events that start the job on thread 0, and so many
  * that each do one statement. */

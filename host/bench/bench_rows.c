@@ -123,11 +123,11 @@ static void prepare_sends_in_group(const struct bench_row *row)
 }
 
 /* Each event is the one statement of the job. */
-static void prepare_loop(const struct bench_row *row, const struct statement *statement)
+static void prepare_loop(const struct bench_row *row, const struct bench_loop *loop)
 {
     begin(row);
-    bench_loop_image(work.image, row->records, statement);
-    begin_loop(row, LOOP_VALUES);
+    bench_loop_image(work.image, row->records, loop);
+    begin_loop(row, PLEX_REGISTERS);
 }
 
 static void prepare_divisions(const struct bench_row *row)

@@ -121,19 +121,20 @@ static inline bool divide_holds(const uint8_t *record)
     return remainder[PLEX_OPERAND_KIND] != PLEX_NUMBER_OPERAND && memcmp(quotient, remainder, PLEX_OPERAND_SIZE) != 0;
 }
 
-/* Given an opcode that stores: the destination is no number. */
-static inline bool destinations_hold(const uint8_t *record, uint32_t opcode)
+/* Given an opcode that stores: its first destination is no number, and what ASSIGN and DIVIDE ask for besides holds. */
+static inline bool storing_holds(const uint8_t *record, uint32_t opcode)
 {
     return record[PLEX_RECORD_OPERANDS] != PLEX_NUMBER_OPERAND && (opcode != PLEX_ASSIGN || assign_holds(record)) &&
            (opcode != PLEX_DIVIDE || divide_holds(record));
 }
 
+/* An unknown opcode is refused by header_holds, before STORING is shifted by it. */
 static inline bool record_holds(const uint8_t *image, uint32_t records, const uint8_t *record)
 {
     uint32_t opcode = record[PLEX_RECORD_OPCODE];
     const struct opcode_rule *rule = &plain_opcode_rules[opcode <= LAST_OPCODE ? opcode : 0];
     return header_holds(record, rule) && labels_hold(image, records, record, rule) && operands_hold(record) &&
-           (!(STORING >> opcode & 1) || destinations_hold(record, opcode));
+           (!(STORING >> opcode & 1) || storing_holds(record, opcode));
 }
 
 uint32_t plain_check(const uint8_t *image, size_t image_len, const uint8_t *table, size_t table_len)

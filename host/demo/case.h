@@ -6,8 +6,8 @@
 
 #include "plex.h"
 
-/* The blocks. North's charging and the tariffs are a family with one lock; East's meter has one that the family
- * leaves, because the family's has the meter's number. Each of the others has the lock of its own number. */
+/* The blocks. North's charging and the tariffs are a family with one lock. It is lock 9, so block 9, East's meter, has
+ * lock 1, which the family leaves. Each of the others has the lock of its own number. */
 enum {
     NORTH_GUEST,
     NORTH_CHARGING,
@@ -21,10 +21,11 @@ enum {
     EAST_METER,
     CASE_BLOCKS
 };
-enum { FAMILY_LOCK = 9, METER_LOCK = 1 };
+enum { FAMILY_LOCK = 9, METER_LOCK = NORTH_CHARGING };
 
 enum { CASE_RECORDS = 13, EAST_RECORDS = 15, LINKED_RECORDS = CASE_RECORDS + EAST_RECORDS };
 enum { CASE_EVENTS = 15, EAST_EVENTS = 30, LINKED_EVENTS = CASE_EVENTS + EAST_EVENTS };
+enum { METER_EVENTS = 9 }; /* of East's, the last */
 
 /* The words of East's tariff: pulses kept, and units charged. How many pulses it keeps at first, how many
  * it is sent, and how many a unit has. */

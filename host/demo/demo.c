@@ -133,11 +133,15 @@ static void print_values(uint32_t thread, const uint8_t *answer, const uint8_t *
 
 static void print_charges(void)
 {
+    printf("    charges   North %u, South %u; balance East %u; units East %u, pulses kept %u\n", north_charge(),
+           south_charge(), east_balance(), east_units(), east_kept());
+}
+
+static void print_metered(void)
+{
     struct line counter = {0};
     add_packed(&counter, east_counter());
-    printf("    charges   North %u, South %u; balance East %u; units East %u, pulses kept %u; meter %s, pulses metered "
-           "%u\n",
-           north_charge(), south_charge(), east_balance(), east_units(), east_kept(), counter.text, east_metered());
+    printf("    meter     %s, pulses metered %u\n", counter.text, east_metered());
 }
 
 /* Who is in the way of a thread that was told to wait. */
@@ -176,6 +180,8 @@ static int replay(uint32_t index)
         print_thread("after", thread);
     }
     print_charges();
+    if (index >= LINKED_EVENTS - METER_EVENTS)
+        print_metered();
     return answer[PLEX_ANSWER_CODE] != PLEX_WAITING || print_walk(thread);
 }
 
@@ -204,7 +210,8 @@ static int print_units(void)
     int none_lost = UNIT_PULSES * east_units() + east_kept() == pulses && east_kept() < UNIT_PULSES;
     printf("Of %u pulses East's tariff has charged %u units of %d, and it keeps %u: %s.\n", pulses, east_units(),
            UNIT_PULSES, east_kept(), none_lost ? "none is lost" : "some are LOST");
-    printf("The %d pulses sent where a unit has 0 are not among them: the trap dropped them.\n", SENT_PULSES);
+    if (none_lost)
+        printf("The %d pulses sent where a unit has 0 are not among them: the trap dropped them.\n", SENT_PULSES);
     return none_lost;
 }
 
@@ -220,7 +227,8 @@ static int print_meter(void)
     add(&words, ": it has ");
     add_packed(&words, east_counter());
     printf("%s, and %u pulses are to be charged%s.\n", words.text, east_metered(), is_right ? "" : ", which is WRONG");
-    printf("The counter with a digit above 9 is not among them: the trap dropped it.\n");
+    if (is_right)
+        printf("The counter with a digit above 9 was not counted: the trap dropped it.\n");
     return is_right;
 }
 

@@ -87,7 +87,6 @@ faulty 1011 1 'UNPACK has no operator, so byte 3 is 0 and not 1'
 faulty 1014 1 'UNPACK uses no label B, so it is 0 and not 1'
 faulty 1017 1 'the destination is a number, and it is a register or a shared word'
 faulty 1008 17 'its operand count is 2, and DECIMAL ADD has 3'
-byte "$east" 1008 15 packing
 tried 'a packing' 0 'accepted' check packing "$table"
 whole=packing
 faulty 1011 4 'PACK has no operator, so byte 3 is 0 and not 4'

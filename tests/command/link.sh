@@ -9,7 +9,6 @@ tried 'both labels of a statement' 0 '^   14            SEND JOBTREE to 16 WITH 
 tried 'the label of a division' 0 '^   21            DIVIDE r0, w0 := r0 / r1, on to 22$' show both
 tried 'the label of a decimal sum' 0 '^   24  external  DECIMAL ADD w0 := w0 + r0, on to 25$' show both
 tried 'the label of an unpacking' 0 '^   25            UNPACK r0 := r0, on to 26$' show both
-byte "$east" 1008 15 packing
 tried 'a link of a packing' 0 '^linked: packed, 28 records' link "$image" packing "$table" --out packed
 tried 'its label' 0 '^   25            PACK r0 := r0, on to 26$' show packed
 tail -c 84 both >part

@@ -113,16 +113,16 @@ cat counter step-2 cut-2 >cut-short
 tried 'a cut before it' 0 'cut of thread 2, label 11: DECIMAL ADD w0 := w0 + r0, on to 12 *cut; idle' \
     run "$east" "$table" "$words" cut-short
 
-# ---- a packing in place of the meter's unpacking, where an arrival comes in: of 75, and of 10,000
-altered "$east" packing 1008:15 1010:3
+# ---- the packing, where an arrival comes in: of 75, and of 10,000
+byte packing 1010 3 packing-entry
 altered arrival number 2:14 5:113
 cat number step-2 step-2 >packed
 tried 'a packing' 0 'label 12: PACK r0 := r0, on to 13 *moved on; read 75, stored packed 0075; at label 13, locks 1,' \
-    run packing "$table" "$words" packed --out left-2
+    run packing-entry "$table" "$words" packed --out left-2
 tried 'its register' 0 '^  2  at label 13, .*, registers r0=117$' state left-2
 altered packed too-large 5:20 6:47
 tried 'a number above 9,999' 0 'trap 9, a number above 9,999 packed, or a digit above 9; read 10000; idle, locks none,' \
-    run packing "$table" "$words" too-large
+    run packing-entry "$table" "$words" too-large
 
 tried '4,500 events' 0 '^4500 events in 5 calls$' \
     run "$image" "$table" "$words" many --summary --out left --answers answers

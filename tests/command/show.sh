@@ -8,8 +8,8 @@ altered "$east" digits 936:1 937:102 938:0 939:1 940:244 941:22 1020:1 1021:64 1
 tried 'a packed number, and one that is not' 0 \
     '^   11  external  DECIMAL ADD w0 := packed 0042 + (not packed: 0x12a4), on to 12$' show digits
 tried 'a number to be unpacked' 0 '^   12            UNPACK r0 := packed 1234, on to 13$' show digits
-byte digits 1008 15 packing
-tried 'a number to be packed' 0 '^   12            PACK r0 := 4660, on to 13$' show packing
+byte digits 1008 15 packed-digits
+tried 'a number to be packed' 0 '^   12            PACK r0 := 4660, on to 13$' show packed-digits
 tried 'its block' 0 '^block 1$' show "$image"
 byte "$image" 0 143 bad
 tried 'unknown opcode' 1 '^    0  external  unknown opcode 99$' show bad

@@ -27,7 +27,7 @@ use Rattle.rules.specs.Link.{shiftRecord, records, linked, names, shareBlock}
 use Rattle.rules.specs.Calls.{stateLengthFault, stateFault, eventsLengthFault, eventFault, answersLengthFault, wordsLengthFault}
 use Rattle.rules.specs.Calls.{sharedBlockFault, tooManyRecordsFault, outputLengthFault}
 use Rattle.rules.specs.Calls.{checkReturn, freshReturn, freshState, runReturn, runState, runAnswers, linkReturn, linkOut}
-use Rattle.byte_trials.specs.Lent.{recordBytes, number, register, word, exiting, arrivalBytes, turnBytes, times, table}
+use Rattle.byte_trials.specs.Lent.{recordBytes, number, register, word, exiting, startAndStep, table}
 use Rattle.byte_trials.specs.Lent.{freshWith, answersWith, stateWith, presenceSet}
 
 -- label 0: a record of block 0 of this opcode, without operator, with n operands, on to 1; label 1: EXIT
@@ -43,20 +43,19 @@ unpacking d p = only 14 2 (d ++ p)
 abbrev adding : List ℕ → List ℕ → List ℕ → List ℕ
 adding d p q = only 15 3 (d ++ p ++ q)
 
--- an arrival with the values 1,234 and 1,234 packed, which become registers 0 and 1, and two steps: the job starts, and label 0 is
--- carried out
-abbrev startAndStep : List ℕ
-startAndStep = arrivalBytes 0 (2 ∷ 210 ∷ 4 ∷ 52 ∷ 18 ∷ []) ++ times 2 (turnBytes 2 0)
+-- the values 1,234 and 1,234 packed become registers 0 and 1
+abbrev carriedOut : List ℕ
+carriedOut = startAndStep 2 (210 ∷ 4 ∷ 52 ∷ 18 ∷ [])
 
 -- the answer to the second step, word 0 then, and 8 bytes from the presence set of thread 0 on
 abbrev answerTo : List ℕ → List ℕ
-answerTo image = drop 4 (answersWith table image 3 startAndStep)
+answerTo image = drop 4 (answersWith table image 3 carriedOut)
 
 abbrev wordAfter : List ℕ → List ℕ
-wordAfter image = part (stateWith table image 3 startAndStep) 0 2
+wordAfter image = part (stateWith table image 3 carriedOut) 0 2
 
 abbrev registersAfter : List ℕ → List ℕ
-registersAfter image = part (stateWith table image 3 startAndStep) presenceSet 8
+registersAfter image = part (stateWith table image 3 carriedOut) presenceSet 8
 
 pub record Decimals : Type 0 where
   -- 1,234 packed is 18 × 256 + 52; 9,999 is packed, 10,000 is not
@@ -65,7 +64,7 @@ pub record Decimals : Type 0 where
   pub packed-register : registersAfter (packing (register 0) (register 0)) ≡ 3 ∷ 0 ∷ 0 ∷ 0 ∷ 52 ∷ 18 ∷ 52 ∷ 18 ∷ []
   pub packed-highest : wordAfter (packing (word 0) (number 15 39)) ≡ 153 ∷ 153 ∷ []
   pub above : answerTo (packing (word 0) (number 16 39)) ≡ 8 ∷ 9 ∷ []
-  pub above-left : stateWith table (packing (word 0) (number 16 39)) 3 startAndStep ≡ freshWith table (packing (word 0) (number 16 39))
+  pub above-left : stateWith table (packing (word 0) (number 16 39)) 3 carriedOut ≡ freshWith table (packing (word 0) (number 16 39))
   -- and back; a digit of 10 in each of the four places
   pub unpacked-word : wordAfter (unpacking (word 0) (register 1)) ≡ 210 ∷ 4 ∷ []
   pub unpacked-highest : wordAfter (unpacking (word 0) (number 153 153)) ≡ 15 ∷ 39 ∷ []
@@ -73,7 +72,7 @@ pub record Decimals : Type 0 where
   pub tens : answerTo (unpacking (word 0) (number 160 0)) ≡ 8 ∷ 9 ∷ []
   pub hundreds : answerTo (unpacking (word 0) (number 0 10)) ≡ 8 ∷ 9 ∷ []
   pub thousands : answerTo (unpacking (word 0) (number 0 160)) ≡ 8 ∷ 9 ∷ []
-  -- 1,234 + 5,678 = 6,912; 999 + 1 = 1,000; 9,999 + 1 = 0; 1,234 + 1,234 = 2,468 over both
+  -- 1,234 + 5,678 = 6,912; 999 + 1 = 1,000; 9,999 + 2 = 1; 1,234 + 1,234 = 2,468 over both
   pub sum-of : wordAfter (adding (word 0) (register 1) (number 120 86)) ≡ 18 ∷ 105 ∷ []
   pub carried : wordAfter (adding (word 0) (number 153 9) (number 1 0)) ≡ 0 ∷ 16 ∷ []
   pub carried-out : wordAfter (adding (word 0) (number 153 153) (number 2 0)) ≡ 1 ∷ 0 ∷ []

@@ -27,7 +27,7 @@ use Rattle.rules.specs.Link.{shiftRecord, records, linked, names, shareBlock}
 use Rattle.rules.specs.Calls.{stateLengthFault, stateFault, eventsLengthFault, eventFault, answersLengthFault, wordsLengthFault}
 use Rattle.rules.specs.Calls.{sharedBlockFault, tooManyRecordsFault, outputLengthFault}
 use Rattle.rules.specs.Calls.{checkReturn, freshReturn, freshState, runReturn, runState, runAnswers, linkReturn, linkOut}
-use Rattle.byte_trials.specs.Lent.{recordBytes, number, register, word, exiting, arrivalBytes, turnBytes, times, table}
+use Rattle.byte_trials.specs.Lent.{recordBytes, number, register, word, exiting, startAndStep, table}
 use Rattle.byte_trials.specs.Lent.{freshWith, answersWith, stateWith, presenceSet}
 
 -- a record of block 0: DIVIDE (12), on to label a, with the destinations d and e, of p and q
@@ -38,22 +38,22 @@ record12 a d e p q = recordBytes 12 0 3 0 a 0 (4 ∷ d ++ e ++ p ++ q)
 abbrev dividing : List ℕ → List ℕ → List ℕ → List ℕ → List ℕ
 dividing d e p q = record12 1 d e p q ++ exiting 0 0
 
--- an arrival with the values 17 and 5, which become registers 0 and 1, and two steps: the job starts, and label 0 is carried out
-abbrev startAndStep : List ℕ
-startAndStep = arrivalBytes 0 (2 ∷ 17 ∷ 0 ∷ 5 ∷ 0 ∷ []) ++ times 2 (turnBytes 2 0)
+-- the values 17 and 5 become registers 0 and 1
+abbrev carriedOut : List ℕ
+carriedOut = startAndStep 2 (17 ∷ 0 ∷ 5 ∷ 0 ∷ [])
 
 abbrev answersTo : List ℕ → List ℕ
-answersTo image = answersWith table image 3 startAndStep
+answersTo image = answersWith table image 3 carriedOut
 
 -- the state then: the first n bytes of the words, n bytes from the presence set of thread 0 on, and that thread's label
 abbrev wordsAfter : List ℕ → ℕ → List ℕ
-wordsAfter image n = part (stateWith table image 3 startAndStep) 0 n
+wordsAfter image n = part (stateWith table image 3 carriedOut) 0 n
 
 abbrev registersAfter : List ℕ → ℕ → List ℕ
-registersAfter image n = part (stateWith table image 3 startAndStep) presenceSet n
+registersAfter image n = part (stateWith table image 3 carriedOut) presenceSet n
 
 abbrev labelAfter : List ℕ → List ℕ
-labelAfter image = part (stateWith table image 3 startAndStep) threadsPlace 2
+labelAfter image = part (stateWith table image 3 carriedOut) threadsPlace 2
 
 -- 17 / 5, of registers 0 and 1
 abbrev quotient : List ℕ → List ℕ → List ℕ
@@ -80,7 +80,7 @@ pub record Divisions : Type 0 where
   pub below : wordsAfter (dividing (word 0) (word 1) (register 1) (register 0)) 4 ≡ 0 ∷ 0 ∷ 5 ∷ 0 ∷ []
   -- a zero q: 8, 8, and after it the state is Fresh's again; an absent register, p or q, is found first: 8, 1
   pub zero-divisor : answersTo (byZero (register 0) (word 0)) ≡ 1 ∷ 0 ∷ 5 ∷ 0 ∷ 8 ∷ 8 ∷ []
-  pub zero-divisor-left : stateWith table (byZero (register 0) (word 0)) 3 startAndStep ≡ freshWith table (byZero (register 0) (word 0))
+  pub zero-divisor-left : stateWith table (byZero (register 0) (word 0)) 3 carriedOut ≡ freshWith table (byZero (register 0) (word 0))
   pub absent-p : answersTo (dividing (register 0) (word 0) (register 2) (number 0 0)) ≡ 1 ∷ 0 ∷ 5 ∷ 0 ∷ 8 ∷ 1 ∷ []
   pub absent-q : answersTo (dividing (register 0) (word 0) (register 0) (register 2)) ≡ 1 ∷ 0 ∷ 5 ∷ 0 ∷ 8 ∷ 1 ∷ []
   -- equal destinations: number 4 at the label; a register and a word of one number are none, nor are two registers of two numbers

@@ -22,7 +22,7 @@ register r = 2 ∷ r ∷ 0 ∷ []
 abbrev pub word : ℕ → List ℕ
 word w = 3 ∷ w ∷ 0 ∷ []
 
--- the record of EXIT in a block, with this entry
+-- EXIT in this block, with this entry
 abbrev pub exiting : ℕ → ℕ → List ℕ
 exiting block entry = recordBytes 10 block entry 0 0 0 []
 
@@ -32,6 +32,10 @@ arrivalBytes l values = 1 ∷ 0 ∷ l ∷ 0 ∷ pad 0 51 values
 
 abbrev pub turnBytes : ℕ → ℕ → List ℕ
 turnBytes kind t = kind ∷ t ∷ replicate 53 0
+
+-- an arrival at label 0 with these values, the bytes after their count, and two steps: the job starts, and label 0 is carried out
+abbrev pub startAndStep : ℕ → List ℕ → List ℕ
+startAndStep n values = arrivalBytes 0 (n ∷ values) ++ turnBytes 2 0 ++ turnBytes 2 0
 
 -- the same bytes n times
 abbrev pub times : ℕ → List ℕ → List ℕ

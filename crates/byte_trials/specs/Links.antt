@@ -10,11 +10,7 @@ use Rattle.rules.specs.Check.{otherOk, headOk, slotOk, labelOk, ruleOk, recordO
 use Rattle.rules.specs.Check.{tableFault, recordFault, firstOf}
 use Rattle.rules.specs.Link.{shiftRecord, records, linked, names, shareBlock}
 use Rattle.rules.specs.Calls.{sharedBlockFault, tooManyRecordsFault, outputLengthFault, checkReturn, linkReturn, linkOut}
-use Rattle.byte_trials.specs.Lent.{recordBytes, table}
-
--- label 0: EXIT in this block
-abbrev exiting : ℕ → List ℕ
-exiting b = recordBytes 10 b 3 0 0 0 []
+use Rattle.byte_trials.specs.Lent.{recordBytes, exiting, table}
 
 -- in block 1: CALL to label a with return label b, entry 3; EXIT; RETURN, entry 1
 abbrev calling : ℕ → ℕ → List ℕ
@@ -26,15 +22,15 @@ space = replicate 336 7
 
 pub record Links : Type 0 where
   -- the used labels of the second image are one higher, A and B of CALL alike; zeros that are not used stay
-  pub accepted : linkReturn (exiting 0) (calling 2 1) table space ≡ 0
-  pub linked : linkOut (exiting 0) (calling 2 1) table space ≡ exiting 0 ++ calling 3 2
-  pub passes : checkReturn (exiting 0 ++ calling 3 2) table ≡ 0
+  pub accepted : linkReturn (exiting 0 3) (calling 2 1) table space ≡ 0
+  pub linked : linkOut (exiting 0 3) (calling 2 1) table space ≡ exiting 0 3 ++ calling 3 2
+  pub passes : checkReturn (exiting 0 3 ++ calling 3 2) table ≡ 0
   -- a block in common: number 13, and nothing is written; a byte of the output too few: 15
-  pub shared : linkReturn (exiting 1) (calling 2 1) table space ≡ 851968
-  pub unwritten : linkOut (exiting 1) (calling 2 1) table space ≡ space
-  pub short : linkReturn (exiting 0) (calling 2 1) table (replicate 335 7) ≡ 983040
+  pub shared : linkReturn (exiting 1 3) (calling 2 1) table space ≡ 851968
+  pub unwritten : linkOut (exiting 1 3) (calling 2 1) table space ≡ space
+  pub short : linkReturn (exiting 0 3) (calling 2 1) table (replicate 335 7) ≡ 983040
   -- number 4 of the second image: its label 3 is none of its own, though the linked image would have it
-  pub own-labels : linkReturn (exiting 0) (calling 3 1) table space ≡ 262144
+  pub own-labels : linkReturn (exiting 0 3) (calling 3 1) table space ≡ 262144
 
 pub links : Links
 unfolding num16 allFrom anyFrom firstBad blocks chunks every pad labels recordAt operationAt otherAt statementOf otherOk headOk slotOk

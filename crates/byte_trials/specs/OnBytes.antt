@@ -28,7 +28,7 @@ use Rattle.rules.specs.Walk.{mem?, walkOn, walk, holder, awaits, walkFrom, metB
 use Rattle.rules.specs.Calls.{threadFault, metLengthFault, walkFault, walkReturn, walkMet}
 use Rattle.rules.specs.Calls.{stateLengthFault, stateFault, eventsLengthFault, eventFault, answersLengthFault, wordsLengthFault}
 use Rattle.rules.specs.Calls.{checkReturn, freshReturn, freshState, runReturn, runState, runAnswers}
-use Rattle.byte_trials.specs.Lent.{recordBytes, arrivalBytes, turnBytes, times, table, beginning, words, zeros}
+use Rattle.byte_trials.specs.Lent.{recordBytes, number, startAndStep, arrivalBytes, turnBytes, times, table, beginning, words, zeros}
 use Rattle.byte_trials.specs.Lent.{freshWith, answersWith, stateWith, presenceSet}
 
 -- ---- the calls, with a block table of zeros
@@ -64,10 +64,6 @@ assigning = recordBytes 2 0 3 1 1 0 (2 ∷ 3 ∷ 0 ∷ 0 ∷ 1 ∷ 7 ∷ 0 ∷ [
 abbrev computing : ℕ → ℕ → List ℕ → List ℕ
 computing operator kind p =
     recordBytes 2 0 3 operator 1 0 (3 ∷ kind ∷ 0 ∷ 0 ∷ (p ++ 1 ∷ 1 ∷ 0 ∷ [])) ++ recordBytes 10 0 0 0 0 0 []
-
--- such an operand: the number of these two bytes
-abbrev number : ℕ → ℕ → List ℕ
-number low high = 1 ∷ low ∷ high ∷ []
 
 -- 0 - 1, to shared word 0
 abbrev taking : List ℕ
@@ -135,9 +131,9 @@ passing opcode = recordBytes opcode 0 3 0 1 0 (1 ∷ 1 ∷ 5 ∷ 0 ∷ []) ++ re
 abbrev entering : List ℕ
 entering = recordBytes 5 0 3 0 1 0 [] ++ recordBytes 10 1 1 0 0 0 []
 
--- an arrival with the value 7, which becomes register 0, and two steps: the job starts, and the statement at label 0 is carried out
-abbrev startAndStep : List ℕ
-startAndStep = arrivalBytes 0 (1 ∷ 7 ∷ 0 ∷ []) ++ times 2 (turnBytes 2 0)
+-- the value 7 becomes register 0
+abbrev carriedOut : List ℕ
+carriedOut = startAndStep 1 (7 ∷ 0 ∷ [])
 
 -- labels 0 in block 0 and 2 in block 1: SEND direct to 1 in block 1, to 3 in block 0; labels 1 and 3: EXIT
 abbrev crossing : List ℕ
@@ -154,16 +150,16 @@ wholeList = arrivalBytes 0 [] ++ times 4 (turnBytes 2 0)
 
 pub record OnBytes : Type 0 where
   -- "65,535 + 1 is 0": the presence set and register 0, before it 7
-  pub sum : part (stateAfter (computing 2 2 (number 255 255)) 3 startAndStep) presenceSet 6 ≡ 1 ∷ 0 ∷ 0 ∷ 0 ∷ 0 ∷ 0 ∷ []
+  pub sum : part (stateAfter (computing 2 2 (number 255 255)) 3 carriedOut) presenceSet 6 ≡ 1 ∷ 0 ∷ 0 ∷ 0 ∷ 0 ∷ 0 ∷ []
   -- "0 - 1: 8, 7", to register 0 and to shared word 0, before it 9: after it the state is Fresh's again
-  pub below-zero : answersTo (computing 3 2 (number 0 0)) 3 startAndStep ≡ 1 ∷ 0 ∷ 5 ∷ 0 ∷ 8 ∷ 7 ∷ []
-  pub below-zero-left : stateAfter (computing 3 2 (number 0 0)) 3 startAndStep ≡ initial (computing 3 2 (number 0 0))
-  pub below-zero-word : runAnswers taking table (nine taking) startAndStep (replicate 6 0) ≡ 1 ∷ 0 ∷ 5 ∷ 0 ∷ 8 ∷ 7 ∷ []
-  pub below-zero-word-left : runState taking table (nine taking) startAndStep (replicate 6 0) ≡ nine taking
+  pub below-zero : answersTo (computing 3 2 (number 0 0)) 3 carriedOut ≡ 1 ∷ 0 ∷ 5 ∷ 0 ∷ 8 ∷ 7 ∷ []
+  pub below-zero-left : stateAfter (computing 3 2 (number 0 0)) 3 carriedOut ≡ initial (computing 3 2 (number 0 0))
+  pub below-zero-word : runAnswers taking table (nine taking) carriedOut (replicate 6 0) ≡ 1 ∷ 0 ∷ 5 ∷ 0 ∷ 8 ∷ 7 ∷ []
+  pub below-zero-word-left : runState taking table (nine taking) carriedOut (replicate 6 0) ≡ nine taking
   -- also: 1 - 1 is 0, in register 0, before it 7, and 256 - 1 is 255, in shared word 0; with the absent register 3 as p: 8, 1
-  pub no-difference : part (stateAfter (computing 3 2 (number 1 0)) 3 startAndStep) presenceSet 6 ≡ 1 ∷ 0 ∷ 0 ∷ 0 ∷ 0 ∷ 0 ∷ []
-  pub difference : part (stateAfter (computing 3 3 (number 0 1)) 3 startAndStep) 0 2 ≡ 255 ∷ 0 ∷ []
-  pub absent-first : answersTo (computing 3 2 (2 ∷ 3 ∷ 0 ∷ [])) 3 startAndStep ≡ 1 ∷ 0 ∷ 5 ∷ 0 ∷ 8 ∷ 1 ∷ []
+  pub no-difference : part (stateAfter (computing 3 2 (number 1 0)) 3 carriedOut) presenceSet 6 ≡ 1 ∷ 0 ∷ 0 ∷ 0 ∷ 0 ∷ 0 ∷ []
+  pub difference : part (stateAfter (computing 3 3 (number 0 1)) 3 carriedOut) 0 2 ≡ 255 ∷ 0 ∷ []
+  pub absent-first : answersTo (computing 3 2 (2 ∷ 3 ∷ 0 ∷ [])) 3 carriedOut ≡ 1 ∷ 0 ∷ 5 ∷ 0 ∷ 8 ∷ 1 ∷ []
   -- "RETURN in a job with no call: 8, 2"
   pub returns : answersTo returning 3 (arrivalBytes 0 [] ++ times 2 (turnBytes 2 0)) ≡ 1 ∷ 0 ∷ 5 ∷ 0 ∷ 8 ∷ 2 ∷ []
   -- "The eighth CALL moves on; the ninth: 8, 3"
@@ -209,13 +205,13 @@ pub record OnBytes : Type 0 where
   pub answers : answersTo assigning 5 wholeList ≡ 1 ∷ 0 ∷ 5 ∷ 0 ∷ 6 ∷ 0 ∷ 7 ∷ 0 ∷ 3 ∷ 0 ∷ []
   pub word : stateAfter assigning 5 wholeList ≡ 7 ∷ drop 1 (initial assigning)
   -- also: IF, operator 2, is p less than q, and 1 is p equal to q: the label then
-  pub less : part (stateAfter (comparing 2 3 5) 3 startAndStep) threadsPlace 2 ≡ 1 ∷ 0 ∷ []
-  pub not-less : part (stateAfter (comparing 2 5 3) 3 startAndStep) threadsPlace 2 ≡ 2 ∷ 0 ∷ []
-  pub equal : part (stateAfter (comparing 1 5 5) 3 startAndStep) threadsPlace 2 ≡ 1 ∷ 0 ∷ []
-  pub not-equal : part (stateAfter (comparing 1 3 5) 3 startAndStep) threadsPlace 2 ≡ 2 ∷ 0 ∷ []
+  pub less : part (stateAfter (comparing 2 3 5) 3 carriedOut) threadsPlace 2 ≡ 1 ∷ 0 ∷ []
+  pub not-less : part (stateAfter (comparing 2 5 3) 3 carriedOut) threadsPlace 2 ≡ 2 ∷ 0 ∷ []
+  pub equal : part (stateAfter (comparing 1 5 5) 3 carriedOut) threadsPlace 2 ≡ 1 ∷ 0 ∷ []
+  pub not-equal : part (stateAfter (comparing 1 3 5) 3 carriedOut) threadsPlace 2 ≡ 2 ∷ 0 ∷ []
   -- also: a direct SEND to an FD block (kind 0) of another thread traps, reason 5; a CMX block (kind 1) is open
-  pub foreign-FD : answersWith (foreign 0) entering 3 startAndStep ≡ 1 ∷ 0 ∷ 5 ∷ 0 ∷ 8 ∷ 5 ∷ []
-  pub foreign-CMX : answersWith (foreign 1) entering 3 startAndStep ≡ 1 ∷ 0 ∷ 5 ∷ 0 ∷ 6 ∷ 0 ∷ []
+  pub foreign-FD : answersWith (foreign 0) entering 3 carriedOut ≡ 1 ∷ 0 ∷ 5 ∷ 0 ∷ 8 ∷ 5 ∷ []
+  pub foreign-CMX : answersWith (foreign 1) entering 3 carriedOut ≡ 1 ∷ 0 ∷ 5 ∷ 0 ∷ 6 ∷ 0 ∷ []
   -- also: two threads that wait for each other: from either the walk writes both once and reports the ring; a walk from a thread that
   -- does not wait writes it alone
   pub walk-ring : walkReturn crossing both ring 1 (replicate 8 0) ≡ 258

@@ -2,9 +2,9 @@
 -- undone by a step that reads it, `unpack-undoes-pack`, `pack-undoes-unpack` and `sum-unpacked`; and the traps, which store nothing: 8, 9
 -- where a number is above 9,999 or a digit above 9, `traps-above-9999`, `traps-unpacking` and `traps-adding`, and before that 8, 1 where a
 -- register is absent, `absent-first`.
-use mathlib.Core.Path.{_≡_, refl, ap, _∙_, subst}
+use mathlib.Core.Path.{_≡_, refl, subst}
 use mathlib.Core.Logic.{_≢_, _⊎_, inl, inr}
-use mathlib.Core.Bool.{true, false, _&&_, and-false}
+use mathlib.Core.Bool.{true, false, and-false}
 use mathlib.Core.Option.{none, some}
 use mathlib.Core.List.{List, [], _∷_, _++_}
 use Prim.Native.Nat.{ℕ, _+_, _%_, _≤_, _<_}
@@ -15,7 +15,7 @@ use Rattle.decimals.specs.Packed.{pack, packed, unpack, sum}
 use Rattle.decimals.specs.PackedLaws.{unpack-pack, pack-packed, pack-unpack, unpack-below, unpack-sum, sum-packed}
 use Rattle.rules.specs.Image.{recordAt, opcode}
 use Rattle.rules.specs.Statements.{shape, operationAt, optional, assignmentBy, assignmentOf, statementOf}
-use Rattle.rules.specs.Machine.{Job, running, Machine, threadAt}
+use Rattle.rules.specs.Machine.{Job, running, threadAt}
 use Rattle.rules.specs.Effects.{trap, got, Cells, read, readAll, one, compute, store}
 use Rattle.rules.specs.Storing.{read-stored, read-other}
 use Rattle.rules.specs.Events.{Event, step}
@@ -27,8 +27,7 @@ use Rattle.rules.specs.declared.statement.Operation.the-variants.{Pack, Unpack,
 use Rattle.rules.specs.declared.statement.Statement.the-variants.{Assign}
 use Rattle.laws.specs.Passed.{Parts}
 use Rattle.step_laws.specs.Statements.{cellsAt}
-use Rattle.operands.specs.Statements.{first-lands}
-use Rattle.operands.specs.TwoDestinations.{no-operator}
+use Rattle.operands.specs.Statements.{first-lands, no-operator}
 use Rattle.calls_one_by_one.specs.CallList.{Run, Calls, eventList, eventsOf}
 use Rattle.calls_one_by_one.specs.Reached.{reached, Stepped, Trapped}
 use Rattle.calls_one_by_one.specs.Assigning.{operand, sources, leaving, record-parts, place, stores, traps, absent-source}
@@ -67,7 +66,7 @@ module _ {image table words : List ℕ} {runs : List Run} {op : ℕ} (u : Turn i
 module _ (image table words state : List ℕ) (runs : List Run) (calls : Calls image table words state runs) where
   -- ---- an operation without operator
 
-  module _ (op : ℕ) (k : Operation) (late : 12 ≤ op) (named : operationAt op 0 ≡ some k) (single : shape k .second ≡ false)
+  module _ (op : ℕ) (k : Operation) (from-12 : 12 ≤ op) (named : operationAt op 0 ≡ some k) (single : shape k .second ≡ false)
       (u : Turn image table words runs op) where
     parts : Parts image (recordAt image (u .job .label))
     parts = record-parts image table words state runs calls (u .before) (u .after) (u .thread) (u .split) (u .locks) (u .job) (u .busy)
@@ -140,7 +139,7 @@ module _ (image table words state : List ℕ) (runs : List Run) (calls : Calls i
   -- ---- DECIMAL ADD
 
   abbrev pub ReadsBoth : Turn image table words runs 15 → ℕ → ℕ → Type 0
-  ReadsBoth u x y = readAll (cells u) (operandOf u 1 ∷ operandOf u 2 ∷ []) ≡ got (x ∷ y ∷ [])
+  ReadsBoth u x y = sources image (reached image table words (u .before)) (u .job) 1 2 ≡ got (x ∷ y ∷ [])
 
   -- THE DECIMAL SUM OF TWO PACKED NUMBERS IS STORED
   pub adds : (u : Turn image table words runs 15) (x y : ℕ) → packed 4 x ≡ true → packed 4 y ≡ true → ReadsBoth u x y

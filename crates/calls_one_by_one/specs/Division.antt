@@ -23,8 +23,8 @@ use Rattle.rules.specs.declared.statement.Operation.the-variants.{Divide}
 use Rattle.rules.specs.declared.statement.Statement.the-variants.{Assign}
 use Rattle.laws.specs.Passed.{Parts}
 use Rattle.step_laws.specs.Statements.{cellsAt}
-use Rattle.operands.specs.Statements.{Lands, first-lands}
-use Rattle.operands.specs.TwoDestinations.{no-operator, second-lands, differ}
+use Rattle.operands.specs.Statements.{Lands, first-lands, no-operator}
+use Rattle.operands.specs.TwoDestinations.{second-lands, differ}
 use Rattle.calls_one_by_one.specs.CallList.{Run, Calls, eventList, eventsOf}
 use Rattle.calls_one_by_one.specs.Reached.{reached, Stepped, Trapped}
 use Rattle.calls_one_by_one.specs.Assigning.{operand, sources, leaving, record-parts, place, stores, traps, absent-source}

@@ -2,7 +2,8 @@
 -- claimed of it; Whole has the theorem, `calls-one-by-one`; Jobs says that a row is one job, `one-job-a-row`;
 -- Reached parts a list at one step. By it Groups has what the locks of several blocks come to there, `enters-with-its-lock` and
 -- `waits-for-the-lock`, and Assigning what a statement of ASSIGN's kind does. By that Subtraction has `traps-below-zero`,
--- `subtracts-exactly` and `absent-first`, and Division `divides`, `traps-by-zero` and `absent-first`.
+-- `subtracts-exactly` and `absent-first`, Division `divides`, `traps-by-zero` and `absent-first`, and Decimal `unpack-undoes-pack`,
+-- `pack-undoes-unpack`, `sum-unpacked` and what each step stores or traps with.
 pub mod CallList
 pub mod Accepted
 pub mod Joined

@@ -3,17 +3,12 @@
 use mathlib.Core.Path.{_≡_, refl, sym, ap, ap₂, _∙_}
 use mathlib.Core.Logic.{_⊎_, inl, inr}
 use Prim.Native.Nat.{ℕ, zero, suc, _+_, _*_, _/_, _%_, _<_, _≤_}
-use native.Mathlib.Nat.{div-add-mod'}
 use native.Mathlib.Omega.{arith}
-use lib.Bits.{bitAnd, bitOr, and-zero-r, and-block, and-shr, or-shr, and-mod, or-mod, and-mask}
+use lib.Bits.{bitAnd, bitOr, and-zero-r, and-shr, or-shr, and-mod, or-mod}
 use lib.Dec.{eqb}
-use borrow.Author.Tests.{lt-ltb, le-ltb, eq-eqb, ne-eqb}
+use borrow.Author.Tests.{lt-ltb, le-ltb, ne-eqb}
 use Rattle.decimals.specs.Digits.{digits, below}
-
--- n digits of 1
-abbrev pub ones : ℕ → ℕ
-ones zero = 0
-ones (suc n) = ones n * 16 + 1
+use Rattle.decimals.specs.Masks.{ones, under-one}
 
 -- the bits of 8 with those of 4 or of 2, at the places of the bits of 1
 abbrev marks : ℕ → ℕ
@@ -26,13 +21,8 @@ above n x = bitAnd (marks x) (ones n)
 abbrev mark : ℕ → ℕ
 mark x = bitAnd (x / 8 % 2) (bitOr (x / 4 % 2) (x / 2 % 2))
 
-lowest : (x : ℕ) → bitAnd (marks x % 16) 1 ≡ mark x
-lowest x =
-    let low : marks x % 16 % 2 ≡ marks x % 2 = omega arith in
-    and-mask (marks x % 16) 1
-    ∙ low
-    ∙ and-mod (x / 8) (bitOr (x / 4) (x / 2)) 1
-    ∙ ap (bitAnd (x / 8 % 2)) (or-mod (x / 4) (x / 2) 1)
+lowest : (x : ℕ) → marks x % 2 ≡ mark x
+lowest x = and-mod (x / 8) (bitOr (x / 4) (x / 2)) 1 ∙ ap (bitAnd (x / 8 % 2)) (or-mod (x / 4) (x / 2) 1)
 
 others : (x : ℕ) → marks x / 16 ≡ marks (x / 16)
 others x =
@@ -42,10 +32,7 @@ others x =
     and-shr (x / 8) (bitOr (x / 4) (x / 2)) 4 ∙ ap₂ bitAnd eight (or-shr (x / 4) (x / 2) 4 ∙ ap₂ bitOr four two)
 
 by-digit : (n x : ℕ) → above (suc n) x ≡ above n (x / 16) * 16 + mark x
-by-digit n x =
-    ap (λ (m : ℕ). bitAnd m (ones n * 16 + 1)) (sym (div-add-mod' (marks x) 16))
-    ∙ and-block 4 (marks x / 16) (ones n) (marks x % 16) 1 (omega arith) (omega arith)
-    ∙ ap₂ (λ (k m : ℕ). bitAnd k (ones n) * 16 + m) (others x) (lowest x)
+by-digit n x = under-one (marks x) (ones n) ∙ ap₂ (λ (k m : ℕ). bitAnd k (ones n) * 16 + m) (others x) (lowest x)
 
 digit : (x : ℕ) → ((mark x ≡ 0) × (x % 16 < 10)) ⊎ ((mark x ≡ 1) × (10 ≤ x % 16))
 digit x = case (x / 8 % 2) (x / 4 % 2) (x / 2 % 2) refl refl refl
@@ -58,15 +45,15 @@ digit x = case (x / 8 % 2) (x / 4 % 2) (x / 2 % 2) refl refl refl
         let r : x / 8 / 2 ≡ x / 16 = omega arith in
         omega arith
 
-    two : x / 4 % 2 < 2
-    two = omega arith
+    four : x / 4 % 2 < 2
+    four = omega arith
 
-    one : x / 2 % 2 < 2
-    one = omega arith
+    two : x / 2 % 2 < 2
+    two = omega arith
 
     case : (p q r : ℕ) → x / 8 % 2 ≡ p → x / 4 % 2 ≡ q → x / 2 % 2 ≡ r
         → ((bitAnd p (bitOr q r) ≡ 0) × (x % 16 < 10)) ⊎ ((bitAnd p (bitOr q r) ≡ 1) × (10 ≤ x % 16))
-    case zero q r e f g = inl (refl, omega (arith, bits, two, one))
+    case zero q r e f g = inl (refl, omega (arith, bits, four, two))
     case (suc zero) zero zero e f g = inl (refl, omega (arith, bits))
     case (suc zero) zero (suc zero) e f g = inr (refl, omega (arith, bits))
     case (suc zero) (suc zero) zero e f g = inr (refl, omega (arith, bits))

@@ -1,5 +1,5 @@
 -- What holds of digits, over any base and any count of them.
-use mathlib.Core.Path.{_≡_, refl, sym, ap, ap₂, _∙_}
+use mathlib.Core.Path.{_≡_, refl, sym, ap}
 use mathlib.Core.Bool.{Bool, true, false, _&&_, false≢true}
 use mathlib.Core.List.{List, [], _∷_}
 use Prim.Native.Nat.{ℕ, zero, suc, _+_, _*_, _/_, _%_, _^_, _<_, _≤_}
@@ -11,14 +11,14 @@ use lib.ListN.{length}
 use borrow.Author.Tests.{lt-ltb, ltb-true}
 use Rattle.decimals.specs.Digits.{digits, number, below, sums}
 
-pub both : (s t : Bool) → s && t ≡ true → (s ≡ true) × (t ≡ true)
-both true t h = (refl, h)
-both false t h = absurd (false≢true h)
+pub and-both : (s t : Bool) → s && t ≡ true → (s ≡ true) × (t ≡ true)
+and-both true t h = (refl, h)
+and-both false t h = absurd (false≢true h)
 
 -- of digits below b, the lowest and the others
 pub parts : (b d : ℕ) (ds : List ℕ) → below b (d ∷ ds) ≡ true → (d < b) × (below b ds ≡ true)
 parts b d ds h =
-    let p = both (ltb d b) (below b ds) h in
+    let p = and-both (ltb d b) (below b ds) h in
     (ltb-true d b (p .0), p .1)
 
 -- digits below one base are below a larger one
@@ -69,7 +69,7 @@ module _ (b : ℕ) where
     sums-below c (d ∷ ds) (e ∷ es) =
         rw (lt-ltb ((d + e + c) % b) b (mod-lt (d + e + c) positive)) (sums-below _ ds es)
 
-    -- it stands for the sum of the numbers and the carry, modulo b ^ n
+    -- digits added with a carry stand for the sum of the numbers and the carry, modulo b ^ n
     pub number-of-sums : (c : ℕ) (ds es : List ℕ) → length ds ≡ length es
         → number b (sums b c ds es) ≡ (number b ds + number b es + c) % b ^ length ds
     number-of-sums c [] es h = rw (pow-zero, mod-one)

@@ -4,5 +4,7 @@ pub mod DigitLaws
 pub mod Packed
 pub mod PackedLaws
 pub mod WrittenOut
+pub mod Masks
 pub mod AboveNine
+pub mod AllAtOnce
 pub mod FourDigits

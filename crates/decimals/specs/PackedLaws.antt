@@ -10,20 +10,9 @@ use lib.Dec.{ltb}
 use lib.ListN.{length}
 use borrow.Author.Tests.{lt-ltb, ltb-true}
 use Rattle.decimals.specs.Digits.{digits, number, below, sums}
-use Rattle.decimals.specs.DigitLaws.{both, below-larger, digits-of-number, number-below, length-digits, digits-below}
+use Rattle.decimals.specs.DigitLaws.{and-both, below-larger, digits-of-number, number-below, length-digits, digits-below}
 use Rattle.decimals.specs.DigitLaws.{number-of-digits, length-sums, sums-below, number-of-sums}
 use Rattle.decimals.specs.Packed.{pack, packed, unpack, sum}
-
--- n decimal digits are found again in the number that has them packed
-module _ (n : ℕ) (ds : List ℕ) (count : length ds ≡ n) (decimal : below 10 ds ≡ true) where
-  found : digits 16 n (number 16 ds) ≡ ds
-  found = rw (← count) (digits-of-number 16 ds (below-larger (omega arith) ds decimal))
-
-  found-packed : packed n (number 16 ds) ≡ true
-  unfolding packed
-  found-packed =
-      let fits : number 16 ds < 16 ^ n = rw (← count) (number-below 16 ds (below-larger (omega arith) ds decimal)) in
-      rw (lt-ltb (number 16 ds) (16 ^ n) fits, found) decimal
 
 -- digits written as a number in one base are packed, and unpacked, as the same digits in the other
 module _ (ds : List ℕ) where
@@ -39,6 +28,17 @@ module _ (ds : List ℕ) where
   unfolding packed
   packed-digits h = rw (lt-ltb (number 16 ds) (16 ^ length ds) (number-below 16 ds h), digits-of-number 16 ds h)
 
+-- n decimal digits are found again in the number that has them packed
+module _ (n : ℕ) (ds : List ℕ) (count : length ds ≡ n) (decimal : below 10 ds ≡ true) where
+  bits : below 16 ds ≡ true
+  bits = below-larger (omega arith) ds decimal
+
+  found : digits 16 n (number 16 ds) ≡ ds
+  found = rw (← count) (digits-of-number 16 ds bits)
+
+  found-packed : packed n (number 16 ds) ≡ true
+  found-packed = rw (← count) (packed-digits ds bits ∙ decimal)
+
 module _ (n x : ℕ) where
   -- UNPACK UNDOES PACK ON 0 TO 10 ^ N - 1
   pub unpack-pack : x < 10 ^ n → unpack n (pack n x) ≡ x
@@ -53,13 +53,13 @@ module _ (n x : ℕ) where
   pack-packed = found-packed n (digits 10 n x) (length-digits 10 n x) (digits-below 10 (omega arith) n x)
 
   module _ (h : packed n x ≡ true) where
-    decimal : below 10 (digits 16 n x) ≡ true
+    pub decimal : below 10 (digits 16 n x) ≡ true
     unfolding packed
-    decimal = both (ltb x (16 ^ n)) (below 10 (digits 16 n x)) h .1
+    decimal = and-both (ltb x (16 ^ n)) (below 10 (digits 16 n x)) h .1
 
-    fits : x < 16 ^ n
+    pub fits : x < 16 ^ n
     unfolding packed
-    fits = ltb-true x (16 ^ n) (both (ltb x (16 ^ n)) (below 10 (digits 16 n x)) h .0)
+    fits = ltb-true x (16 ^ n) (and-both (ltb x (16 ^ n)) (below 10 (digits 16 n x)) h .0)
 
     -- PACK UNDOES UNPACK ON PACKED NUMBERS OF N DIGITS
     pub pack-unpack : pack n (unpack n x) ≡ x

@@ -1,13 +1,13 @@
 -- What the statement of a record that breaks no rule has: the opcode that it says, operands within limits, and for an assignment a
--- register or a shared word as its destination.
-use mathlib.Core.Path.{_≡_, refl, sym, subst}
-use mathlib.Core.Bool.{Bool, true, false, cond, false≢true}
+-- register or a shared word as its destination; and an operator only where its opcode has one.
+use mathlib.Core.Path.{_≡_, refl, sym, _∙_, subst}
+use mathlib.Core.Bool.{Bool, true, false, cond, and-false, false≢true}
 use mathlib.Core.Option.{Option, none, some}
 use mathlib.Core.List.{List, [], _∷_}
-use Prim.Native.Nat.{ℕ, zero, suc, _+_, _<_}
+use Prim.Native.Nat.{ℕ, zero, suc, _+_, _≤_, _<_}
 use native.Mathlib.Omega.{arith}
 use lib.Dec.{eqb, leb}
-use borrow.Author.Tests.{eqb-true}
+use borrow.Author.Tests.{eqb-true, ne-eqb}
 use Rattle.rules.specs.Sizes.{registerCount, wordCount}
 use Rattle.rules.specs.Codes.{ifCode, lessCode}
 use Rattle.rules.specs.Image.{opcode, operator, operands, kind, value}
@@ -172,3 +172,35 @@ module _ {image r : List ℕ} (p : Parts image r) (c : Condition) (e : statement
 
   pub tests-right : Fits (operandAt r 1)
   tests-right = slot-fits r (p .slots) 1 (omega (arith, two)) (omega arith)
+
+-- ---- operators
+
+-- an opcode from 12 on has no operator
+pub no-operator : {image r : List ℕ} → Parts image r → 12 ≤ opcode r → operator r ≡ 0
+unfolding operationAt otherOk otherAt
+no-operator {r = r} p l = case (eqb (operator r) 0) refl
+  where
+    other-than : (n : ℕ) → n < 12 → eqb (opcode r) n ≡ false
+    other-than n h = ne-eqb (opcode r) n (λ e. absurd (omega arith))
+
+    unknown : otherOk r ≡ false
+    unknown =
+        simp (
+          other-than 1 (omega arith),
+          other-than 3 (omega arith),
+          other-than 4 (omega arith),
+          other-than 5 (omega arith),
+          other-than 6 (omega arith),
+          other-than 7 (omega arith),
+          other-than 8 (omega arith),
+          other-than 9 (omega arith),
+          other-than 10 (omega arith),
+          other-than 11 (omega arith),
+        )
+
+    case : (b : Bool) → eqb (operator r) 0 ≡ b → operator r ≡ 0
+    case true f = eqb-true (operator r) 0 f
+    case false f =
+        let none-found : operationAt (opcode r) (operator r) ≡ none = simp (other-than 2 (omega arith), f, and-false) in
+        let other : otherOk r ≡ true = subst (λ (k : Option Operation). shapeOk k r ≡ true) none-found (head-fields r (p .head) .shaped) in
+        absurd (false≢true (sym unknown ∙ other))

@@ -1,21 +1,20 @@
 -- A step at a record of PACK, UNPACK or DECIMAL ADD: what it stores, over any operands; its traps, which store nothing; and which records
 -- of them are faulty.
-use mathlib.Core.Path.{_≡_, refl, ap, _∙_}
+use mathlib.Core.Path.{_≡_, refl, ap}
 use mathlib.Core.Logic.{_≢_, _⊎_, inl, inr}
-use mathlib.Core.Bool.{true, false, cond, _&&_, and-false}
-use mathlib.Core.Option.{Option, none, some}
+use mathlib.Core.Bool.{true, false, cond, and-false}
+use mathlib.Core.Option.{Option, none}
 use mathlib.Core.List.{List}
 use Prim.Native.Nat.{ℕ, _+_, _*_, _≤_, _<_}
 use native.Mathlib.Omega.{arith}
 use lib.ListN.{length, getD}
-use borrow.Author.Tests.{lt-ltb, le-ltb, le-leb}
-use Rattle.decimals.specs.Packed.{packed}
+use borrow.Author.Tests.{lt-ltb, le-ltb, le-leb, eq-eqb}
 use Rattle.decimals.specs.WrittenOut as written
 use Rattle.decimals.specs.WrittenOut.{Below, all-decimal, one-above}
 use Rattle.rules.specs.Image.{recordAt, opcode, operator, blockField, entry, operands, kind}
 use Rattle.rules.specs.Statements.{shape, optional, assignmentBy, assignmentOf, statementOf}
 use Rattle.rules.specs.Check.{assignOk, headOk}
-use Rattle.rules.specs.Machine.{Job, job, withHeld, running, Machine, threadAt}
+use Rattle.rules.specs.Machine.{Job, job, withHeld, Machine}
 use Rattle.rules.specs.Effects.{trap, got, read, one, compute, assigned}
 use Rattle.rules.specs.Steps.{Reply, blockAt}
 use Rattle.rules.specs.Storing.{Place, read-stored}
@@ -29,18 +28,12 @@ use Rattle.rules.proofs.Running.{cellsOf, MovesOn}
 use Rattle.rules.proofs.Opcodes.{stepOf, A}
 use Rattle.rules.proofs.Assigning.{operand, TrapsWith, goes-on, traps, reads-absent}
 use Rattle.rules.proofs.Standing.{Stands, placed}
-use Rattle.rules.proofs.Forms.{WithoutOperator, pack-form, unpack-form, decimal-add-form, operator-faulty, number-faulty}
-use Rattle.rules.proofs.Forms.{count-faulty}
+use Rattle.rules.proofs.Forms.{At, WithoutOperator, pack-form, unpack-form, decimal-add-form, statement-of, operator-faulty}
+use Rattle.rules.proofs.Forms.{number-faulty, count-faulty, passes}
 
--- thread t holds these locks and runs this job, at whose label a record of opcode op stands, which has no operator
-pub record AtDecimal (image : List ℕ) (s : Machine) (t locks : ℕ) (j : Job) (op : ℕ) : Type 0 where
-  pub thread : threadAt s t ≡ running locks j
-  pub decimal : opcode (recordAt image (j .label)) ≡ op
-  pub plain : operator (recordAt image (j .label)) ≡ 0
-
--- operand 0 of that record is the destination z, and operand 1 is read as p
+-- thread t runs this job at a record of opcode op, of which operand 0 is the destination z, and operand 1 is read as p
 pub record Takes (image : List ℕ) (s : Machine) (t locks : ℕ) (j : Job) (op : ℕ) (z : Operand) (p : ℕ) : Type 0 where
-  pub here : AtDecimal image s t locks j op
+  pub here : At image s t locks j op
   pub destination : operand image j 0 ≡ z
   pub left : read (cellsOf image s j) (operand image j 1) ≡ got p
 
@@ -53,13 +46,12 @@ pub record OneStands (image : List ℕ) (reply : Reply) (t locks : ℕ) (j : Job
 -- ---- a step of an operation with one destination and no operator
 
 module _ (image table : List ℕ) (s : Machine) (t locks : ℕ) (j : Job) (op : ℕ) (k : Operation) (form : WithoutOperator op k)
-    (here : AtDecimal image s t locks j op) where
+    (here : At image s t locks j op) where
   abbrev a : Assignment
   a = assignmentOf k (recordAt image (j .label))
 
   statement : statementOf (recordAt image (j .label)) ≡ Assign a
-  unfolding statementOf
-  statement = rw (here .decimal, here .plain, form .named)
+  statement = statement-of op k form (recordAt image (j .label)) (here .code) (here .plain)
 
   absent : (r : ℕ) → (a .left ≡ Register r) ⊎ (a .right ≡ Register r) → getD (j .registers) r none ≡ none
       → TrapsWith (stepOf image table s t) s t 1
@@ -118,10 +110,10 @@ pub record Decimals (image table : List ℕ) (s : Machine) (t locks : ℕ) (j : 
   pub second-digit : (a b c d p : ℕ) → OneAbove a b c d → (z : Operand) → Takes image s t locks j 15 z p
       → read (cellsOf image s j) (operand image j 2) ≡ got (4096 * a + 256 * b + 16 * c + d) → TrapsWith (stepOf image table s t) s t 9
   -- an absent register is found before that: operand 1 of each, and operand 2 of DECIMAL ADD
-  pub absent-first : (op n r : ℕ) → Decimal op n → AtDecimal image s t locks j op
+  pub absent-first : (op n r : ℕ) → Decimal op n → At image s t locks j op
       → (operand image j 1 ≡ Register r) ⊎ ((n ≡ 3) × (operand image j 2 ≡ Register r)) → getD (j .registers) r none ≡ none
       → TrapsWith (stepOf image table s t) s t 1
-  -- an operator, a number as destination, and another count of operands make the record faulty under number 4; others do not
+  -- an operator, a number as destination, and another count of operands break the rules of a record's head; without these it breaks none
   pub with-operator : (op n : ℕ) (r : List ℕ) → Decimal op n → opcode r ≡ op → operator r ≢ 0 → headOk r ≡ false
   pub number-destination : (op n : ℕ) (r : List ℕ) → Decimal op n → opcode r ≡ op → kind r 0 ≡ 1 → headOk r ≡ false
   pub operand-count : (op n : ℕ) (r : List ℕ) → Decimal op n → opcode r ≡ op → operands r ≢ n → headOk r ≡ false
@@ -148,7 +140,7 @@ module _ (image table : List ℕ) (s : Machine) (t locks : ℕ) (j : Job) where
     unary-traps : (reason : ℕ) → compute k p 0 ≡ trap reason → TrapsWith (stepOf image table s t) s t reason
     unary-traps = traps-by image table s t locks j op k form (h .here) p 0 left right
 
-  absent-operand : (op n r : ℕ) → Decimal op n → AtDecimal image s t locks j op
+  absent-operand : (op n r : ℕ) → Decimal op n → At image s t locks j op
       → (operand image j 1 ≡ Register r) ⊎ ((n ≡ 3) × (operand image j 2 ≡ Register r)) → getD (j .registers) r none ≡ none
       → TrapsWith (stepOf image table s t) s t 1
   unfolding assignmentBy optional
@@ -167,12 +159,12 @@ each P x y z op n (inl e) = rw (e .0, e .1) x
 each P x y z op n (inr (inl e)) = rw (e .0, e .1) y
 each P x y z op n (inr (inr e)) = rw (e .0, e .1) z
 
-passes : (op n : ℕ) (k : Operation) → WithoutOperator op k → assignOk (shape k) n 2 0 0 0 ≡ true → shape k .second ≡ false
+-- with the right number of operands, and a register or a word as destination
+passes-with : (op n : ℕ) (k : Operation) → WithoutOperator op k → shape k .second ≡ false → n ≡ 1 + cond (shape k .right) 2 1
     → (r : List ℕ) → opcode r ≡ op → operator r ≡ 0 → blockField r < 16 → entry r < 4 → operands r ≡ n → 2 ≤ kind r 0 → headOk r ≡ true
-unfolding headOk assignOk
-passes op n k form counted single r e o b f c d =
-    rw (e, o, form .named, lt-ltb (blockField r) 16 b, lt-ltb (entry r) 4 f, c, le-leb 2 (kind r 0) d, single)
-    (rw single at counted)
+unfolding assignOk
+passes-with op n k form single counted r e o b f c d =
+    passes op k form r e o b f (rw (single, c, counted, eq-eqb (1 + cond (shape k .right) 2 1) _ refl, le-leb 2 (kind r 0) d))
 
 pub decimals : (image table : List ℕ) (s : Machine) (t locks : ℕ) (j : Job) → Decimals image table s t locks j
 unfolding assignmentBy optional assignOk
@@ -208,6 +200,6 @@ decimals image table s t locks j = record {
       (count-faulty 14 Unpack unpack-form r) (count-faulty 15 DecimalAdd decimal-add-form r) op n;
   well-formed = λ op n r.
       each (λ o m. opcode r ≡ o → operator r ≡ 0 → blockField r < 16 → entry r < 4 → operands r ≡ m → 2 ≤ kind r 0 → headOk r ≡ true)
-      (passes 13 2 Pack pack-form refl refl r) (passes 14 2 Unpack unpack-form refl refl r)
-      (passes 15 3 DecimalAdd decimal-add-form refl refl r) op n;
+      (passes-with 13 2 Pack pack-form refl refl r) (passes-with 14 2 Unpack unpack-form refl refl r)
+      (passes-with 15 3 DecimalAdd decimal-add-form refl refl r) op n;
 }

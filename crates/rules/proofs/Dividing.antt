@@ -3,47 +3,41 @@
 use mathlib.Core.Path.{_≡_, refl, ap, _∙_}
 use mathlib.Core.Logic.{_≢_, _⊎_, inl, inr}
 use mathlib.Core.Bool.{Bool, true, false, not, _&&_, and-false}
-use mathlib.Core.Option.{Option, none, some}
-use mathlib.Core.List.{List, [], _∷_}
+use mathlib.Core.Option.{Option, none}
+use mathlib.Core.List.{List}
 use Prim.Native.Nat.{ℕ, zero, suc, _+_, _*_, _≤_, _<_}
 use native.Mathlib.Omega.{arith}
 use lib.ListN.{length, getD}
 use lib.Dec.{eqb}
-use borrow.Author.Tests.{eq-eqb, ne-eqb, lt-ltb, le-leb}
+use borrow.Author.Tests.{eq-eqb, ne-eqb, le-leb}
 use Rattle.rules.specs.Sizes.{wordCount}
 use Rattle.rules.specs.Bytes.{firstBad}
 use Rattle.rules.specs.Image.{labels, recordAt, opcode, operator, blockField, entry, operands, kind, value}
-use Rattle.rules.specs.Statements.{shape, operationAt, otherAt, optional, assignmentBy, assignmentOf, statementOf}
-use Rattle.rules.specs.Check.{assignOk, otherOk, shapeOk, headOk, ruleOk, recordOk, imageLengthFault, tableLengthFault, tableFault}
+use Rattle.rules.specs.Statements.{optional, assignmentBy, assignmentOf, statementOf}
+use Rattle.rules.specs.Check.{assignOk, headOk, ruleOk, recordOk, imageLengthFault, tableLengthFault, tableFault}
 use Rattle.rules.specs.Check.{recordFault, firstOf}
 use Rattle.rules.specs.Calls.{checkReturn}
-use Rattle.rules.specs.Machine.{Job, job, withHeld, running, Machine, threadAt, keep}
-use Rattle.rules.specs.Effects.{got, Cells, present, read, both, compute, store}
+use Rattle.rules.specs.Machine.{Job, job, withHeld, Machine}
+use Rattle.rules.specs.Effects.{got, Cells, read, both, compute, store}
 use Rattle.rules.specs.Steps.{Reply, blockAt}
 use Rattle.rules.specs.Division.{computed, by-zero}
-use Rattle.rules.specs.Storing.{Place, length-window, length-words, place-stored, first-stored, second-stored}
+use Rattle.rules.specs.Storing.{Place, first-stored, second-stored}
 use Rattle.rules.specs.declared.statement.Operand.{Operand}
-use Rattle.rules.specs.declared.statement.Operand.the-variants.{Number, Register, Word}
-use Rattle.rules.specs.declared.statement.Operation.{Operation}
+use Rattle.rules.specs.declared.statement.Operand.the-variants.{Register}
 use Rattle.rules.specs.declared.statement.Operation.the-variants.{Divide}
 use Rattle.rules.specs.declared.statement.Assignment.{Assignment}
 use Rattle.rules.specs.declared.statement.Statement.the-variants.{Assign}
 use Rattle.rules.proofs.Running.{cellsOf, MovesOn}
-use Rattle.rules.proofs.Opcodes.{stepOf, A, register}
+use Rattle.rules.proofs.Opcodes.{stepOf, A}
 use Rattle.rules.proofs.Assigning.{operand, TrapsWith, goes-on, traps, reads-absent}
 use Rattle.rules.proofs.Standing.{Stands, placed}
 use Rattle.rules.proofs.Forms as forms
-use Rattle.rules.proofs.Forms.{divide-form, faulty, count-faulty}
+use Rattle.rules.proofs.Forms.{At, divide-form, statement-of, faulty, count-faulty, passes}
 
--- thread t holds these locks and runs this job, at whose label a record of opcode 12 stands, which has no operator
-pub record AtDivide (image : List ℕ) (s : Machine) (t locks : ℕ) (j : Job) : Type 0 where
-  pub thread : threadAt s t ≡ running locks j
-  pub divide : opcode (recordAt image (j .label)) ≡ 12
-  pub plain : operator (recordAt image (j .label)) ≡ 0
-
--- operands 0 and 1 of that record are the destinations d and e, and operands 2 and 3 are read as p and q
+-- thread t runs this job at a record of opcode 12, of which operands 0 and 1 are the destinations d and e, and operands 2 and 3 are read as
+-- p and q
 pub record Divides (image : List ℕ) (s : Machine) (t locks : ℕ) (j : Job) (d e : Operand) (p q : ℕ) : Type 0 where
-  pub here : AtDivide image s t locks j
+  pub here : At image s t locks j 12
   pub quotient : operand image j 0 ≡ d
   pub remainder : operand image j 1 ≡ e
   pub left : read (cellsOf image s j) (operand image j 2) ≡ got p
@@ -65,11 +59,10 @@ module _ (image table : List ℕ) (s : Machine) (t locks : ℕ) (j : Job) where
   abbrev own : ℕ
   own = blockAt image (j .label)
 
-  statement : AtDivide image s t locks j → statementOf (recordAt image (j .label)) ≡ Assign a
-  unfolding statementOf operationAt
-  statement h = rw (h .divide, h .plain)
+  statement : At image s t locks j 12 → statementOf (recordAt image (j .label)) ≡ Assign a
+  statement h = statement-of 12 Divide divide-form (recordAt image (j .label)) (h .code) (h .plain)
 
-  absent : (i r : ℕ) → (i ≡ 2) ⊎ (i ≡ 3) → AtDivide image s t locks j → operand image j i ≡ Register r
+  absent : (i r : ℕ) → (i ≡ 2) ⊎ (i ≡ 3) → At image s t locks j 12 → operand image j i ≡ Register r
       → getD (j .registers) r none ≡ none → TrapsWith (stepOf image table s t) s t 1
   unfolding assignmentBy optional
   absent i r place h source = reads-absent image table s t locks j a (h .thread) (statement h) r (either place)
@@ -157,7 +150,7 @@ pub record Divisions (image table : List ℕ) (s : Machine) (t locks : ℕ) (j :
       → BothStand image (stepOf image table s t) t locks j d e u v
   -- "A zero q traps with reason 8, after 7, and stores neither": and an absent register, operand 2 or 3, is found before it
   pub zero-divisor : (p : ℕ) (d e : Operand) → Divides image s t locks j d e p 0 → TrapsWith (stepOf image table s t) s t 8
-  pub absent-first : (i r : ℕ) → (i ≡ 2) ⊎ (i ≡ 3) → AtDivide image s t locks j → operand image j i ≡ Register r
+  pub absent-first : (i r : ℕ) → (i ≡ 2) ⊎ (i ≡ 3) → At image s t locks j 12 → operand image j i ≡ Register r
       → getD (j .registers) r none ≡ none → TrapsWith (stepOf image table s t) s t 1
   -- "Equal destinations make the record faulty under number 4": at the first label that has them, if no record before it is faulty
   pub equal-destinations : (l : ℕ) → l < labels image → EqualDestinations (recordAt image l) → ((i : ℕ) → i < l → recordOk image i ≡ true)
@@ -184,18 +177,9 @@ equal-refused image table l h f before x y z =
 
 others-pass : (r : List ℕ) → opcode r ≡ 12 → operator r ≡ 0 → blockField r < 16 → entry r < 4 → operands r ≡ 4
     → 2 ≤ kind r 0 → 2 ≤ kind r 1 → (kind r 0 ≢ kind r 1) ⊎ (value r 0 ≢ value r 1) → headOk r ≡ true
-unfolding headOk operationAt assignOk
+unfolding assignOk
 others-pass r e o b f c k l n =
-    rw (
-      e,
-      o,
-      lt-ltb (blockField r) 16 b,
-      lt-ltb (entry r) 4 f,
-      c,
-      le-leb 2 (kind r 0) k,
-      le-leb 2 (kind r 1) l,
-      differ n,
-    )
+    passes 12 Divide divide-form r e o b f (rw (c, le-leb 2 (kind r 0) k, le-leb 2 (kind r 1) l, differ n))
   where
     differ : (kind r 0 ≢ kind r 1) ⊎ (value r 0 ≢ value r 1) → (eqb (kind r 0) (kind r 1) && eqb (value r 0) (value r 1)) ≡ false
     differ (inl h) = rw (ne-eqb (kind r 0) (kind r 1) h)

@@ -11,7 +11,7 @@ use lib.Dec.{eqb, ltb}
 use borrow.Author.Tests.{ltb-true, eqb-true, eqb-false, eq-eqb}
 use Rattle.rules.specs.Sizes.{lockCount, blockKindCount, blockCount}
 use Rattle.rules.specs.Codes.{fdCode, cmxCode}
-use Rattle.rules.specs.Image.{labels, recordAt, blockField, entry, labelA, labelB, kind, Row, rowAt}
+use Rattle.rules.specs.Image.{labels, recordAt, blockField, entry, labelA, labelB, Row, rowAt}
 use Rattle.rules.specs.Statements.{statementOf, roleA, roleB, dataOf}
 use Rattle.rules.specs.Check.{labelOk, recordOk}
 use Rattle.rules.specs.Machine.{Signal, Job}

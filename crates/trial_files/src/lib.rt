@@ -1,4 +1,4 @@
-// What the trials read from files: the buffers of a case, and the lines that edit them and say what a call must do; and a tally of them.
+// The files of the trials: the buffers of a case, the text of its lines, the edits and marks in them; and the tally of lines that agree.
 pub mod edits;
 pub mod files;
 pub mod marks;
