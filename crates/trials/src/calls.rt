@@ -1,17 +1,17 @@
 // The calls on the buffers in memory. A buffer that a call may change is a copy, and is lent at the buffer's length; the link's output
 // is lent at the length that is asked for.
-use trial_files::memory::ANSWERS;
-use trial_files::memory::EVENTS;
-use trial_files::memory::FIRST;
-use trial_files::memory::IMAGE;
-use trial_files::memory::Lengths;
-use trial_files::memory::MET;
-use trial_files::memory::Memory;
-use trial_files::memory::SECOND;
-use trial_files::memory::STATE;
-use trial_files::memory::TABLE;
-use trial_files::memory::WORDS;
-use trial_files::memory::bytes;
+use crate::memory::ANSWERS;
+use crate::memory::EVENTS;
+use crate::memory::FIRST;
+use crate::memory::IMAGE;
+use crate::memory::Lengths;
+use crate::memory::MET;
+use crate::memory::Memory;
+use crate::memory::SECOND;
+use crate::memory::STATE;
+use crate::memory::TABLE;
+use crate::memory::WORDS;
+use crate::memory::bytes;
 
 pub fn check(memory: &Memory, lengths: &Lengths) -> u32 {
     plex::plex_check(bytes(memory, lengths, IMAGE), bytes(memory, lengths, TABLE))

@@ -2,18 +2,18 @@
 use crate::calls::fresh;
 use crate::calls::run;
 use crate::calls::walk;
-use trial_files::marks::eight;
-use trial_files::marks::shows;
-use trial_files::memory::ANSWERS;
-use trial_files::memory::Lengths;
-use trial_files::memory::Memory;
-use trial_files::memory::PART;
-use trial_files::memory::STATE;
-use trial_files::memory::bytes;
-use trial_files::memory::same;
-use trial_files::text::after;
-use trial_files::text::named;
-use trial_files::text::number;
+use crate::marks::eight;
+use crate::marks::shows;
+use crate::memory::ANSWERS;
+use crate::memory::Lengths;
+use crate::memory::Memory;
+use crate::memory::PART;
+use crate::memory::STATE;
+use crate::memory::bytes;
+use crate::memory::same;
+use crate::text::after;
+use crate::text::named;
+use crate::text::number;
 
 // Whether Fresh and Run leave the answers and the state in the case's files.
 fn run_leaves(memory: &Memory, lengths: &Lengths) -> bool {

@@ -1,15 +1,15 @@
 // Trials that are not marked: 512 records pass, in one image and in two that are linked, and 513 do not.
 use crate::calls::check;
 use crate::calls::link;
-use trial_files::files::load;
-use trial_files::memory::FIRST;
-use trial_files::memory::IMAGE;
-use trial_files::memory::Lengths;
-use trial_files::memory::Memory;
-use trial_files::memory::PART;
-use trial_files::memory::SECOND;
-use trial_files::memory::set;
-use trial_files::tally::Tally;
+use crate::files::load;
+use crate::memory::FIRST;
+use crate::memory::IMAGE;
+use crate::memory::Lengths;
+use crate::memory::Memory;
+use crate::memory::PART;
+use crate::memory::SECOND;
+use crate::memory::set;
+use crate::tally::Tally;
 ghost use Prim.Native.Nat.{_<_};
 
 // A byte of an EXIT record of a block.

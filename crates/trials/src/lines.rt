@@ -1,15 +1,15 @@
 // Trials that are the lines of a file: CASE CALL EDIT.. => RETURN. A call is handed the files of its case, CASE.image and the others or
 // CASE.first and the others, with the edits carried out in order. The vectors are what independent implementations of the rules agree on.
 use crate::claims::agrees;
-use trial_files::edits::apply;
-use trial_files::files::load;
-use trial_files::files::read;
-use trial_files::memory::Lengths;
-use trial_files::memory::Memory;
-use trial_files::tally::Tally;
-use trial_files::text::after;
-use trial_files::text::begins;
-use trial_files::text::next;
+use crate::edits::apply;
+use crate::files::load;
+use crate::files::read;
+use crate::memory::Lengths;
+use crate::memory::Memory;
+use crate::tally::Tally;
+use crate::text::after;
+use crate::text::begins;
+use crate::text::next;
 
 // The bytes that are read of a file. The lines behind them would be missing from the counts.
 const TEXT: usize = 163840;

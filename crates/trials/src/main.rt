@@ -2,14 +2,20 @@
 mod calls;
 mod cases;
 mod claims;
+mod edits;
+mod files;
 mod limits;
 mod lines;
+mod marks;
+mod memory;
+mod tally;
+mod text;
 
 use limits::image_lengths;
 use limits::link_counts;
 use lines::try_file;
-use trial_files::memory::Lengths;
-use trial_files::memory::Memory;
+use memory::Lengths;
+use memory::Memory;
 
 // The lines that name `call`, a call of a machine: of the limits, and of the vectors of the base and of five requests.
 fn try_call(call: &[u8], memory: &mut Memory, lengths: &mut Lengths) {
