@@ -24,7 +24,7 @@ pub fn assign(
     requires { ⌜ At (now image) (now table) (now state) (t .0) w (now r) × (statementOf (now r) ≡ Assign a) ⌝ }
     ensures { λ z. ⌜ Stepped (now (image .entry)) (now (table .entry)) (now (state .entry)) (t .0) (now (state .exit)) z ⌝ }
 {
-    let results = results_of(state, w, r, a);
+    let results = results_of(state, t, w, r, a);
     if results.trap != 0 {
         return trapped(image, table, state, t, w, results.trap);
     }

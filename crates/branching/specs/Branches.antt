@@ -4,8 +4,8 @@ use mathlib.Core.Bool.{Bool, true, false, cond}
 use mathlib.Core.List.{List, [], _∷_}
 use Prim.Native.Nat.{ℕ, _<_}
 use Rattle.rules.specs.Image.{recordAt, labelA, labelB}
-use Rattle.rules.specs.Statements.{statementOf, conditionOf}
-use Rattle.rules.specs.Effects.{got, readAll, holds}
+use Rattle.rules.specs.Statements.{operandAt, optional, statementOf, conditionOf}
+use Rattle.rules.specs.Effects.{Got, got, readAll, holds}
 use Rattle.rules.specs.Machine.{Machine}
 use Rattle.rules.specs.Encoding.{machineFrom}
 use Rattle.rules.specs.declared.answer.Answer.{Answer}
@@ -34,14 +34,16 @@ module _ {image table b : List ℕ} {t : ℕ} {w : ThreadState} {r : List ℕ} (
   abbrev here : List ℕ
   here = recordAt image (w .label .0)
 
-  -- the operands of a condition are within limits
-  pub condition-fits : (c : Condition) → statementOf r ≡ If c → Fits (c .left) × Fits (c .right)
-  unfolding conditionOf
-  condition-fits c e =
-      let k = sym (tests (h .parts) c e .1) in
-      let left = subst (λ (q : Condition). Fits (q .left)) k (tests-left (h .parts) c e) in
-      let right = subst (λ (q : Condition). Fits (q .right)) k (tests-right (h .parts) c e) in
-      (left, right)
+  -- the operands of a condition are within limits, and stand at the first two places of its record
+  pub places-fit : (c : Condition) → statementOf r ≡ If c → Fits (operandAt r 0) × Fits (optional true r 1)
+  unfolding optional
+  places-fit c e = (tests-left (h .parts) c e, tests-right (h .parts) c e)
+
+  pub condition-at : (c : Condition) {g : Got (List ℕ)} → statementOf r ≡ If c
+      → readAll (cellsOf b w r) (operandAt r 0 ∷ optional true r 1 ∷ []) ≡ g → readAll (cellsOf b w r) (c .left ∷ c .right ∷ []) ≡ g
+  unfolding conditionOf optional
+  condition-at c {g} e q =
+      subst (λ (z : Condition). readAll (cellsOf b w r) (z .left ∷ z .right ∷ []) ≡ g) (sym (tests (h .parts) c e .1)) q
 
   pub branched : (c : Condition) (x y : ℕ) {l : ℕ} {b′ : List ℕ} {a : Answer} → statementOf r ≡ If c
       → readAll (cellsOf b w r) (c .left ∷ c .right ∷ []) ≡ got (x ∷ y ∷ []) → l ≡ cond (holds (c .relation) x y) (labelA r) (labelB r)

@@ -51,9 +51,7 @@ pub fn branch(
     requires { ⌜ At (now image) (now table) (now state) (t .0) w (now r) × (statementOf (now r) ≡ If c) ⌝ }
     ensures { λ a. ⌜ Stepped (now (image .entry)) (now (table .entry)) (now (state .entry)) (t .0) (now (state .exit)) a ⌝ }
 {
-    let left = c.left;
-    let right = c.right;
-    let pair = read_pair(state, w, r, left, right);
+    let pair = read_pair(state, t, w, r, 0, true);
     if pair.trap != 0 {
         return trapped(image, table, state, t, w, pair.trap);
     }

@@ -4,6 +4,7 @@ use block_table::lock_at;
 use block_table::thread_at;
 use image::record_fields::label_a;
 use image::records::block_at;
+use lock_sets::held::holds;
 use operands::read_data;
 use rules::codes::FD;
 use rules::codes::FOREIGN_FD_BLOCK;
@@ -83,10 +84,13 @@ fn passage_to(
     }
     let block = block_at(image, to);
     let lock = lock_at(table, block);
-    let holder = other_holder(state, lock, t, own);
     if is_alien(table, t, block) {
         return Passage::Trap(FOREIGN_FD_BLOCK);
     }
+    if holds(own, lock) {
+        return Passage::Go(lock);
+    }
+    let holder = other_holder(state, lock, t);
     if holder < Thread::COUNT {
         return Passage::Wait(lock, thread_of(holder as u8));
     }
@@ -108,7 +112,7 @@ pub fn send_passage(
     ensures { λ p. ⌜ Enters (now (image .entry)) (now (table .entry)) (now (state .entry)) (t .0) w (now (r .entry))
         (returnsOf w) (now (values .exit)) p ⌝ }
 {
-    let trap = read_data(state, w, r, values);
+    let trap = read_data(state, t, w, r, values);
     passage_to(image, table, state, t, w.locks, label_a(r), trap)
 }
 
@@ -127,6 +131,6 @@ pub fn call_passage(
     ensures { λ p. ⌜ Enters (now (image .entry)) (now (table .entry)) (now (state .entry)) (t .0) w (now (r .entry))
         (returnsOf w ++ (labelB (now (r .entry)) ∷ [])) (now (values .exit)) p ⌝ }
 {
-    let trap = call_trap(read_data(state, w, r, values), w.depth);
+    let trap = call_trap(read_data(state, t, w, r, values), w.depth);
     passage_to(image, table, state, t, w.locks, label_a(r), trap)
 }

@@ -43,7 +43,7 @@ pub fn first_signal(image: &[u8], table: &[u8], state: &[u8], t: Thread) -> Firs
         return First::Nothing;
     }
     let lock = lock_at(table, block_at(image, oldest_label(state, i)));
-    let holder = other_holder(state, lock, t, 0);
+    let holder = other_holder(state, lock, t);
     if holder < Thread::COUNT {
         return First::Wait(lock, thread_of(holder as u8));
     }

@@ -96,10 +96,6 @@ module _ (s : Machine) (sized : length (s .threads) ≡ threadCount) (l t : ℕ)
 abbrev pub Alone : Machine → ℕ → ℕ → Type 0
 Alone s t own = (u l : ℕ) → u ≢ t → has l own ≡ true → has l (locksOf (threadAt s u)) ≡ false
 
--- an idle thread has none
-pub none-own : (s : Machine) (t : ℕ) → Alone s t 0
-none-own s t u l n h = absurd (true≢false (sym h ∙ has-none l))
-
 -- where nobody holds a lock the search goes through all threads
 holder-none : (l : ℕ) (ws : List ThreadState) → held l ws ≡ false → holder l ws ≡ length ws
 unfolding held holder

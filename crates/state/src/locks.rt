@@ -18,7 +18,7 @@ ghost use Rattle.rules.specs.Machine.{idle};
 ghost use Rattle.rules.specs.Walk.{holder};
 ghost use Rattle.rules.specs.Encoding.{machineFrom};
 ghost use Rattle.encoding.specs.Encoded.{Canonical};
-ghost use Rattle.state.specs.Locks.{passes, Alone};
+ghost use Rattle.state.specs.Locks.{passes};
 
 // Whether the search for a holder passes thread t: it is the thread left out, or does not hold the lock.
 fn passed(state: &[u8], lock: Lock, out: Thread, t: Thread) -> bool
@@ -35,15 +35,12 @@ fn passed(state: &[u8], lock: Lock, out: Thread, t: Thread) -> bool
     !holds(locks, lock)
 }
 
-// The first thread but t that holds a lock, by its number; the number of threads where there is none. Of the locks that t has, `own`,
-// through whatever block of a group, no other thread has one, and nobody is asked.
-pub fn other_holder(state: &[u8], lock: Lock, t: Thread, own: u16) -> usize
-    requires { ⌜ Canonical (now state) × (lock .0 < lockCount) × Alone (machineFrom (now state)) (t .0) own ⌝ }
+// The first thread but t that holds a lock, by its number; the number of threads where there is none. Nobody needs to be asked for a lock
+// that t has (`Alone`).
+pub fn other_holder(state: &[u8], lock: Lock, t: Thread) -> usize
+    requires { ⌜ Canonical (now state) × (lock .0 < lockCount) ⌝ }
     ensures { λ r. ⌜ r ≡ holder (lock .0) (set (machineFrom (now (state .entry)) .threads) (t .0) idle) ⌝ }
 {
-    if holds(own, lock) {
-        return Thread::COUNT;
-    }
     let mut i = 0;
     while i < Thread::COUNT {
         if !passed(state, lock, t, thread_of(i as u8)) {

@@ -94,6 +94,11 @@ module _ {image table b : List ℕ} {t : ℕ} {w : ThreadState} {r : List ℕ} (
   pub at-busy : Busy b t
   at-busy = (w .locks, jobAt b t w, h .runs)
 
+  -- its registers, as the record has them
+  pub registers-here : w .registers ≡ registersIn b t
+  unfolding rawThread
+  registers-here = ap (λ (x : ThreadState). x .registers) (h .read)
+
   -- a running thread has a tree
   pub tree : (p : List Signal) × (first t (machineFrom b .trees) ≡ some p)
   tree = h .ready .sound .invariant .rooted t (jobAt b t w) (ap law.jobOf (h .runs))
@@ -156,8 +161,7 @@ module _ {image table b : List ℕ} {t : ℕ} {w : ThreadState} {r : List ℕ} (
       let f = runs-fields q .1 in
       let z = h .thread .tidy in
       let z′ = q .running .tidy in
-      let returns : w .returns ≡ returnsIn b t = ap (λ (x : ThreadState). x .returns) (h .read) in
-      let registers : w .registers ≡ registersIn b t = ap (λ (x : ThreadState). x .registers) (h .read) in (
+      let returns : w .returns ≡ returnsIn b t = ap (λ (x : ThreadState). x .returns) (h .read) in (
         same-returns w w′ z z′ (ap (λ (j : Job). j .returns) f) ∙ returns,
-        set-registers w w′ z z′ k v (ap (λ (j : Job). j .registers) f) ∙ ap (λ q. set q k v) registers,
+        set-registers w w′ z z′ k v (ap (λ (j : Job). j .registers) f) ∙ ap (λ q. set q k v) registers-here,
       )

@@ -1,35 +1,44 @@
--- The operands of a statement of ASSIGN's kind, where a running thread comes to it, and a thread in which one value was stored.
-use mathlib.Core.Path.{_≡_, sym, ap, _∙_, subst}
-use mathlib.Core.Bool.{Bool, false, cond}
+-- The operands of a statement of ASSIGN's kind, where a running thread comes to it: its destinations, by their kinds.
+use mathlib.Core.Path.{_≡_, refl, sym, ap, _∙_, subst}
+use mathlib.Core.Bool.{Bool, true, false, cond}
 use mathlib.Core.List.{List}
 use Prim.Native.Nat.{ℕ, _<_}
 use native.Mathlib.Omega.{arith}
-use lib.ListN.{set}
+use lib.Dec.{eqb}
 use borrow.Author.Tests.{ne-eqb}
-use Rattle.rules.specs.Machine.{job}
-use Rattle.rules.specs.Sizes.{registerCount, idleLabel}
-use Rattle.rules.specs.Statements.{shape, optional, statementOf, operandAt, assignmentBy}
+use Rattle.rules.specs.Sizes.{registerCount, wordCount, idleLabel}
+use Rattle.rules.specs.Codes.{numberOperandCode, registerOperandCode}
+use Rattle.rules.specs.Image.{kind, value}
+use Rattle.rules.specs.Statements.{shape, optional, statementOf, operandOf, operandAt, assignmentBy}
 use Rattle.rules.specs.declared.statement.Assignment.{Assignment}
 use Rattle.rules.specs.declared.statement.Operand.{Operand}
 use Rattle.rules.specs.declared.statement.Operand.the-variants.{Number, Register, Word}
 use Rattle.rules.specs.declared.statement.Statement.the-variants.{Assign}
-use Rattle.encoding.specs.Slots.{returnsIn, registersIn}
-use Rattle.threads.specs.Threads.{Running, Runs, jobOf, returnsOf, registersOf, runs-says}
+use Rattle.threads.specs.Threads.{Running, Runs, jobOf, runs-says}
 use Rattle.threads.specs.declared.thread.ThreadState.{ThreadState}
 use Rattle.operands.specs.Legal.{Fits}
 use Rattle.operands.specs.Statements.{Lands, assigns, first-lands, second-fits, left-fits, right-fits}
-use Rattle.step_ready.specs.At.{At, slots-assigned}
-use Rattle.storing.specs.Destinations.{registersAfter}
+use Rattle.operands.specs.TwoDestinations.{second-lands}
+use Rattle.step_ready.specs.At.{At}
 
 -- a running thread runs its job
 pub runs-itself : {w : ThreadState} → Running w → Runs w (w .locks) (jobOf w)
 runs-itself {w} h = record { state = runs-says w (ne-eqb (w .label .0) idleLabel (λ q. omega (arith, h .label))); running = h }
 
--- thread t of the bytes b, with one value stored in it: all registers but its destination are as the record has them
-abbrev pub OneChanged : List ℕ → ℕ → ThreadState → Operand → ℕ → Type 0
-OneChanged b t w (Number n) v = Unit {0}
-OneChanged b t w (Register k) v = (k < registerCount) × (w .returns ≡ returnsIn b t) × (w .registers ≡ set (registersIn b t) k v)
-OneChanged b t w (Word k) v = Unit {0}
+-- a destination is a register or a word, by its kind
+pub register-lands : (k v : ℕ) → k ≡ registerOperandCode → Lands (operandOf k v) → (operandOf k v ≡ Register v) × (v < registerCount)
+unfolding operandOf
+register-lands k v e h = (rw e refl, rw e at h)
+
+pub word-lands : (k v : ℕ) → (k ≡ registerOperandCode → ⊥) → Lands (operandOf k v) → (operandOf k v ≡ Word v) × (v < wordCount)
+unfolding operandOf
+word-lands k v n h =
+    let other = ne-eqb k registerOperandCode n in
+    rw other (case (eqb k numberOperandCode) (rw other at h))
+  where
+    case : (z : Bool) → Lands (cond z (Number v) (Word v)) → (cond z (Number v) (Word v) ≡ Word v) × (v < wordCount)
+    case true f = absurd f
+    case false f = (refl, f)
 
 -- the operands of an assignment are within limits
 pub record Legal (a : Assignment) : Type 0 where
@@ -44,12 +53,6 @@ lands-fits (Register k) h = h
 lands-fits (Word k) h = h
 
 module _ {image table b : List ℕ} {t : ℕ} {w : ThreadState} {r : List ℕ} (h : At image table b t w r) where
-  pub one-changed : {x : ThreadState} {locks l : ℕ} (d : Operand) (u : ℕ) → Fits d
-      → Runs x locks (job l (returnsOf w) (registersAfter d u (registersOf w))) → OneChanged b t x d u
-  one-changed (Number n) u f q = tt
-  one-changed (Register k) u f q = (f, slots-assigned h k u q .0, slots-assigned h k u q .1)
-  one-changed (Word k) u f q = tt
-
   module _ (a : Assignment) (e : statementOf r ≡ Assign a) where
     pub legal : Legal a
     unfolding assignmentBy
@@ -68,3 +71,18 @@ module _ {image table b : List ℕ} {t : ℕ} {w : ThreadState} {r : List ℕ} (
     one-destination f =
         ap (λ (q : Assignment). q .second) (assigns (h .parts) a e .1)
         ∙ ap (λ (q : Bool). cond q (operandAt r 1) (Number 0)) f
+
+    -- the destinations, by the kind and the value that stand at their places
+    pub first-at : (k v : ℕ) → k ≡ kind r 0 → v ≡ value r 0 → (a .first ≡ operandOf k v) × Lands (operandOf k v)
+    unfolding assignmentBy operandAt
+    first-at k v p q = rw (p, q) (ap (λ (z : Assignment). z .first) (assigns (h .parts) a e .1), first-lands (h .parts) a e)
+
+    pub second-at : (k v : ℕ) → k ≡ kind r 1 → v ≡ value r 1 → shape (a .operation) .second ≡ true
+        → (a .second ≡ operandOf k v) × Lands (operandOf k v)
+    unfolding assignmentBy optional operandAt
+    second-at k v p q f =
+        rw (p, q) (
+          ap (λ (z : Assignment). z .second) (assigns (h .parts) a e .1)
+              ∙ ap (λ (z : Bool). cond z (operandAt r 1) (Number 0)) f,
+          second-lands (h .parts) a e f,
+        )

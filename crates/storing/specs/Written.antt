@@ -1,25 +1,35 @@
 -- A thread that stands written in the state, and takes one value more in a register: all other registers are as the record has them.
 use mathlib.Core.Path.{_≡_, refl, sym, ap, _∙_, subst}
 use mathlib.Core.Bool.{Bool, true, false, false≢true}
-use mathlib.Core.List.{List}
-use mathlib.Core.Option.{some}
+use mathlib.Core.List.{List, [], _∷_, _++_}
+use mathlib.Core.Option.{Option, some}
 use Prim.Native.Nat.{ℕ, _<_}
+use native.Mathlib.Omega.{arith}
 use lib.Dec.{eqb}
-use lib.ListN.{set, drop}
-use Rattle.rules.specs.Sizes.{threadCount, idleLabel}
+use lib.ListN.{length, set, take, drop}
+use lib.Seq.{length-take-le}
+use Rattle.rules.specs.Sizes.{threadCount, returnsPlace, idleLabel}
+use Rattle.rules.specs.Bytes.{le16, part}
+use Rattle.rules.specs.Machine as law
 use Rattle.rules.specs.Machine.{Job, job, running, threadAt}
-use Rattle.rules.specs.Encoding.{machineFrom}
+use Rattle.rules.specs.Encoding.{threadRaw, threadBytes, machineFrom}
 use Rattle.encoding.specs.Encoded.{Canonical}
+use Rattle.encoding.specs.Layout.{thread-on}
 use Rattle.encoding.specs.Slots.{returnsIn, registersIn}
 use Rattle.threads.specs.Threads.{Runs, Says, jobOf, returnsOf, registersOf, runs-fields, idle-says, runs-says}
 use Rattle.threads.specs.Records.{threadPlace, rawThread, same-returns, set-registers}
 use Rattle.threads.specs.declared.thread.ThreadState.{ThreadState}
+use Rattle.thread_records.specs.Stores.{headBytes}
 use Rattle.thread_records.specs.Records.{thread-read}
 use Rattle.step_ready.specs.At.{jobAt}
 
 -- thread t of the bytes b is w, with the signals that it holds
 abbrev pub Standing : List ℕ → ℕ → ThreadState → Type 0
 Standing b t w = threadAt (machineFrom b) t ≡ running (w .locks) (jobAt b t w)
+
+-- the bytes of a record's head
+abbrev headOf : ℕ → ℕ → ℕ → List ℕ
+headOf label locks depth = le16 label ++ le16 locks ++ depth ∷ []
 
 module _ (b : List ℕ) (t : ℕ) (w : ThreadState) (h : Canonical b) (inside : t < threadCount) (stands : Standing b t w) where
   -- its record says the job of w
@@ -46,3 +56,20 @@ module _ (b : List ℕ) (t : ℕ) (w : ThreadState) (h : Canonical b) (inside : 
         set-registers there x (says .tidy) (r .running .tidy) k v
             (ap (λ (j : Job). j .registers) f ∙ sym (ap (λ (j : Job). set (j .registers) k (some v)) job-there)),
       )
+
+  -- and the head is as the record has it
+  pub head-then : {x : ThreadState} {registers : List (Option ℕ)} → Runs x (w .locks) (job (w .label .0) (returnsOf w) registers)
+      → headBytes x ≡ part b (threadPlace t) returnsPlace
+  unfolding part threadBytes threadRaw
+  head-then {x} q =
+      let d = thread-on (machineFrom b) t (threadPlace t) (h .sized .threads) inside refl in
+      let bytes : drop (threadPlace t) b ≡ threadBytes (running (w .locks) (jobAt b t w)) ++ d .0 =
+      ap (drop (threadPlace t)) (h .same) ∙ d .1 ∙ ap (λ (z : law.ThreadState). threadBytes z ++ d .0) stands in
+      let f = runs-fields q in
+      let z = q .running .tidy .returns in
+      let depth : x .depth ≡ length (returnsOf w) = sym (length-take-le (x .depth) (x .returns) (omega (arith, z .sized, z .within)))
+      ∙ ap (λ (j : Job). length (j .returns)) (f .1) in
+      ap (λ (n : ℕ). headOf n (x .locks) (x .depth)) (ap (λ (j : Job). j .label) (f .1))
+      ∙ ap (λ (n : ℕ). headOf (w .label .0) n (x .depth)) (f .0)
+      ∙ ap (headOf (w .label .0) (w .locks)) depth
+      ∙ sym (ap (take returnsPlace) bytes)

@@ -1,82 +1,59 @@
 // The values of a statement of ASSIGN's kind, stored: to registers of its thread, or to shared words of its block.
+use decoding::kind_at;
 use decoding::shape_of;
+use decoding::value_at;
 use image::record_fields::block_field;
 use image::record_fields::label_a;
+use rules::codes::REGISTER_OPERAND;
 use rules::sorts::Block;
 use rules::sorts::Thread;
 use rules::statement::Assignment;
-use rules::statement::Operand;
 use state::words::write_word;
 use thread_records::write_assigned;
+use thread_records::write_register;
 use thread_records::write_thread;
 use threads::thread::ThreadState;
 ghost use mathlib.Core.Path.{_≡_};
+ghost use mathlib.Core.Bool.{true};
 ghost use Prim.Native.Nat.{_<_};
 ghost use Rattle.rules.specs.Sizes.{threadCount, blockCount};
 ghost use Rattle.rules.specs.Image.{blockField, labelA};
 ghost use Rattle.rules.specs.Machine.{job};
 ghost use Rattle.rules.specs.Encoding.{machineFrom};
-ghost use Rattle.rules.specs.Statements.{statementOf};
+ghost use Rattle.rules.specs.Statements.{statementOf, operandOf, shape};
 ghost use Rattle.rules.specs.declared.statement.Statement.the-variants.{Assign};
 ghost use Rattle.encoding.specs.Encoded.{Encodes, Canonical};
-ghost use Rattle.threads.specs.Threads.{Running, Runs, returnsOf, registersOf, withJob};
-ghost use Rattle.operands.specs.Legal.{Fits};
+ghost use Rattle.threads.specs.Threads.{Running, Runs, returnsOf, registersOf};
+ghost use Rattle.operands.specs.Statements.{Lands};
 ghost use Rattle.step_ready.specs.At.{At};
-ghost use Rattle.storing.specs.Destinations.{registersAfter, withWordAt, withFirst, withSecond, landed};
-ghost use Rattle.storing.specs.Operands.{OneChanged};
+ghost use Rattle.storing.specs.Destinations.{registersAfter, withFirst, withSecond, landed};
 ghost use Rattle.storing.specs.Written.{Standing};
 
-// A value whose destination is a register goes there; any other leaves the thread as it is.
-fn store_register(w: ThreadState, to: Operand, v: u16) -> ThreadState
-    requires { ⌜ Running w × Fits to ⌝ }
-    ensures { λ x. ⌜ Runs x (w .locks) (job (w .label .0) (returnsOf w) (registersAfter to v (registersOf w))) ⌝ }
-{
-    match to {
-        Operand::Number(_) => w,
-        Operand::Register(k) => w.assign_register(k, v),
-        Operand::Word(_) => w,
-    }
-}
-
-// A value whose destination is a shared word of the block goes there; any other leaves the state as it is.
-fn store_word(state: &mut [u8], block: Block, to: Operand, v: u16)
-    requires { ⌜ Canonical (now state) × (block .0 < blockCount) × Fits to ⌝ }
-    ensures { λ _. ⌜ Encodes (now (state .exit)) (withWordAt (machineFrom (now (state .entry))) (block .0) to v) ⌝ }
-{
-    match to {
-        Operand::Number(_) => {}
-        Operand::Register(_) => {}
-        Operand::Word(k) => write_word(state, block, k, v),
-    }
-}
-
-// The record of a thread in which one value was stored, to a register or to none: one register is written, or all.
-fn write_one(state: &mut [u8], t: Thread, w: ThreadState, to: Operand, v: u16)
-    requires { ⌜ Canonical (now state) × (t .0 < threadCount) × Running w × OneChanged (now state) (t .0) w to v ⌝ }
-    ensures { λ _. ⌜ Encodes (now (state .exit)) (withJob (machineFrom (now (state .entry))) (t .0) (w .locks)
-        (job (w .label .0) (returnsOf w) (registersOf w))) ⌝ }
-{
-    match to {
-        Operand::Number(_) => write_thread(state, t, w),
-        Operand::Register(k) => write_assigned(state, t, w, k, v),
-        Operand::Word(_) => write_thread(state, t, w),
-    }
-}
-
-// The second value, after the thread w, which has the first, was written: one register, or one word, is stored by itself.
-fn store_second(state: &mut [u8], t: Thread, w: ThreadState, block: Block, to: Operand, v: u16)
-    requires { ⌜ Canonical (now state) × (t .0 < threadCount) × Running w × (block .0 < blockCount) × Fits to
+// The second value, after the thread w, which has the first, was written: one register, or one word, is stored by itself. Its destination
+// is no number.
+fn store_second(
+    state: &mut [u8],
+    t: Thread,
+    w: ThreadState,
+    block: Block,
+    kind: u8,
+    to: u16,
+    v: u16,
+)
+    requires { ⌜ Canonical (now state) × (t .0 < threadCount) × Running w × (block .0 < blockCount) × Lands (operandOf kind to)
         × Standing (now state) (t .0) w ⌝ }
-    ensures { λ _. ⌜ Encodes (now (state .exit)) (withSecond (machineFrom (now (state .entry))) (t .0) (block .0) w to v) ⌝ }
+    ensures { λ _. ⌜ Encodes (now (state .exit)) (withSecond (machineFrom (now (state .entry))) (t .0) (block .0) w
+        (operandOf kind to) v) ⌝ }
 {
-    match to {
-        Operand::Number(_) => {}
-        Operand::Register(k) => write_assigned(state, t, w.assign_register(k, v), k, v),
-        Operand::Word(k) => write_word(state, block, k, v),
+    if kind == REGISTER_OPERAND {
+        write_register(state, t, w.assign_register(to, v), to, v);
+    } else {
+        write_word(state, block, to, v);
     }
 }
 
 // The thread goes on to A, and the first value to its destination, with the thread's record. The thread that was written is handed back.
+// The kind of the destination, which is no number, is tested once.
 fn store_first(
     image: &[u8],
     table: &[u8],
@@ -92,15 +69,21 @@ fn store_first(
     ensures { λ x. ⌜ Encodes (now (state .exit)) (withFirst (machineFrom (now (state .entry))) (t .0) (blockField (now (r .entry))) x
         (a .first) u) ⌝ }
 {
-    let first = a.first;
+    let next = w.move_on(label_a(r));
+    let to = value_at(r, 0);
+    if kind_at(r, 0) == REGISTER_OPERAND {
+        let x = next.assign_register(to, u);
+        write_assigned(state, t, x, to, u);
+        return x;
+    }
     let block = block_field(r);
-    let next = store_register(w.move_on(label_a(r)), first, u);
-    write_one(state, t, next, first, u);
-    store_word(state, block, first, u);
+    write_thread(state, t, next);
+    write_word(state, block, to, u);
     next
 }
 
-// Both values, the second behind the first.
+// Both values, the second behind the first. The record of the image is read before the first store: the compiler cannot tell that a store
+// leaves it as it is.
 fn store_both(
     image: &[u8],
     table: &[u8],
@@ -112,12 +95,15 @@ fn store_both(
     u: u16,
     v: u16,
 )
-    requires { ⌜ At (now image) (now table) (now state) (t .0) w (now r) × (statementOf (now r) ≡ Assign a) ⌝ }
+    requires { ⌜ At (now image) (now table) (now state) (t .0) w (now r) × (statementOf (now r) ≡ Assign a)
+        × (shape (a .operation) .second ≡ true) ⌝ }
     ensures { λ _. ⌜ Encodes (now (state .exit)) (landed (machineFrom (now (state .entry))) (t .0) w (now (r .entry)) a u v) ⌝ }
 {
-    let second = a.second;
+    let block = block_field(r);
+    let kind = kind_at(r, 1);
+    let to = value_at(r, 1);
     let next = store_first(image, table, state, t, w, r, a, u);
-    store_second(state, t, next, block_field(r), second, v);
+    store_second(state, t, next, block, kind, to, v);
 }
 
 // The values to as many destinations as the operation has. It is asked before the first store, so that the compiler, which has just

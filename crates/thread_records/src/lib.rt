@@ -15,6 +15,7 @@ use rules::layout::RETURN_COUNT_PLACE;
 use rules::layout::RETURNS_PLACE;
 use rules::layout::THREAD_SIZE;
 use rules::layout::THREADS_PLACE;
+use rules::sorts::Label;
 use rules::sorts::Thread;
 use rules::sorts::label_number;
 use rules::sorts::label_of;
@@ -22,8 +23,9 @@ use rules::sorts::thread_number;
 use threads::thread::ThreadState;
 ghost use mathlib.Core.Path.{_≡_};
 ghost use Prim.Native.Nat.{_+_, _<_, _≤_};
-ghost use lib.ListN.{length, set, drop};
-ghost use Rattle.rules.specs.Sizes.{threadCount, returnCount, registerCount, threadSize, presencePlace, stateSize};
+ghost use lib.ListN.{length, getD, set, drop};
+ghost use Rattle.rules.specs.Sizes.{threadCount, returnCount, registerCount, threadSize, returnsPlace, presencePlace, stateSize};
+ghost use Rattle.rules.specs.Bytes.{part};
 ghost use Rattle.fields.specs.Put.{put};
 ghost use Rattle.encoding.specs.Slots.{returnsIn, registersIn};
 ghost use Rattle.threads.specs.Records.{threadPlace, rawThread, rawBytes};
@@ -54,6 +56,25 @@ pub fn read_thread(state: &[u8], t: Thread) -> ThreadState
         returns: returns,
         registers: registers,
     }
+}
+
+// The label of a thread's record, read by itself.
+pub fn read_label(state: &[u8], t: Thread) -> Label
+    requires { ⌜ (length (now state) ≡ stateSize) × (t .0 < threadCount) ⌝ }
+    ensures { λ r. ⌜ r ≡ rawThread (drop (threadPlace (t .0)) (now (state .entry))) .label ⌝ }
+{
+    label_of(get16(state, record_at(t)))
+}
+
+// One register of a thread's record, read by itself.
+pub fn read_register(state: &[u8], t: Thread, register: u16) -> u16
+    requires { ⌜ (length (now state) ≡ stateSize) × (t .0 < threadCount) × (register < registerCount) ⌝ }
+    ensures { λ r. ⌜ r ≡ getD (registersIn (now (state .entry)) (t .0)) register 0 ⌝ }
+{
+    get16(
+        state,
+        record_at(t) + REGISTERS_PLACE + 2 * (register as usize),
+    )
 }
 
 // The label, the locks and the depth of a record at a place.
@@ -95,6 +116,18 @@ pub fn write_thread(state: &mut [u8], t: Thread, w: ThreadState)
     let at = record_at(t);
     write_labels(state, at, w);
     write_registers(state, at, w);
+}
+
+// The same where the head and the return labels, and all registers but one, are as the record has them: they are not written.
+pub fn write_register(state: &mut [u8], t: Thread, w: ThreadState, register: u16, value: u16)
+    requires { ⌜ (length (now state) ≡ stateSize) × (t .0 < threadCount) × (register < registerCount)
+        × (headBytes w ≡ part (now state) (threadPlace (t .0)) returnsPlace)
+        × (w .returns ≡ returnsIn (now state) (t .0)) × (w .registers ≡ set (registersIn (now state) (t .0)) register value) ⌝ }
+    ensures { λ _. ⌜ now (state .exit) ≡ put (now (state .entry)) (threadPlace (t .0)) (rawBytes w) ⌝ }
+{
+    let at = record_at(t);
+    put32(state, at + PRESENCE_PLACE, w.present);
+    put16(state, at + REGISTERS_PLACE + 2 * (register as usize), value);
 }
 
 // The same where the return labels, and all registers but one, are as the record has them: they are not written.

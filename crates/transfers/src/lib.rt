@@ -27,7 +27,7 @@ pub fn transfer(
     ensures { λ a. ⌜ Stepped (now (image .entry)) (now (table .entry)) (now (state .entry)) (t .0) (now (state .exit)) a ⌝ }
 {
     let mut values = w.registers;
-    let trap = read_data(state, w, r, &mut values);
+    let trap = read_data(state, t, w, r, &mut values);
     if trap != 0 {
         return trapped(image, table, state, t, w, trap);
     }
@@ -47,7 +47,7 @@ pub fn give_back(
     ensures { λ a. ⌜ Stepped (now (image .entry)) (now (table .entry)) (now (state .entry)) (t .0) (now (state .exit)) a ⌝ }
 {
     let mut values = [0u16; Thread::REGISTERS];
-    let trap = read_data(state, w, r, &mut values);
+    let trap = read_data(state, t, w, r, &mut values);
     if trap != 0 {
         return trapped(image, table, state, t, w, trap);
     }

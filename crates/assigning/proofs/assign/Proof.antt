@@ -1,3 +1,5 @@
+use Rattle.operands.specs.Statements.{assigns}
+use Rattle.step_ready.specs.At.{registers-here}
 use Rattle.storing.specs.Operands.{legal}
 use Rattle.assigning.specs.Assigned.{unworked, assigned-stepped}
 use borrow.Author.Needs.{needs}
@@ -9,7 +11,8 @@ results-of-requires c κs =
     let s = c .before .before .before .before .before in
     let h = s .pre .0 in
     let fits = legal h (s .args .a) (s .pre .1) in
-    (h .ready .canonical .long, h .readable, fits .left, fits .right)
+    let placed = assigns (h .parts) (s .args .a) (s .pre .1) .1 in
+    (h .ready .canonical .long, h .readable, fits .left, fits .right, h .inside, registers-here h, placed)
 
 returns : tie.Need-returns
 returns c =

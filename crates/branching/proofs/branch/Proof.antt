@@ -2,8 +2,9 @@ use mathlib.Core.Path.{ap, _∙_}
 use mathlib.Core.Bool.{Bool, cond}
 use Rattle.rules.specs.Image.{labelA, labelB}
 use Rattle.rules.specs.declared.statement.Statement.the-variants.{If}
-use Rattle.step_ready.specs.At.{label-A, label-B, small, unread-stepped}
-use Rattle.branching.specs.Branches.{condition-fits, choice-below, branched}
+use Rattle.step_ready.specs.At.{registers-here, label-A, label-B, small, unread-stepped}
+use Rattle.branching.specs.Branches.{places-fit, condition-at, choice-below, branched}
+use native.Mathlib.Omega.{arith}
 use borrow.Author.Needs.{needs}
 use Rattle.branching.proofs.branch.Statement.{statement}
 use Rattle.branching.proofs.branch.Tie as tie
@@ -12,8 +13,8 @@ read-pair-requires : tie.Need-read-pair-requires
 read-pair-requires c κs =
     let s = c .before .before .before .before .before in
     let h = s .pre .0 in
-    let k = condition-fits h (s .args .c) (s .pre .1) in
-    (h .ready .canonical .long, h .readable, k .0, k .1)
+    let k = places-fit h (s .args .c) (s .pre .1) in
+    (h .ready .canonical .long, h .readable, omega arith, k .0, k .1, h .inside, registers-here h)
 
 returns : tie.Need-returns
 returns c =
@@ -21,7 +22,8 @@ returns c =
     let if1 = c .before .before .before .before .if1 in
     let read-pair = c .before .before .before .before .before .before .read-pair in
     let s = c .before .before .before .before .before .before .before .before .before .before .before .before in
-    unread-stepped (s .pre .0) (If (s .args .c)) (s .pre .1) (read-pair .ensures .trapped (if1 .taken))
+    unread-stepped (s .pre .0) (If (s .args .c)) (s .pre .1)
+    (condition-at (s .pre .0) (s .args .c) (s .pre .1) (read-pair .ensures .trapped (if1 .taken)))
     (trapped .ensures .0) (trapped .ensures .1)
 
 go-on-requires : tie.Need-go-on-requires
@@ -43,7 +45,8 @@ returns-2 c =
     let pair = read-pair in
     let r = s .args .r .now in
     let to = ap (λ l. l .0) (label-by .ensures) ∙ ap (λ (z : Bool). cond z (labelA r) (labelB r)) (relation-holds .ensures) in
-    branched (s .pre .0) (s .args .c) (pair .result .left) (pair .result .right) (s .pre .1) (pair .ensures .values (if1 .left)) to
+    branched (s .pre .0) (s .args .c) (pair .result .left) (pair .result .right) (s .pre .1)
+    (condition-at (s .pre .0) (s .args .c) (s .pre .1) (pair .ensures .values (if1 .left))) to
     (go-on .ensures .0) (go-on .ensures .1)
 
 pub branch-spec : {M : Type 1} → statement M

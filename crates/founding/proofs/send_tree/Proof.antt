@@ -6,11 +6,17 @@ use Rattle.rules.specs.Sizes.{heldCount}
 use Rattle.rules.specs.Encoding.{machineFrom}
 use Rattle.rules.specs.declared.statement.Statement.the-variants.{SendTree}
 use Rattle.held_signals.specs.Held.{heldAt}
-use Rattle.step_ready.specs.At.{unread-stepped}
+use Rattle.step_ready.specs.At.{registers-here, unread-stepped}
 use Rattle.founding.specs.Held.{full-stepped}
 use borrow.Author.Needs.{needs}
 use Rattle.founding.proofs.send_tree.Statement.{statement}
 use Rattle.founding.proofs.send_tree.Tie as tie
+
+-- the registers of the value are those of the record
+read-data-requires : tie.Need-read-data-requires
+read-data-requires c κs =
+    let h = c .before .before .before .before .before .before .pre .0 in
+    (h .ready .canonical .long, h .readable, search needs, h .inside, registers-here h)
 
 returns : tie.Need-returns
 returns c =
@@ -37,7 +43,7 @@ returns-2 c =
     let free : read-data .result ≡ 0 = if1 .left in
     let m = machineFrom (s .args .state .now) in
     let l : heldCount ≤ length (heldAt m (s .args .t .0)) = omega (arith, held-count .ensures, if2 .taken) in
-    full-stepped (s .pre .0) (s .pre .1) (read-data .last .1 .1 .1 .0) (rw free at (read-data .ensures))
+    full-stepped (s .pre .0) (s .pre .1) (read-data .last .1 .1 .1 .1 .0) (rw free at (read-data .ensures))
     l (trapped2 .ensures .0) (trapped2 .ensures .1)
 
 hold-for-tree-requires : tie.Need-hold-for-tree-requires
@@ -56,7 +62,7 @@ pub send-tree-spec : {M : Type 1} → statement M
 send-tree-spec =
     tie.close
     (tie.spec
-    (λ c κs. search needs)
+    read-data-requires
     (λ c κs. search needs)
     (λ c. search needs)
     returns

@@ -6,13 +6,15 @@ use Rattle.operands.proofs.read_kind.Tie as tie
 
 read-operand-requires-2 : tie.Need-read-operand-requires-2
 unfolding operandOf
-read-operand-requires-2 c κs = (c .before .before .pre .0, c .before .before .pre .1, rw (c .match .keys2) at (c .before .before .pre .2))
+read-operand-requires-2 c κs =
+    let p = c .before .before .pre in
+    (p .0, p .1, rw (c .match .keys2) at (p .2), p .3)
 
 read-operand-requires-3 : tie.Need-read-operand-requires-3
 unfolding operandOf
 read-operand-requires-3 c κs =
     let p = c .before .before .pre in
-    (p .0, p .1, simp (ne-eqb _ 1 (c .match .rest .0 .1), ne-eqb _ 2 (c .match .rest .1)) at (p .2))
+    (p .0, p .1, simp (ne-eqb _ 1 (c .match .rest .0 .1), ne-eqb _ 2 (c .match .rest .1)) at (p .2), p .3)
 
 returns : tie.Need-returns
 unfolding operandOf

@@ -4,6 +4,7 @@ use Prim.Native.Nat.{_<_}
 use native.Mathlib.Omega.{arith}
 use borrow.Author.Tests.{eq-eqb, ne-eqb}
 use Rattle.rules.specs.Sizes.{registerCount, wordCount}
+use Rattle.encoding.specs.Slots.{registersIn}
 use Rattle.operands.specs.declared.Reading.the-variants.{Value}
 use Rattle.operands.specs.Cells.{word-read, register-read, register-absent}
 use Rattle.operands.proofs.read_operand.Statement.{statement}
@@ -14,11 +15,10 @@ shr-if1 c =
     let h : c .before .p2 .given .0 .0 < registerCount = rw (c .before .p2 .given .1) at (c .before .before .before .before .pre .2) in
     omega arith
 
-element-copy-out-t19 : tie.Need-element-copy-out-t19
-element-copy-out-t19 c =
-    let h : c .before .before .p2 .given .0 .0 < registerCount = rw (c .before .before .p2 .given .1) at
-    (c .before .before .before .before .before .pre .2) in
-    omega arith
+read-register-requires : tie.Need-read-register-requires
+read-register-requires c κs =
+    let s = c .before .before .before .before .before in
+    (s .pre .0, s .pre .3, rw (c .before .before .p2 .given .1) at (s .pre .2))
 
 read-word-requires : tie.Need-read-word-requires
 read-word-requires c κs = (
@@ -39,9 +39,9 @@ returns-2 c =
     let h : r .0 .0 < registerCount = rw (r .1) at (s .pre .2) in
     rw (
       r .1,
-      register-read (a .state .now) (a .block .0) (a .present) (a .registers .now) (r .0 .0) h
+      register-read (a .state .now) (a .block .0) (a .present) (registersIn (a .state .now) (a .t .0)) (r .0 .0) h
           (eq-eqb _ _ (c .before .if1 .taken)),
-    )
+    ) (ap Value (c .read-register .ensures))
 
 returns-3 : tie.Need-returns-3
 returns-3 c =
@@ -49,7 +49,7 @@ returns-3 c =
     let a = s .args in
     let r = c .before .before .p2 .given in
     let h : r .0 .0 < registerCount = rw (r .1) at (s .pre .2) in
-    rw (r .1, register-absent (a .state .now) (a .block .0) (a .present) (a .registers .now) (r .0 .0) h (ne-eqb _ _ (c .if1 .left)))
+    rw (r .1, register-absent (a .state .now) (a .block .0) (a .present) (registersIn (a .state .now) (a .t .0)) (r .0 .0) h (ne-eqb _ _ (c .if1 .left)))
 
 returns-4 : tie.Need-returns-4
 returns-4 c =
@@ -67,9 +67,7 @@ read-operand-spec =
     (λ c. search needs)
     (λ c. search needs)
     shr-if1
-    (λ c. search needs)
-    (λ c. search needs)
-    element-copy-out-t19
+    read-register-requires
     (λ c. search needs)
     read-word-requires
     returns

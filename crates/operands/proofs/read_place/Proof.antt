@@ -7,7 +7,7 @@ read-kind-requires : tie.Need-read-kind-requires
 unfolding operandAt
 read-kind-requires c κs =
     let p = c .before .before .before .before .pre in
-    (p .0, p .1, rw (c .value-at .ensures, c .before .kind-at .ensures) (p .4))
+    (p .0, p .1, rw (c .value-at .ensures, c .before .kind-at .ensures) (p .4), p .5)
 
 returns : tie.Need-returns
 unfolding operandAt

@@ -1,6 +1,7 @@
 use mathlib.Core.Path.{ap}
 use borrow.Author.Needs.{needs}
 use lib.ListN.{length}
+use Rattle.step_ready.specs.At.{registers-here}
 use Rattle.passage.specs.Enters.{alone, call-below, call-enters-as}
 use Rattle.passage.proofs.call_passage.Statement.{statement}
 use Rattle.passage.proofs.call_passage.Tie as tie
@@ -8,7 +9,8 @@ use Rattle.passage.proofs.call_passage.Tie as tie
 read-data-requires : tie.Need-read-data-requires
 read-data-requires c κs =
     let s = c .before .before .before .before .before in
-    (s .pre .0 .ready .canonical .long, s .pre .0 .readable, ap length (s .pre .2))
+    let h = s .pre .0 in
+    (h .ready .canonical .long, h .readable, ap length (s .pre .2), h .inside, registers-here h)
 
 passage-to-requires : tie.Need-passage-to-requires
 passage-to-requires c κs =

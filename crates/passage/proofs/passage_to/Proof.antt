@@ -1,17 +1,19 @@
 use mathlib.Core.Path.{_≡_, refl, sym, _∙_}
 use mathlib.Core.Bool.{true, false}
 use mathlib.Core.List.{[]}
-use Prim.Native.Nat.{_≤_, _<_}
+use Prim.Native.Nat.{ℕ, _≤_, _<_}
 use borrow.Author.Needs.{needs}
 use native.Mathlib.Omega.{arith}
 use borrow.Author.Tests.{ne-eqb, lt-ltb, le-ltb}
 use lib.ListN.{length}
-use Rattle.rules.specs.Sizes.{threadCount, blockCount, tableSize}
+use Rattle.rules.specs.Sizes.{threadCount, blockCount, lockCount, tableSize}
 use Rattle.rules.specs.Image.{Row, rowAt}
+use Rattle.rules.specs.Machine.{Machine}
 use Rattle.rules.specs.Encoding.{machineFrom}
 use Rattle.rules.specs.Steps.{blockAt, alien}
 use Rattle.laws.specs.Passed.{passed}
 use Rattle.soundness.specs.Destinations.{block-below, lock-below}
+use Rattle.state.specs.Locks.{nobody-else}
 use Rattle.passage.specs.Passages.{otherHolder, passageTo, passage-on}
 use Rattle.passage.proofs.passage_to.Statement.{statement}
 use Rattle.passage.proofs.passage_to.Tie as tie
@@ -24,14 +26,47 @@ block c =
     let k = passed (s .args .image .now) (s .args .table .now) [] (s .pre .0) .0 in
     (rw (c .block-at .ensures) (block-below (s .args .image .now) (s .args .table .now) k (s .args .to .0) (s .pre .2)), k .wholeTable)
 
--- who else holds the lock of its row
+abbrev machine : tie.Start → Machine
+machine s = machineFrom (s .args .state .now)
+
+-- the row of the block that the label leads to
+abbrev row : tie.Start → Row
+row s = rowAt (s .args .table .now) (blockAt (s .args .image .now) (s .args .to .0))
+
+-- the number of the other thread that holds its lock
+abbrev other : tie.Start → ℕ
+other s = otherHolder (machine s) (row s) (s .args .t .0)
+
+-- its lock is one of the 16
+lock-small : (c : tie.After-lock-at) → c .lock-at .result .0 < lockCount
+lock-small c =
+    let s = c .before .before .before .before .before .before in
+    let k = passed (s .args .image .now) (s .args .table .now) [] (s .pre .0) .0 in
+    rw (c .lock-at .ensures, c .before .block-at .ensures)
+    (lock-below (s .args .image .now) (s .args .table .now) k (s .args .to .0) (s .pre .2))
+
+-- past the test of the block
+not-alien : (c : tie.Else2)
+    → alien (row (c .before .before .before .before .before .before .before .before))
+    (c .before .before .before .before .before .before .before .before .args .t .0) ≡ false
+not-alien c = rw (c .before .before .before .block-at .ensures) at (sym (c .before .is-alien .ensures) ∙ c .if2 .left)
+
+-- nobody else holds a lock that the thread has
+own : (c : tie.Then3)
+    → threadCount ≤ other (c .before .before .before .before .before .before .before .before .before .before)
+own c =
+    let l = c .before .before .before .before in
+    let s = l .before .before .before .before .before .before in
+    let e = rw (l .lock-at .ensures, l .before .block-at .ensures) at (nobody-else (machine s) (s .args .t .0) (s .args .own)
+    (l .lock-at .result .0) (s .pre .1 .sized .threads) (s .pre .3) (sym (c .before .holds .ensures) ∙ c .if3 .taken)) in
+    omega (arith, e)
+
+-- who else holds it
 finds : (c : tie.After-other-holder)
-    → c .other-holder .result ≡ otherHolder (machineFrom (c .before .before .before .before .before .before .before .args .state .now))
-    (rowAt (c .before .before .before .before .before .before .before .args .table .now)
-    (blockAt (c .before .before .before .before .before .before .before .args .image .now)
-    (c .before .before .before .before .before .before .before .args .to .0)))
-    (c .before .before .before .before .before .before .before .args .t .0)
-finds c = rw (c .before .lock-at .ensures, c .before .before .block-at .ensures) at (c .other-holder .ensures)
+    → c .other-holder .result ≡ other (c .before .before .before .before .before .before .before .before .before .before .before)
+finds c =
+    let l = c .before .before .before .before .before in
+    rw (l .lock-at .ensures, l .before .block-at .ensures) at (c .other-holder .ensures)
 
 returns : tie.Need-returns
 unfolding passageTo
@@ -40,58 +75,52 @@ returns c = rw (ne-eqb (c .before .before .before .before .args .earlier) 0 (c .
 lock-at-requires : tie.Need-lock-at-requires
 lock-at-requires c κs = block c
 
-other-holder-requires : tie.Need-other-holder-requires
-other-holder-requires c κs =
-    let s = c .before .before .before .before .before .before in
-    let k = passed (s .args .image .now) (s .args .table .now) [] (s .pre .0) .0 in (
-      s .pre .1,
-      rw (c .lock-at .ensures, c .before .block-at .ensures)
-          (lock-below (s .args .image .now) (s .args .table .now) k (s .args .to .0) (s .pre .2)),
-      s .pre .3,
-    )
-
 is-alien-requires : tie.Need-is-alien-requires
-is-alien-requires c κs = block (c .before .before)
+is-alien-requires c κs = block (c .before)
 
 returns-2 : tie.Need-returns-2
 returns-2 c =
-    let a = c .before .before .before .before .before .before .before .before .before .args in
-    let row : Row = rowAt (a .table .now) (blockAt (a .image .now) (a .to .0)) in
-    let e : alien row (a .t .0) ≡ true =
-    rw (c .before .before .before .before .block-at .ensures) at (sym (c .before .is-alien .ensures) ∙ c .if2 .taken) in
-    sym (passage-on (machineFrom (a .state .now)) row (a .t .0) (a .earlier) (c .before .before .before .before .before .if1 .left) true _
-    e refl)
+    let l = c .before .before in
+    let s = l .before .before .before .before .before .before in
+    let e : alien (row s) (s .args .t .0) ≡ true =
+    rw (l .before .block-at .ensures) at (sym (c .before .is-alien .ensures) ∙ c .if2 .taken) in
+    sym (passage-on (machine s) (row s) (s .args .t .0) (s .args .earlier) (l .before .before .if1 .left) true _ e refl)
+
+holds-requires : tie.Need-holds-requires
+holds-requires c κs = lock-small (c .before .before)
 
 returns-3 : tie.Need-returns-3
 returns-3 c =
-    let k = c .before in
-    let a = k .before .before .before .before .before .before .before .before .before .before .args in
-    let row : Row = rowAt (a .table .now) (blockAt (a .image .now) (a .to .0)) in
-    let e : alien row (a .t .0) ≡ false =
-    rw (k .before .before .before .before .before .block-at .ensures) at (sym (k .before .before .is-alien .ensures)
-    ∙ k .before .if2 .left) in
-    let f = finds (k .before .before .before) in
-    rw (
-      c .thread-of .ensures,
-      f,
-      k .before .before .before .before .lock-at .ensures,
-      k .before .before .before .before .before .block-at .ensures,
-    )
-    (sym (passage-on (machineFrom (a .state .now)) row (a .t .0) (a .earlier)
-    (k .before .before .before .before .before .before .if1 .left) false true e (lt-ltb _ threadCount (rw f at (k .if3 .taken)))))
+    let l = c .before .before .before .before in
+    let s = l .before .before .before .before .before .before in
+    rw (l .lock-at .ensures, l .before .block-at .ensures)
+    (sym (passage-on (machine s) (row s) (s .args .t .0) (s .args .earlier) (l .before .before .if1 .left) false false
+    (not-alien (c .before .before)) (le-ltb _ threadCount (own c))))
+
+other-holder-requires : tie.Need-other-holder-requires
+other-holder-requires c κs =
+    let l = c .before .before .before .before in
+    (l .before .before .before .before .before .before .pre .1, lock-small l)
 
 returns-4 : tie.Need-returns-4
 returns-4 c =
-    let a = c .before .before .before .before .before .before .before .before .before .before .args in
-    let row : Row = rowAt (a .table .now) (blockAt (a .image .now) (a .to .0)) in
-    let e : alien row (a .t .0) ≡ false =
-    rw (c .before .before .before .before .before .block-at .ensures) at (sym (c .before .before .is-alien .ensures)
-    ∙ c .before .if2 .left) in
-    let free : threadCount ≤ otherHolder (machineFrom (a .state .now)) row (a .t .0) =
-    omega (arith, finds (c .before .before .before), c .if3 .left) in
-    rw (c .before .before .before .before .lock-at .ensures, c .before .before .before .before .before .block-at .ensures)
-    (sym (passage-on (machineFrom (a .state .now)) row (a .t .0) (a .earlier)
-    (c .before .before .before .before .before .before .if1 .left) false false e (le-ltb _ threadCount free)))
+    let o = c .before .before in
+    let l = o .before .before .before .before .before in
+    let s = l .before .before .before .before .before .before in
+    let f = finds o in
+    rw (c .thread-of .ensures, f, l .lock-at .ensures, l .before .block-at .ensures)
+    (sym (passage-on (machine s) (row s) (s .args .t .0) (s .args .earlier) (l .before .before .if1 .left) false true
+    (not-alien (o .before .before .before)) (lt-ltb _ threadCount (rw f at (c .before .if4 .taken)))))
+
+returns-5 : tie.Need-returns-5
+returns-5 c =
+    let o = c .before in
+    let l = o .before .before .before .before .before in
+    let s = l .before .before .before .before .before .before in
+    let free : threadCount ≤ other s = omega (arith, finds o, c .if4 .left) in
+    rw (l .lock-at .ensures, l .before .block-at .ensures)
+    (sym (passage-on (machine s) (row s) (s .args .t .0) (s .args .earlier) (l .before .before .if1 .left) false false
+    (not-alien (o .before .before .before)) (le-ltb _ threadCount free)))
 
 pub passage-to-spec : {M : Type 1} → statement M
 passage-to-spec =
@@ -100,10 +129,12 @@ passage-to-spec =
     returns
     (λ c κs. search needs)
     lock-at-requires
-    other-holder-requires
     is-alien-requires
     returns-2
+    holds-requires
+    returns-3
+    other-holder-requires
     (λ c. omega arith)
     (λ c κs. search needs)
-    returns-3
-    returns-4)
+    returns-4
+    returns-5)

@@ -7,7 +7,6 @@ use Rattle.rules.specs.Image.{labels}
 use Rattle.rules.specs.Encoding.{machineFrom}
 use Rattle.encoding.specs.FirstTree.{first-none}
 use Rattle.ending.specs.Home.{oldest-below, block-inside, table-long}
-use Rattle.state.specs.Locks.{none-own}
 use Rattle.starting.specs.Starting.{FirstIs, idle-pending, first-is, first-waits, first-goes}
 use Rattle.starting.proofs.first_signal.Statement.{statement}
 use Rattle.starting.proofs.first_signal.Tie as tie
@@ -66,7 +65,7 @@ lock-at-requires c κs = (
 other-holder-requires : tie.Need-other-holder-requires
 other-holder-requires c κs =
     let s = c .before .before .before .before .before .before .before .before .before in
-    (s .pre .0 .canonical, first c .small, none-own (machineFrom (s .args .state .now)) (s .args .t .0))
+    (s .pre .0 .canonical, first c .small)
 
 returns-2 : tie.Need-returns-2
 returns-2 c =

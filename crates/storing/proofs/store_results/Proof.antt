@@ -7,6 +7,11 @@ use borrow.Author.Needs.{needs}
 use Rattle.storing.proofs.store_results.Statement.{statement}
 use Rattle.storing.proofs.store_results.Tie as tie
 
+store-both-requires : tie.Need-store-both-requires
+store-both-requires c κs =
+    let s = c .before .before .before .before .before .before .before in
+    (s .pre .0, s .pre .1, ap (λ (z : Shape). z .second) (sym (c .before .before .shape-of .ensures)) ∙ c .before .if1 .taken)
+
 returns-2 : tie.Need-returns-2
 returns-2 c =
     let s = c .before .before .before .before .before .before .before .before .before .before in
@@ -26,7 +31,7 @@ store-results-spec =
     tie.close
     (tie.spec
     (λ c κs. search needs)
-    (λ c κs. search needs)
+    store-both-requires
     (λ c κs. search needs)
     (λ c. search needs)
     (λ c. search needs)

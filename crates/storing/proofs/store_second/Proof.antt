@@ -1,53 +1,62 @@
+use mathlib.Core.Path.{_≡_}
 use Prim.Native.Nat.{ℕ, _+_, _*_, _<_}
 use native.Mathlib.Omega.{arith}
-use Rattle.rules.specs.Sizes.{wordCount}
+use Rattle.rules.specs.Sizes.{wordCount, registerCount}
+use Rattle.rules.specs.Statements.{operandOf}
+use Rattle.rules.specs.declared.statement.Operand.the-variants.{Register, Word}
 use Rattle.state.specs.Words.{word-written}
 use Rattle.step_ready.specs.Ready.{job-written}
-use Rattle.storing.specs.Written.{slots-then}
+use Rattle.storing.specs.Operands.{register-lands, word-lands}
+use Rattle.storing.specs.Written.{slots-then, head-then}
 use borrow.Author.Needs.{needs}
 use Rattle.storing.proofs.store_second.Statement.{statement}
 use Rattle.storing.proofs.store_second.Tie as tie
 
-assign-register-requires : tie.Need-assign-register-requires
-assign-register-requires c κs =
-    let s = c .before .before .before .before .before in
-    (s .pre .2, rw (c .before .before .to .given .1) at (s .pre .4))
+-- the destination is a register, or a word
+abbrev start-then : tie.Then1 → tie.Start
+start-then c = c .before .before
 
-write-assigned-requires : tie.Need-write-assigned-requires
-write-assigned-requires c κs =
-    let s = c .before .before .before .before .before .before in
+register : (c : tie.Then1)
+    → (operandOf (start-then c .args .kind) (start-then c .args .to) ≡ Register (start-then c .args .to))
+    × (start-then c .args .to < registerCount)
+register c = register-lands _ _ (c .if1 .taken) (start-then c .pre .4)
+
+abbrev start-else : tie.Else1 → tie.Start
+start-else c = c .before .before
+
+word : (c : tie.Else1)
+    → (operandOf (start-else c .args .kind) (start-else c .args .to) ≡ Word (start-else c .args .to))
+    × (start-else c .args .to < wordCount)
+word c = word-lands _ _ (c .if1 .left) (start-else c .pre .4)
+
+assign-register-requires : tie.Need-assign-register-requires
+assign-register-requires c κs = (start-then (c .before) .pre .2, register (c .before) .1)
+
+write-register-requires : tie.Need-write-register-requires
+write-register-requires c κs =
+    let s = start-then (c .before .before) in
     let x = c .assign-register .ensures in
-    let kept = slots-then (s .args .state .now) (s .args .t .0) (s .args .w) (s .pre .0) (s .pre .1) (s .pre .5) _ _ x in (
-      s .pre .0 .long,
-      s .pre .1,
-      x .running .tidy .returns .within,
-      rw (c .before .before .before .to .given .1) at (s .pre .4),
-      kept .0,
-      kept .1,
-    )
+    let kept = slots-then (s .args .state .now) (s .args .t .0) (s .args .w) (s .pre .0) (s .pre .1) (s .pre .5) _ _ x in
+    let head = head-then (s .args .state .now) (s .args .t .0) (s .args .w) (s .pre .0) (s .pre .1) (s .pre .5) x in
+    (s .pre .0 .long, s .pre .1, register (c .before .before) .1, head, kept .0, kept .1)
 
 write-word-requires : tie.Need-write-word-requires
-write-word-requires c κs =
-    let s = c .before .before .before .before .before in
-    (s .pre .0 .long, s .pre .3, rw (c .before .before .to2 .given .1) at (s .pre .4))
+write-word-requires c κs = (start-else (c .before) .pre .0 .long, start-else (c .before) .pre .3, word (c .before) .1)
 
 returns : tie.Need-returns
-returns c = rw (c .enum-told .given .1) (c .before .before .before .pre .0)
+returns c =
+    let s = start-then (c .before .before .before .before .before) in
+    rw (register (c .before .before .before .before .before) .0)
+    (job-written (s .args .t .0) (s .pre .0) (s .pre .1) (c .before .before .before .assign-register .ensures)
+    (c .before .before .write-register .ensures))
 
 returns-2 : tie.Need-returns-2
 returns-2 c =
-    let s = c .before .before .before .before .before .before .before .before .before in
-    let x = c .before .before .before .assign-register .ensures in
-    rw (c .before .before .before .before .before .before .to .given .1)
-    (job-written (s .args .t .0) (s .pre .0) (s .pre .1) x (c .before .before .write-assigned .ensures))
-
-returns-3 : tie.Need-returns-3
-returns-3 c =
-    let to = c .before .before .before .before .before .to2 in
-    let s = c .before .before .before .before .before .before .before .before in
-    let k : ℕ = to .given .0 .0 in
-    let h : k < wordCount = rw (to .given .1) at (s .pre .4) in
-    rw (to .given .1)
+    let s = start-else (c .before .before .before .before) in
+    let to = word (c .before .before .before .before) in
+    let k : ℕ = s .args .to in
+    let h : k < wordCount = to .1 in
+    rw (to .0)
     (word-written _ _ (s .pre .0) (wordCount * s .args .block .0 + k) (s .args .v) (omega (arith, s .pre .3))
     (c .before .before .write-word .ensures))
 
@@ -55,14 +64,10 @@ pub store-second-spec : {M : Type 1} → statement M
 store-second-spec =
     tie.close
     (tie.spec
-    (λ c. search needs)
-    (λ c. search needs)
     assign-register-requires
-    write-assigned-requires
-    (λ c. search needs)
+    write-register-requires
     write-word-requires
+    (λ c. search needs)
     returns
     (λ c. search needs)
-    returns-2
-    (λ c. search needs)
-    returns-3)
+    returns-2)

@@ -3,11 +3,17 @@ use Rattle.rules.specs.declared.answer.Answer.the-variants.{Moved}
 use Rattle.rules.specs.declared.statement.Statement.the-variants.{Return}
 use Rattle.operands.specs.Gathered.{zeros-stay}
 use Rattle.step_ready.specs.Ready.{thread-stepped}
-use Rattle.step_ready.specs.At.{unread-stepped}
+use Rattle.step_ready.specs.At.{registers-here, unread-stepped}
 use Rattle.transfers.specs.Steps.{returned, unreturned, newest-small}
 use borrow.Author.Needs.{needs}
 use Rattle.transfers.proofs.give_back.Statement.{statement}
 use Rattle.transfers.proofs.give_back.Tie as tie
+
+-- the registers of the value are those of the record
+read-data-requires : tie.Need-read-data-requires
+read-data-requires c κs =
+    let h = c .before .before .before .before .before .before .pre .0 in
+    (h .ready .canonical .long, h .readable, search needs, h .inside, registers-here h)
 
 returns : tie.Need-returns
 returns c =
@@ -54,7 +60,7 @@ pub give-back-spec : {M : Type 1} → statement M
 give-back-spec =
     tie.close
     (tie.spec
-    (λ c κs. search needs)
+    read-data-requires
     (λ c κs. search needs)
     (λ c. search needs)
     returns

@@ -8,11 +8,17 @@ use Rattle.rules.specs.Image.{operands}
 use Rattle.rules.specs.declared.answer.Answer.the-variants.{Moved}
 use Rattle.rules.specs.declared.statement.Statement.the-variants.{Transfer}
 use Rattle.step_ready.specs.Ready.{thread-stepped}
-use Rattle.step_ready.specs.At.{label-A, small, unread-stepped}
+use Rattle.step_ready.specs.At.{registers-here, label-A, small, unread-stepped}
 use Rattle.transfers.specs.Steps.{transferred}
 use borrow.Author.Needs.{needs}
 use Rattle.transfers.proofs.transfer.Statement.{statement}
 use Rattle.transfers.proofs.transfer.Tie as tie
+
+-- the registers of the value are those of the record
+read-data-requires : tie.Need-read-data-requires
+read-data-requires c κs =
+    let h = c .before .before .before .before .before .before .before .pre .0 in
+    (h .ready .canonical .long, h .readable, search needs, h .inside, registers-here h)
 
 returns : tie.Need-returns
 returns c =
@@ -46,7 +52,7 @@ returns-2 c =
     let h = s .pre .0 in
     let d = read-data in
     let n = operands (s .args .r .now) in
-    let values : List ℕ = d .last .1 .1 .1 .0 in
+    let values : List ℕ = d .last .1 .1 .1 .1 .0 in
     let size : length (take n values) ≡ n = length-take-le n values (omega (arith, d .ensures .few, d .ensures .sized)) in
     let law = rw size at (transferred h (take n values) (d .ensures .values (if1 .left)) (s .pre .1)) in
     thread-stepped (h .ready) (s .args .t .0) Moved (h .inside) law (rw (label-a .ensures, operand-count .ensures) at (transfer .ensures))
@@ -56,7 +62,7 @@ pub transfer-spec : {M : Type 1} → statement M
 transfer-spec =
     tie.close
     (tie.spec
-    (λ c κs. search needs)
+    read-data-requires
     (λ c κs. search needs)
     (λ c. search needs)
     returns

@@ -6,11 +6,17 @@ use Rattle.rules.specs.Sizes.{pendingCount}
 use Rattle.rules.specs.Encoding.{machineFrom}
 use Rattle.rules.specs.declared.statement.Statement.the-variants.{SendBuffered}
 use Rattle.pending_signals.specs.Canon.{pendingAt}
-use Rattle.step_ready.specs.At.{unread-stepped}
+use Rattle.step_ready.specs.At.{registers-here, unread-stepped}
 use Rattle.sending.specs.Buffered.{own-tree, full-stepped}
 use borrow.Author.Needs.{needs}
 use Rattle.sending.proofs.buffered.send_buffered.Statement.{statement}
 use Rattle.sending.proofs.buffered.send_buffered.Tie as tie
+
+-- the registers of the value are those of the record
+read-data-requires : tie.Need-read-data-requires
+read-data-requires c κs =
+    let h = c .before .before .before .before .before .before .pre .0 in
+    (h .ready .canonical .long, h .readable, search needs, h .inside, registers-here h)
 
 returns : tie.Need-returns
 returns c =
@@ -39,7 +45,7 @@ returns-2 c =
     let free : read-data .result ≡ 0 = if1 .left in
     let m = machineFrom (s .args .state .now) in
     let l : pendingCount ≤ length (pendingAt m (first-tree .result)) = omega (arith, pending .ensures, if2 .taken) in
-    full-stepped (s .pre .0) (s .pre .1) (read-data .last .1 .1 .1 .0) (rw free at (read-data .ensures))
+    full-stepped (s .pre .0) (s .pre .1) (read-data .last .1 .1 .1 .1 .0) (rw free at (read-data .ensures))
     (first-tree .result) (first-tree .ensures) l (trapped2 .ensures .0) (trapped2 .ensures .1)
 
 buffer-requires : tie.Need-buffer-requires
@@ -59,7 +65,7 @@ pub send-buffered-spec : {M : Type 1} → statement M
 send-buffered-spec =
     tie.close
     (tie.spec
-    (λ c κs. search needs)
+    read-data-requires
     (λ c κs. search needs)
     (λ c. search needs)
     returns

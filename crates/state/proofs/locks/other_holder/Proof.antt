@@ -1,50 +1,43 @@
 use borrow.Author.Needs.{needs}
-use mathlib.Core.Path.{sym, _∙_}
+use mathlib.Core.Path.{_∙_}
 use Prim.Native.Nat.{_-_}
 use native.Mathlib.Omega.{arith}
 use Rattle.rules.specs.Sizes.{threadCount}
-use Rattle.rules.specs.Encoding.{machineFrom}
 use Rattle.fields.specs.Tests.{Searching, begin, none, next, here}
-use Rattle.state.specs.Locks.{passes, holder-found, nobody-else}
+use Rattle.state.specs.Locks.{passes, holder-found}
 use Rattle.state.proofs.locks.other_holder.Statement.{statement}
 use Rattle.state.proofs.locks.other_holder.Tie as tie
 
 abbrev Inv-loop : tie.InvT-loop
-Inv-loop state lock t own i₀ i = Searching (passes state (lock .0) (t .0)) threadCount i
+Inv-loop state lock t i₀ i = Searching (passes state (lock .0) (t .0)) threadCount i
 
 abbrev μ-loop : tie.MeasureT-loop
-μ-loop state lock t own i₀ i = threadCount - i
-
-returns : tie.Need-returns Inv-loop μ-loop
-returns c =
-    let s = c .before .before .before in
-    nobody-else (machineFrom (s .args .state .now)) (s .args .t .0) (s .args .own) (s .args .lock .0) (s .pre .0 .sized .threads)
-    (s .pre .2) (sym (c .before .holds .ensures) ∙ c .if1 .taken)
+μ-loop state lock t i₀ i = threadCount - i
 
 loop-holds : tie.Need-loop-holds Inv-loop μ-loop
 loop-holds c = begin _ threadCount
 
 passed-requires : tie.Need-passed-requires Inv-loop μ-loop
 passed-requires c κs =
-    let s = c .before .before .before .before .before .before in
+    let s = c .before .before .before .before in
     (s .pre .0 .long, s .pre .1, rw (c .thread-of .ensures) (c .before .loop-test .taken))
 
-returns-2 : tie.Need-returns-2 Inv-loop μ-loop
-returns-2 c =
-    let s = c .before .before .before .before .before .before .before .before in
+returns : tie.Need-returns Inv-loop μ-loop
+returns c =
+    let s = c .before .before .before .before .before .before in
     let l = c .before .before .before .before .loop in
     let e = rw (c .before .before .thread-of .ensures) at (c .before .passed .ensures) in
-    here _ threadCount _ (l .inv) _ (c .before .before .before .loop-test .taken) e (c .if2 .taken)
+    here _ threadCount _ (l .inv) _ (c .before .before .before .loop-test .taken) e (c .if1 .taken)
     ∙ holder-found _ _ (s .pre .0) (s .args .lock .0) (s .args .t .0)
 
 loop-again : tie.Need-loop-again Inv-loop μ-loop
 loop-again c =
     let e = rw (c .before .before .thread-of .ensures) at (c .before .passed .ensures) in
-    next _ threadCount _ (c .before .before .before .before .loop .inv) _ (c .before .before .before .loop-test .taken) e (c .if2 .left)
+    next _ threadCount _ (c .before .before .before .before .loop .inv) _ (c .before .before .before .loop-test .taken) e (c .if1 .left)
 
-returns-3 : tie.Need-returns-3 Inv-loop μ-loop
-returns-3 c =
-    let s = c .before .before .before .before .before in
+returns-2 : tie.Need-returns-2 Inv-loop μ-loop
+returns-2 c =
+    let s = c .before .before .before in
     none _ threadCount _ (c .before .loop .inv) (c .loop-test .left) ∙ holder-found _ _ (s .pre .0) (s .args .lock .0) (s .args .t .0)
 
 pub other-holder-spec : {M : Type 1} → statement M
@@ -53,14 +46,12 @@ other-holder-spec =
     (tie.spec
     Inv-loop
     μ-loop
-    (λ c κs. search needs)
-    returns
     loop-holds
     (λ c. omega arith)
     (λ c κs. search needs)
     passed-requires
-    returns-2
+    returns
     (λ c. omega arith)
     (λ c. omega arith)
     loop-again
-    returns-3)
+    returns-2)
