@@ -1,52 +1,62 @@
--- The stores that shift a record and lay records behind one another.
-use mathlib.Core.Path.{_≡_, refl, sym, ap, _∙_}
+-- The stores that lay two images behind one another and shift the records of the second where they stand.
+use mathlib.Core.Path.{_≡_, sym, ap, _∙_}
 use mathlib.Core.List.{List, _++_, append-assoc}
-use Prim.Native.Nat.{ℕ, _+_, _*_, _≤_}
+use Prim.Native.Nat.{ℕ, _+_, _*_, _≤_, _<_}
 use native.Mathlib.Omega.{arith}
-use lib.ListN.{length, take, drop, length-append}
-use lib.Seq.{length-take-le, sets-eq}
+use lib.ListN.{length, take, length-append}
+use lib.Seq.{sets-eq, take-length}
 use Rattle.rules.specs.Sizes.{recordSize, labelAPlace, labelBPlace}
-use Rattle.rules.specs.Bytes.{le16}
-use Rattle.rules.specs.Image.{labels}
+use Rattle.rules.specs.Bytes.{part, le16}
+use Rattle.rules.specs.Image.{labels, recordAt}
 use Rattle.rules.specs.Link.{withLabels, records, linked}
-use Rattle.fields.specs.Put.{put, length-put, put-more, put-inside, put-whole}
+use Rattle.fields.specs.Put.{put, put-more, put-then, put-after, put-whole, part-after}
+use Rattle.fields.specs.Inside.{put-in, put-self, part-beyond}
+use Rattle.image.specs.Records.{record-fits, record-part}
 use Rattle.image.specs.Shifts.{shiftedRun, length-run}
-
--- the list with a run stored into it, cut before and after the run
-cut : (s : List ℕ) (at : ℕ) (x : List ℕ) → at + length x ≤ length s → put s at x ≡ take at s ++ x ++ drop (at + length x) s
-unfolding put
-cut s at x h = sets-eq x s at h
-
--- a store within a run that was stored
-put-within : (s : List ℕ) (at : ℕ) (x : List ℕ) (j : ℕ) (a : List ℕ) → at + length x ≤ length s → j + length a ≤ length x
-    → put (put s at x) (at + j) a ≡ put s at (put x j a)
-put-within s at x j a h k =
-    let l : length (take at s) ≡ at = length-take-le at s (omega arith) in
-    rw (cut s at x h, cut s at (put x j a) (rw (length-put x j a) h), length-put x j a)
-    (put-inside (take at s) x (drop (at + length x) s) (at + j) j a (omega arith) k)
 
 -- a record, and over its labels two others
 module _ (r : List ℕ) (size : length r ≡ recordSize) (a b : ℕ) where
-  labels-put : put (put r labelAPlace (le16 a)) labelBPlace (le16 b) ≡ withLabels a b r
-  labels-put =
-      put-more r labelAPlace (le16 a) labelBPlace (le16 b) refl
-      ∙ cut r labelAPlace (le16 a ++ le16 b) (omega arith)
-      ∙ simp append-assoc
+  labels-put : put r labelAPlace (le16 a ++ le16 b) ≡ withLabels a b r
+  unfolding put
+  labels-put = sets-eq (le16 a ++ le16 b) r labelAPlace (omega arith) ∙ simp append-assoc
 
-  pub labels-stored : (s : List ℕ) (at : ℕ) → at + recordSize ≤ length s
-      → put (put (put s at r) (at + labelAPlace) (le16 a)) (at + labelBPlace) (le16 b) ≡ put s at (withLabels a b r)
-  labels-stored s at h =
-      ap (λ z. put z (at + labelBPlace) (le16 b)) (put-within s at r labelAPlace (le16 a) (omega arith) (omega arith))
-      ∙ put-within s at (put r labelAPlace (le16 a)) labelBPlace (le16 b) (rw (length-put r labelAPlace (le16 a)) (omega arith))
-      (rw (length-put r labelAPlace (le16 a)) (omega arith))
+  -- the same where the record stands in a longer list
+  pub labels-stored : (s : List ℕ) (at i j : ℕ) → at + recordSize ≤ length s → part s at recordSize ≡ r → i ≡ at + labelAPlace
+      → j ≡ at + labelBPlace → put (put s i (le16 a)) j (le16 b) ≡ put s at (withLabels a b r)
+  labels-stored s at i j h here e f =
+      let there : put s at r ≡ s = rw here at (put-self s at recordSize h) in
+      put-more s i (le16 a) j (le16 b) (omega arith)
+      ∙ rw e (ap (λ z. put z (at + labelAPlace) (le16 a ++ le16 b)) (sym there))
+      ∙ put-in s at r labelAPlace (le16 a ++ le16 b) (omega arith) (omega arith)
       ∙ ap (put s at) labels-put
 
--- the first image stored, and behind it the records of the second: the linked image
-pub all-stored : (first second out : List ℕ) → length out ≡ length first + length second → length second ≡ recordSize * labels second
-    → put (put out 0 first) (length first) (shiftedRun (labels first) (labels second) second) ≡ linked first second
-unfolding linked records
-all-stored first second out e w =
-    let run = shiftedRun (labels first) (labels second) second in
-    let size : length run ≡ length second = length-run (labels first) (labels second) second (omega arith) ∙ sym w in
-    put-more out 0 first (length first) run (omega arith)
-    ∙ put-whole out (first ++ run) (e ∙ sym (simp length-append (omega arith)))
+module _ (first second : List ℕ) where
+  -- both images copied
+  pub both-copied : (out : List ℕ) (n at m : ℕ) {s₁ s₂ : List ℕ} → s₁ ≡ put out 0 (part first 0 n) → s₂ ≡ put s₁ at (part second 0 m)
+      → n ≡ length first → at ≡ length first → m ≡ length second → length out ≡ length first + length second → s₂ ≡ first ++ second
+  unfolding part
+  both-copied out n at m e₁ e₂ k i l w =
+      put-then out 0 (take n first) at (take m second) e₁ e₂ (rw (k, take-length) (omega arith))
+      ∙ rw (k, l, take-length first, take-length second)
+      (put-whole out (first ++ second) (w ∙ sym (length-append first second)))
+
+  -- the record whose turn it is, l of the second shifted, stands as it was copied
+  pub still-copied : (d l at : ℕ) → l < labels second → at ≡ length first + recordSize * l
+      → part (put (first ++ second) (length first) (shiftedRun d l second)) at recordSize ≡ recordAt second l
+  unfolding part
+  still-copied d l at h e =
+      let run = shiftedRun d l second in
+      let fits = record-fits second l h in
+      let here : at ≡ length first + length run = e ∙ rw (length-run d l second (omega arith)) in
+      rw here (part-beyond (first ++ second) (length first) run recordSize (simp length-append (omega arith)))
+      ∙ part-after first second (length first + length run) (recordSize * l) recordSize (omega arith)
+      ∙ sym (record-part second l h)
+
+  -- all records of the second shifted: the linked image
+  pub all-shifted : (d l : ℕ) → d ≡ labels first → l ≡ labels second → length second ≡ recordSize * labels second
+      → put (first ++ second) (length first) (shiftedRun d l second) ≡ linked first second
+  unfolding linked records
+  all-shifted d l e n w =
+      put-after first second (length first) 0 (shiftedRun d l second) (omega arith)
+      ∙ ap (λ z. first ++ z) (put-whole second (shiftedRun d l second) (sym (length-run d l second (omega arith) ∙ omega arith)))
+      ∙ rw (e, n)

@@ -18,6 +18,7 @@ ghost use Prim.Native.Nat.{_+_, _<_, _≤_};
 ghost use lib.ListN.{length};
 ghost use Rattle.rules.specs.Sorts.{label};
 ghost use Rattle.rules.specs.Sizes.{recordSize};
+ghost use Rattle.rules.specs.Bytes.{part};
 ghost use Rattle.rules.specs.Image.{labelA, labelB};
 ghost use Rattle.rules.specs.Check.{headOk};
 ghost use Rattle.rules.specs.Link.{shiftRecord, linked};
@@ -36,15 +37,14 @@ pub fn shifted(used: bool, at: Label, d: u16) -> Label
     }
 }
 
-// A record that breaks no rule of its head goes to a place of the output, its labels shifted.
+// A record that breaks no rule of its head and stands at a place of the output already: its labels are shifted there.
 pub fn shift_record(out: &mut [u8], at: usize, r: &[u8], d: u16)
-    requires { ⌜ (at + recordSize ≤ length (now out)) × (length (now r) ≡ recordSize)
+    requires { ⌜ (at + recordSize ≤ length (now out)) × (length (now r) ≡ recordSize) × (part (now out) at recordSize ≡ now r)
         × (labelA (now r) + d < 65536) × (labelB (now r) + d < 65536) × (headOk (now r) ≡ true) ⌝ }
     ensures { λ _. ⌜ now (out .exit) ≡ put (now (out .entry)) at (shiftRecord d (now (r .entry))) ⌝ }
 {
     let a = shifted(uses_a(r), label_a(r), d);
     let b = shifted(uses_b(r), label_b(r), d);
-    copy(out, at, r, 0, RECORD_SIZE);
     put16(out, at + LABEL_A_PLACE, label_number(a));
     put16(out, at + LABEL_B_PLACE, label_number(b));
 }
@@ -56,9 +56,11 @@ pub fn link(out: &mut [u8], first: &[u8], second: &[u8])
 {
     let n = count_labels(first);
     let m = count_labels(second);
-    copy(out, 0, first, 0, first.len());
     let d = n as u16;
     let start = RECORD_SIZE * n;
+    // Both images are copied, and then the labels of the second are shifted where they stand.
+    copy(out, 0, first, 0, first.len());
+    copy(out, start, second, 0, second.len());
     let mut l: usize = 0;
     while l < m {
         let at = RECORD_SIZE * l;
