@@ -13,10 +13,11 @@ use Rattle.rules.specs.declared.statement.Assignment.{Assignment}
 use Rattle.rules.specs.declared.statement.Statement.the-variants.{Assign}
 use Rattle.encoding.specs.Encoded.{Encodes}
 use Rattle.step_laws.specs.Statements as law
+use Rattle.threads.specs.Threads.{jobOf}
 use Rattle.threads.specs.declared.thread.ThreadState.{ThreadState}
 use Rattle.operands.specs.Cells.{cellsOf}
 use Rattle.step_ready.specs.Ready.{Stepped, Ended, done}
-use Rattle.step_ready.specs.At.{At, tree, statement-here, lawCells, cells-here, jobAt}
+use Rattle.step_ready.specs.At.{At, tree, statement-here, lawCells, cells-here}
 use Rattle.storing.specs.Destinations.{landed}
 
 module _ {image table b : List ℕ} {t : ℕ} {w : ThreadState} {r : List ℕ} (h : At image table b t w r) (a : Assignment)
@@ -29,13 +30,13 @@ module _ {image table b : List ℕ} {t : ℕ} {w : ThreadState} {r : List ℕ} (
       → Ended image table b t b′ → Stepped image table b t b′ z
   unworked {reason} c f k =
       done (finished (rulesBy image table) t (machineFrom b)) (Trapped reason)
-      (law.unworked image table (machineFrom b) t (w .locks) (jobAt b t w) (tree h .0) (h .runs) (tree h .1) a
+      (law.unworked image table (machineFrom b) t (w .locks) (jobOf w) (tree h .0) (h .runs) (tree h .1) a
       (statement-here h (Assign a) e) reason (results-here _ c)) f k
 
   pub assigned-stepped : (u v : ℕ) {b′ : List ℕ} → law.results (cellsOf b w r) a ≡ got (record { first = u; second = v })
       → Encodes b′ (landed (machineFrom b) t w r a u v) → Stepped image table b t b′ Moved
   assigned-stepped u v {b′} c k =
       done (landed (machineFrom b) t w (recordAt image (w .label .0)) a u v) Moved
-      (law.assigns image table (machineFrom b) t (w .locks) (jobAt b t w) (tree h .0) (h .runs) (tree h .1) a
+      (law.assigns image table (machineFrom b) t (w .locks) (jobOf w) (tree h .0) (h .runs) (tree h .1) a
       (statement-here h (Assign a) e) (record { first = u; second = v }) (results-here _ c)) refl
       (subst (λ (q : List ℕ). Encodes b′ (landed (machineFrom b) t w q a u v)) (h .here) k)

@@ -26,9 +26,10 @@ use Rattle.rules.specs.declared.answer.Answer.{Answer}
 use Rattle.laws.specs.Roles.{Leads, Refers, refers}
 use Rattle.step_laws.specs.Events.{reply, no-tree}
 use Rattle.step_laws.specs.Running.{effect, traps-by, exits-by, moves-by}
+use Rattle.threads.specs.Threads.{jobOf}
 use Rattle.threads.specs.declared.thread.ThreadState.{ThreadState}
 use Rattle.step_ready.specs.Ready.{Ready}
-use Rattle.step_ready.specs.At.{At, tree, jobAt}
+use Rattle.step_ready.specs.At.{At, tree}
 use Rattle.passage.specs.Enters.{Passes, Enters}
 use Rattle.starting.specs.Starting.{FirstOf, start-waiting, start-running}
 use Rattle.passage.specs.declared.Passage.{Passage}
@@ -191,8 +192,8 @@ module _ (R : Rules) (s : Machine) (t l : ℕ) (j : Job) (p : List Signal) (runs
 pub waits-nobody : {image table b : List ℕ} {t : ℕ} {w : ThreadState} {r : List ℕ} → At image table b t w r
     → Lockless (roleA (statementOf r)) → Nobody ≡ awaitedBy image table b t
 waits-nobody {image} {table} {b} {t} {w} {r} h q =
-    quiet-waits (rulesBy image table) (machineFrom b) t (w .locks) (jobAt b t w) (tree h .0) (h .runs) (tree h .1)
-    (quiet-act image table t (jobAt b t w) _ _ (subst (λ (x : List ℕ). Lockless (roleA (statementOf x))) (h .here) q))
+    quiet-waits (rulesBy image table) (machineFrom b) t (w .locks) (jobOf w) (tree h .0) (h .runs) (tree h .1)
+    (quiet-act image table t (jobOf w) _ _ (subst (λ (x : List ℕ). Lockless (roleA (statementOf x))) (h .here) q))
 
 -- ---- the start of a job
 

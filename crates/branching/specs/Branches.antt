@@ -14,13 +14,14 @@ use Rattle.rules.specs.declared.statement.Condition.{Condition}
 use Rattle.rules.specs.declared.statement.Statement.the-variants.{If}
 use Rattle.encoding.specs.Encoded.{Encodes}
 use Rattle.step_laws.specs.Statements as law
+use Rattle.threads.specs.Threads.{jobOf}
 use Rattle.threads.specs.declared.thread.ThreadState.{ThreadState}
 use Rattle.operands.specs.Legal.{Fits}
 use Rattle.operands.specs.Cells.{cellsOf}
 use Rattle.operands.specs.Statements.{tests, tests-left, tests-right}
 use Rattle.step_ready.specs.Ready.{Stepped, done}
 use Rattle.onward.specs.Onward.{movedTo}
-use Rattle.step_ready.specs.At.{At, tree, statement-here, reads-here, jobAt}
+use Rattle.step_ready.specs.At.{At, tree, statement-here, reads-here}
 
 -- both choices are below a limit
 pub choice-below : (test : Bool) {x y n : ℕ} → x < n → y < n → cond test x y < n
@@ -51,5 +52,5 @@ module _ {image table b : List ℕ} {t : ℕ} {w : ThreadState} {r : List ℕ} (
   branched c x y e g q f k =
       let to = q ∙ ap (λ (z : List ℕ). cond (holds (c .relation) x y) (labelA z) (labelB z)) (h .here) in
       done (movedTo h (cond (holds (c .relation) x y) (labelA here) (labelB here))) Moved
-      (law.branches image table m t (w .locks) (jobAt b t w) (tree h .0) (h .runs) (tree h .1) (x ∷ y ∷ []) c (statement-here h (If c) e)
+      (law.branches image table m t (w .locks) (jobOf w) (tree h .0) (h .runs) (tree h .1) (x ∷ y ∷ []) c (statement-here h (If c) e)
       (reads-here h (If c) g)) f (rw to at k)

@@ -14,7 +14,6 @@ pub mod Machines
 pub mod Events
 pub mod Entries
 pub mod Stores
-pub mod HeldStores
 pub mod TreeStores
 pub mod SignalStores
 pub mod FirstTree

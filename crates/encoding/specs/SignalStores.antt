@@ -16,8 +16,7 @@ use Rattle.fields.specs.Filled.{removeAt, blocks-remove}
 use Rattle.encoding.specs.Sized.{SizedSignal, SizedTree}
 use Rattle.encoding.specs.Lengths.{length-signal, length-tree}
 use Rattle.encoding.specs.Layout.{tree-on}
-use Rattle.encoding.specs.Signals.{no-signal, signal-back}
-use Rattle.encoding.specs.HeldStores.{signals-push}
+use Rattle.encoding.specs.Signals.{no-signal, signal-back, places-push}
 use Rattle.encoding.specs.Trees.{signal-at, tree-thread-back, pending-back}
 use Rattle.encoding.specs.TreeStores.{withTrees, tree-open, tree-close, tree-put, tree-part}
 
@@ -32,6 +31,15 @@ abbrev pub moved : Tree → ℕ → Tree
 moved x t = record { thread = t; pending = x .pending }
 
 -- ---- a tree's own bytes
+
+-- one more signal comes behind k others, and is counted
+signals-push : (n k : ℕ) (gs : List Signal) (g : Signal) → length gs < n → k ≡ length gs
+    → put (put (signalsBytes n gs) (1 + signalSize * k) (signalBytes g)) 0 ((k + 1) ∷ []) ≡ signalsBytes n (gs ++ g ∷ [])
+unfolding put
+signals-push n k gs g h e =
+    let c : k + 1 ≡ length (gs ++ g ∷ []) = simp length-append (omega arith) in
+    ap (λ l. put l 0 ((k + 1) ∷ [])) (put-after (length gs ∷ []) (blocks signalBytes (pad noSignal n gs)) (1 + signalSize * k)
+    (signalSize * k) (signalBytes g) refl) ∙ rw (places-push n k gs g h e, c)
 
 push-bytes : (x : Tree) (k : ℕ) (g : Signal) → length (x .pending) < pendingCount → k ≡ length (x .pending)
     → put (put (treeBytes x) (2 + signalSize * k) (signalBytes g)) 1 ((k + 1) ∷ []) ≡ treeBytes (pushed x g)

@@ -16,10 +16,10 @@ use Rattle.rules.specs.Machine.{Signal}
 use Rattle.rules.specs.Encoding.{noSignal, signalBytes, signalFrom, signalsBytes, signalsFrom}
 use Rattle.rules.specs.WellFormed.{signalTidy, signalAtTidy, signalsTidy}
 use Rattle.fields.specs.Runs.{all-at, all-holds}
-use Rattle.fields.specs.Put.{part-drop, getD-after}
+use Rattle.fields.specs.Put.{put, put-whole, part-drop, getD-after}
 use Rattle.fields.specs.Each.{each-at}
 use Rattle.fields.specs.Blocks.{blocks-append, chunks-blocks, length-pad, pad-split, block-drop}
-use Rattle.fields.specs.Filled.{pad-at}
+use Rattle.fields.specs.Filled.{pad-at, blocks-push}
 use Rattle.encoding.specs.Sized.{SizedSignal, SizedSignals}
 use Rattle.encoding.specs.Lengths.{length-signal}
 use Rattle.laws.specs.Logic.{and-both, both-hold}
@@ -81,6 +81,14 @@ signal-tidy g z q =
     both-hold (leb n registerCount) _ (le-leb n registerCount z)
     (padded-tail le16 2 (λ x. refl) 0 registerCount (g .values) (le16 (g .label) ++ (n ∷ [])) q (valuesPlace + 2 * n)
     (2 * (registerCount - n)) refl z refl refl)
+
+-- ---- places for n signals: one more comes behind k others
+
+pub places-push : (n k : ℕ) (gs : List Signal) (g : Signal) → length gs < n → k ≡ length gs
+    → put (blocks signalBytes (pad noSignal n gs)) (signalSize * k) (signalBytes g) ≡ blocks signalBytes (pad noSignal n (gs ++ g ∷ []))
+places-push n k gs g h e =
+    blocks-push signalBytes signalSize length-signal noSignal n gs g (signalSize * k) (signalBytes g) h (rw e)
+    (omega (arith, length-signal g)) (put-whole _ _ (length-signal _ ∙ sym (length-signal g)))
 
 -- ---- up to n signals after their count, which stands behind the bytes h
 

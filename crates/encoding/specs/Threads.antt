@@ -11,7 +11,7 @@ use borrow.Author.Tests.{eqb-true, eqb-false, ne-eqb, leb-true, le-leb, ltb-true
 use Rattle.rules.specs.Sizes.{registerCount, returnCount, heldCount, idleLabel, locksPlace, returnCountPlace, returnsPlace}
 use Rattle.rules.specs.Sizes.{presencePlace, registersPlace, heldCountPlace, threadSize}
 use Rattle.rules.specs.Bytes.{num16, num32, le16, le32, part, isZeros, blocks, pad, chunks, allFrom}
-use Rattle.rules.specs.Machine.{Job, ThreadState, idle, running}
+use Rattle.rules.specs.Machine.{Job, ThreadState, idle, running, heldOf}
 use Rattle.rules.specs.Encoding.{signalBytes, signalsBytes, signalsFrom, presence, valueOr0, registersFrom, threadRaw, threadBytes, jobFrom}
 use Rattle.rules.specs.Encoding.{threadFrom}
 use Rattle.rules.specs.WellFormed.{absentZero, runningTidy, signalsTidy, threadTidy}
@@ -19,7 +19,7 @@ use Rattle.fields.specs.Runs.{all-at, all-holds}
 use Rattle.fields.specs.Put.{part-at, part-drop}
 use Rattle.fields.specs.Tests.{are-zeros, zeros-part}
 use Rattle.fields.specs.Blocks.{blocks-append, length-blocks, length-pad, pad-full, pad-split}
-use Rattle.encoding.specs.Sized.{SizedJob, SizedThread}
+use Rattle.encoding.specs.Sized.{SizedSignals, SizedJob, SizedThread}
 use Rattle.laws.specs.Logic.{and-both, both-hold}
 use Rattle.encoding.specs.Lengths.{length-raw}
 use Rattle.encoding.specs.Signals.{signals-back, signals-forth, signals-sized, signals-tidy}
@@ -41,6 +41,16 @@ heldAfter j q = signalsBytes heldCount (j .held) ++ q
 whole : (locks : ℕ) (j : Job) (q : List ℕ) → threadBytes (running locks j) ++ q ≡ rawOf locks j ++ heldAfter j q
 unfolding threadBytes heldAfter
 whole locks j q = append-assoc (rawOf locks j) (signalsBytes heldCount (j .held)) q
+
+-- behind the rest of a record stand the signals held
+pub held-behind : (x : ThreadState) → (r : List ℕ) × (threadBytes x ≡ r ++ signalsBytes heldCount (heldOf x)) × (length r ≡ heldCountPlace)
+unfolding threadBytes
+held-behind idle = (threadRaw _ _ _ _ _ _, refl, length-raw _ _ _ _ _ _)
+held-behind (running locks j) = (threadRaw _ _ _ _ _ _, refl, length-raw _ _ _ _ _ _)
+
+pub held-sized : (x : ThreadState) → SizedThread x → SizedSignals heldCount (heldOf x)
+held-sized idle z = record { count = omega arith; each = tt }
+held-sized (running locks j) z = z .held
 
 after : Job → List ℕ → List ℕ
 after j q = le32 (presence (j .registers)) ++ blocks le16 (pad 0 registerCount (map valueOr0 (j .registers))) ++ q

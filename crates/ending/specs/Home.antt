@@ -1,12 +1,11 @@
 -- Where the tree of an ended job goes, and the thread cleared.
-use mathlib.Core.Path.{_≡_, refl, ap, _∙_}
+use mathlib.Core.Path.{_≡_, refl, sym, ap, _∙_}
 use mathlib.Core.Option.{none, some}
 use mathlib.Core.List.{List, [], _∷_, _++_}
 use Prim.Native.Nat.{ℕ, _<_}
 use native.Mathlib.Decide.{decLt}
 use native.Mathlib.Omega.{arith}
 use lib.ListN.{length, getD}
-use lib.Seq.{getD-set-same, set-set}
 use Rattle.rules.specs.Sizes.{threadCount, blockCount, tableSize}
 use Rattle.rules.specs.Image.{labels, rowAt}
 use Rattle.rules.specs.Encoding.{noSignal, noTree, machineFrom}
@@ -18,16 +17,16 @@ use Rattle.soundness.specs.Destinations.{block-below}
 use Rattle.soundness.specs.Trees.{pending-below}
 use Rattle.fields.specs.Put as bytes
 use Rattle.encoding.specs.Encoded.{Canonical, Encodes}
-use Rattle.threads.specs.Threads.{keepHeld, idleThread, idle-thread}
-use Rattle.threads.specs.Records.{threadPlace, rawBytes}
+use Rattle.threads.specs.Held.{no-signals}
+use Rattle.threads.specs.Threads.{Running, idleThread, idle-thread}
+use Rattle.threads.specs.Records.{threadPlace, rawThread, rawBytes, same-signals}
 use Rattle.threads.specs.declared.thread.ThreadState.{ThreadState}
+use Rattle.thread_records.specs.Stores.{HeldThere}
 use Rattle.thread_records.specs.Records.{Busy, thread-written}
-use Rattle.step_ready.specs.Ready.{Ready}
-use Rattle.rules.specs.Machine as law
-use Rattle.rules.specs.Machine.{Signal, Tree, Machine, idle, running, heldOf, threadAt, first, put, withThread}
+use Rattle.step_ready.specs.Ready.{Ready, Recorded}
+use Rattle.rules.specs.Machine.{Signal, Tree, Machine, idle, first, put, withThread}
 use Rattle.rules.specs.Steps.{rulesBy, blockAt, requeued}
 use Rattle.encoding.specs.TreeStores.{withTrees}
-use Rattle.held_signals.specs.Held.{withHeldAt}
 use Rattle.encoding.specs.FirstTree.{firstTree, first-some, first-none}
 use Rattle.pending_signals.specs.Canon.{pendingAt}
 use Rattle.trees.specs.Changes.{requeuedOn, ended}
@@ -70,22 +69,21 @@ first-inside t p l h = case (decLt (firstTree t l) (length l))
     case (yes k) = k
     case (no k) = never (cc (first-none t l (omega arith)))
 
--- ---- the thread cleared, once it holds no signal
+-- ---- the thread cleared
 
-pub cleared : {b b₁ b₂ : List ℕ} (t : ℕ) {w : ThreadState} → Canonical b → t < threadCount → Encodes b₁ (withHeldAt (machineFrom b) t [])
-    → w ≡ idleThread → b₂ ≡ bytes.put b₁ (threadPlace t) (rawBytes w) → Encodes b₂ (withThread (machineFrom b) t idle)
-cleared {b} {b₁} {b₂} t {w} c l k i e =
-    let s = machineFrom b in
-    let f : b₂ ≡ bytes.put b₁ (threadPlace t) (rawBytes idleThread) = rw i at e in
-    let x : threadAt (withHeldAt s t []) t ≡ keepHeld [] (threadAt s t) =
-    getD-set-same (s .threads) t (keepHeld [] (threadAt s t)) idle (rw (c .sized .threads) l) in
-    let n : heldOf (threadAt (withHeldAt s t []) t) ≡ [] = ap heldOf x ∙ none (threadAt s t) in
-    let z = thread-written b₁ (withHeldAt s t []) k t idleThread l (idle-thread .tidy) (λ q. n) f in
-    rw (idle-thread .state, set-set (s .threads) t) at z
-  where
-    none : (y : law.ThreadState) → heldOf (keepHeld [] y) ≡ []
-    none idle = refl
-    none (running locks j) = refl
+pub cleared : {b b′ : List ℕ} (t : ℕ) {w : ThreadState} → Canonical b → t < threadCount → w ≡ idleThread
+    → b′ ≡ bytes.put b (threadPlace t) (rawBytes w) → Encodes b′ (withThread (machineFrom b) t idle)
+cleared {b} t c l i e = rw (idle-thread .state) at (thread-written b (machineFrom b) c t idleThread l (idle-thread .tidy) (rw i at e))
+
+-- where no signal is held, the places for them are zeros already
+pub none-there : {b : List ℕ} (t : ℕ) {w x : ThreadState} → Recorded b t w → Running w → w .held ≡ 0 → x ≡ idleThread → HeldThere b t x
+unfolding rawThread
+none-there t {w} e r n i =
+    let f = same-signals w idleThread (r .tidy) (idle-thread .tidy) (no-signals _ refl ∙ sym (no-signals (w .signals) n)) in
+    rw i record {
+      count = f .0 ∙ ap (λ (q : ThreadState). q .held) e;
+      signals = f .1 ∙ ap (λ (q : ThreadState). q .signals) e;
+    }
 
 -- ---- labels below n
 

@@ -1,8 +1,6 @@
 // The ends of a job. Each clears the thread to idle and keeps the job's shared writes and pending signals; a trap and a cut drop the
 // signals that it held.
 use block_table::thread_at;
-use held_signals::drop_held;
-use held_signals::held_count;
 use image::records::block_at;
 use pending_signals::oldest_label;
 use pending_signals::pending;
@@ -10,6 +8,7 @@ use rules::answer::Answer;
 use rules::sorts::Thread;
 use rules::sorts::thread_of;
 use thread_records::write_thread;
+use thread_records::write_without_held;
 use threads::thread::ThreadState;
 use trees::list::end_tree;
 use trees::list::first_tree;
@@ -21,8 +20,8 @@ ghost use Rattle.rules.specs.Machine.{withThread, idle};
 ghost use Rattle.rules.specs.Encoding.{machineFrom};
 ghost use Rattle.rules.specs.Events.{cut};
 ghost use Rattle.encoding.specs.Encoded.{Canonical, Encodes};
+ghost use Rattle.threads.specs.Threads.{Running};
 ghost use Rattle.thread_records.specs.Records.{Busy};
-ghost use Rattle.held_signals.specs.Held.{heldAt};
 ghost use Rattle.pending_signals.specs.Canon.{pendingAt};
 ghost use Rattle.step_ready.specs.Ready.{Ready, Recorded, Done, Ended, replyTo};
 ghost use Rattle.ending.specs.Home.{HomeOf, settled};
@@ -49,24 +48,25 @@ pub fn settle(image: &[u8], table: &[u8], state: &mut [u8], t: Thread)
     end_tree(state, i, to);
 }
 
-// Nothing of the job stays in the thread, which is w: none of the count signals that it held either.
-pub fn clear_thread(state: &mut [u8], t: Thread, w: ThreadState, count: usize)
-    requires { ⌜ Canonical (now state) × (t .0 < threadCount) × Busy (now state) (t .0)
-        × (count ≡ length (heldAt (machineFrom (now state)) (t .0))) ⌝ }
+// Nothing of the job stays in the thread, which is w: none of the signals that it held either. Where it held none, nothing is stored there.
+pub fn clear_thread(state: &mut [u8], t: Thread, w: ThreadState)
+    requires { ⌜ Canonical (now state) × (t .0 < threadCount) × Recorded (now state) (t .0) w × Running w ⌝ }
     ensures { λ _. ⌜ Encodes (now (state .exit)) (withThread (machineFrom (now (state .entry))) (t .0) idle) ⌝ }
 {
-    drop_held(state, t, count);
-    write_thread(state, t, w.end());
+    if w.held == 0 {
+        write_without_held(state, t, w.end());
+    } else {
+        write_thread(state, t, w.end());
+    }
 }
 
 // The job of thread t, which is w, ends by a trap or a cut.
 pub fn finish(image: &[u8], table: &[u8], state: &mut [u8], t: Thread, w: ThreadState)
-    requires { ⌜ Ready (now image) (now table) (now state) × (t .0 < threadCount) × Busy (now state) (t .0) ⌝ }
+    requires { ⌜ Ready (now image) (now table) (now state) × (t .0 < threadCount) × Recorded (now state) (t .0) w × Running w ⌝ }
     ensures { λ _. ⌜ Ended (now (image .entry)) (now (table .entry)) (now (state .entry)) (t .0) (now (state .exit)) ⌝ }
 {
     settle(image, table, state, t);
-    let count = held_count(state, t);
-    clear_thread(state, t, w, count);
+    clear_thread(state, t, w);
 }
 
 pub fn trapped(
@@ -77,7 +77,7 @@ pub fn trapped(
     w: ThreadState,
     reason: u8,
 ) -> Answer
-    requires { ⌜ Ready (now image) (now table) (now state) × (t .0 < threadCount) × Busy (now state) (t .0) ⌝ }
+    requires { ⌜ Ready (now image) (now table) (now state) × (t .0 < threadCount) × Recorded (now state) (t .0) w × Running w ⌝ }
     ensures { λ a. ⌜ a ≡ Answer.Trapped reason ⌝ }
     ensures { λ _. ⌜ Ended (now (image .entry)) (now (table .entry)) (now (state .entry)) (t .0) (now (state .exit)) ⌝ }
 {

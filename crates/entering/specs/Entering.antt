@@ -14,7 +14,7 @@ use Rattle.rules.specs.declared.sorts.Thread.{Thread}
 use Rattle.rules.specs.declared.answer.Answer.{Answer}
 use Rattle.rules.specs.declared.answer.Answer.the-variants.{Waiting, Moved, Trapped}
 use Rattle.encoding.specs.Encoded.{Canonical, Encodes}
-use Rattle.threads.specs.Threads.{Running, Runs, returnsOf, ZerosAfter}
+use Rattle.threads.specs.Threads.{Running, Runs, returnsOf, ZerosAfter, keeping}
 use Rattle.threads.specs.declared.thread.ThreadState.{ThreadState}
 use Rattle.step_ready.specs.Ready.{Stepped, Ended, done}
 use Rattle.step_ready.specs.At.{At, small, depth-is}
@@ -34,8 +34,8 @@ pub record CanEnter (w : ThreadState) (r vs : List ℕ) : Type 0 where
 module _ {image table b : List ℕ} {t : ℕ} {w : ThreadState} {r returns vs : List ℕ} {p : Passage} (h : At image table b t w r)
     (e : Enters image table b t w r returns vs p) where
   passes-as : (q : Passage) → p ≡ q
-      → Passes image table (machineFrom b) t (w .locks) (job (labelA r) returns (fill (take (operands r) vs))) q
-  passes-as q f = subst (Passes image table (machineFrom b) t (w .locks) (job (labelA r) returns (fill (take (operands r) vs)))) f
+      → Passes image table (machineFrom b) t (w .locks) (keeping w (job (labelA r) returns (fill (take (operands r) vs)))) q
+  passes-as q f = subst (Passes image table (machineFrom b) t (w .locks) (keeping w (job (labelA r) returns (fill (take (operands r) vs))))) f
       (e .passes)
 
   pub trap-stepped : (x : ℕ) {b′ : List ℕ} {a : Answer} → p ≡ Trap x → a ≡ Trapped x → Ended image table b t b′
@@ -59,7 +59,7 @@ module _ {image table b : List ℕ} {t : ℕ} {w : ThreadState} {r returns vs : 
   can-hold l f k = (h .ready .canonical, h .inside, k, passes-as (Go l) f .0)
 
   pub go-stepped : (l : Lock) → p ≡ Go l → {x : ThreadState} {b′ : List ℕ}
-      → Runs x (w .locks) (job (labelA r) returns (fill (take (operands r) vs))) → Encodes b′ (holding (machineFrom b) t x l)
+      → Runs x (w .locks) (keeping w (job (labelA r) returns (fill (take (operands r) vs)))) → Encodes b′ (holding (machineFrom b) t x l)
       → Stepped image table b t b′ Moved
   go-stepped l f m z = done _ Moved (passes-as (Go l) f .1) refl (holding-as (machineFrom b) t l m z)
 

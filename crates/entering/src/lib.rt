@@ -19,7 +19,7 @@ ghost use Rattle.rules.specs.Image.{labelA, labelB, operands};
 ghost use Rattle.rules.specs.Machine.{fill, job};
 ghost use Rattle.rules.specs.Statements.{statementOf};
 ghost use Rattle.rules.specs.declared.statement.Statement.the-variants.{SendDirect, Call};
-ghost use Rattle.threads.specs.Threads.{Runs, returnsOf};
+ghost use Rattle.threads.specs.Threads.{Runs, returnsOf, keeping};
 ghost use Rattle.step_ready.specs.Ready.{Stepped};
 ghost use Rattle.step_ready.specs.At.{At};
 ghost use Rattle.passage.specs.Enters.{Enters};
@@ -29,7 +29,7 @@ ghost use Rattle.entering.specs.Entering.{CanEnter};
 fn sent(w: ThreadState, r: &[u8], values: [u16; Thread::REGISTERS]) -> ThreadState
     requires { ⌜ CanEnter w (now r) values ⌝ }
     ensures { λ x. ⌜ Runs x (w .locks)
-        (job (labelA (now (r .entry))) (returnsOf w) (fill (take (operands (now (r .entry))) values))) ⌝ }
+        (keeping w (job (labelA (now (r .entry))) (returnsOf w) (fill (take (operands (now (r .entry))) values)))) ⌝ }
 {
     w.enter(label_a(r), values, operand_count(r))
 }
@@ -38,7 +38,7 @@ fn sent(w: ThreadState, r: &[u8], values: [u16; Thread::REGISTERS]) -> ThreadSta
 fn called(w: ThreadState, r: &[u8], values: [u16; Thread::REGISTERS]) -> ThreadState
     requires { ⌜ CanEnter w (now r) values × (w .depth < returnCount) ⌝ }
     ensures { λ x. ⌜ Runs x (w .locks)
-        (job (labelA (now (r .entry))) (returnsOf w ++ (labelB (now (r .entry)) ∷ [])) (fill (take (operands (now (r .entry))) values))) ⌝ }
+        (keeping w (job (labelA (now (r .entry))) (returnsOf w ++ (labelB (now (r .entry)) ∷ [])) (fill (take (operands (now (r .entry))) values)))) ⌝ }
 {
     let to = label_a(r);
     let back = label_b(r);

@@ -1,71 +1,85 @@
 -- What EXIT leaves: the own tree settled, the held signals admitted, the thread cleared.
 use mathlib.Core.Path.{_≡_, refl, sym, ap, _∙_, subst}
-use mathlib.Core.List.{List}
-use Prim.Native.Nat.{ℕ}
+use mathlib.Core.Bool.{Bool, true, false}
+use mathlib.Core.List.{List, []}
+use Prim.Native.Nat.{ℕ, _<_}
+use native.Mathlib.Omega.{arith}
+use lib.Dec.{ltb}
 use lib.ListN.{length, getD}
-use Rattle.rules.specs.Machine.{Signal, Machine, idle, threadAt, heldOf, withThread}
-use Rattle.rules.specs.Encoding.{machineFrom}
+use borrow.Author.Tests.{ltb-true}
+use Rattle.rules.specs.Machine as law
+use Rattle.rules.specs.Machine.{Signal, Machine, idle, running, threadAt, withThread}
+use Rattle.rules.specs.Encoding.{noSignal, machineFrom}
 use Rattle.rules.specs.Steps.{rulesBy, finished, admitted, lost}
-use Rattle.fields.specs.Each.{Each}
+use Rattle.rules.specs.Statements.{statementOf}
+use Rattle.rules.specs.declared.answer.Answer.{Answer}
+use Rattle.rules.specs.declared.answer.Answer.the-variants.{Exited}
+use Rattle.rules.specs.declared.statement.Statement.the-variants.{Exit}
+use Rattle.fields.specs.Each.{Each, each-at}
 use Rattle.laws.specs.Admitted.{admitted-threads, admitted-thread, lost-thread}
 use Rattle.soundness.specs.Sound.{HeldIn, ThreadIn}
-use Rattle.encoding.specs.Encoded.{Encodes, encoded-machine, encoded-canonical}
-use Rattle.held_signals.specs.Held.{heldAt}
-use Rattle.thread_records.specs.Records.{Busy}
+use Rattle.encoding.specs.Encoded.{Encodes, encoded-machine}
+use Rattle.threads.specs.Held.{held-counted, no-signals}
+use Rattle.threads.specs.Threads.{signalsOf, jobOf}
 use Rattle.threads.specs.declared.thread.ThreadState.{ThreadState}
-use Rattle.step_ready.specs.At.{At, at-busy}
+use Rattle.step_laws.specs.Statements.{leaves}
+use Rattle.step_ready.specs.Ready.{Recorded, Stepped, Ended, done, still-recorded}
+use Rattle.step_ready.specs.At.{At, tree, statement-here}
 use Rattle.ending.specs.Home.{settled}
-use Rattle.exiting.specs.Admitting.{Holds}
+use Rattle.exiting.specs.Admitting.{Through, places, four-places}
 
 module _ {image table b : List ℕ} {t : ℕ} {w : ThreadState} {r : List ℕ} (h : At image table b t w r) where
   abbrev m : Machine
   m = machineFrom b
 
+  abbrev gs : List Signal
+  gs = signalsOf w
+
+  pub counted : length gs ≡ w .held
+  counted = held-counted (w .held) (w .signals) (h .thread .tidy .held)
+
   -- the signals that the job holds have entry 2
-  held-in : Each (HeldIn image table) (heldAt m t)
-  held-in = subst (ThreadIn image table t) (h .runs) (h .ready .sound .threads t) .held
+  pub held-in : (i : ℕ) {g : Signal} → g ≡ getD gs i noSignal → ltb i (w .held) ≡ true → HeldIn image table g
+  held-in i e l =
+      let each : Each (HeldIn image table) gs = subst (ThreadIn image table t) (h .runs) (h .ready .sound .threads t) .held in
+      rw e (each-at (HeldIn image table) gs i noSignal each (omega (arith, counted, ltb-true i (w .held) l)))
 
-  -- the own tree is settled, and the thread runs on
-  module _ {b₁ : List ℕ} (k₁ : Encodes b₁ (settled image table t m)) where
-    same : threadAt (machineFrom b₁) t ≡ threadAt m t
-    same = rw (encoded-machine b₁ _ k₁) refl
+  -- those at the four places are all
+  pub all-held : {s : Machine} {k : ℕ} {b′ : List ℕ} {x₀ x₁ x₂ x₃ : Signal} → x₀ ≡ getD gs 0 noSignal → x₁ ≡ getD gs 1 noSignal
+      → x₂ ≡ getD gs 2 noSignal → x₃ ≡ getD gs 3 noSignal → Through (rulesBy image table) s (places (w .held) x₀ x₁ x₂ x₃) k b′
+      → Through (rulesBy image table) s gs k b′
+  all-held {s} {k} {b′} e₀ e₁ e₂ e₃ q =
+      subst (λ (l : List Signal). Through (rulesBy image table) s l k b′)
+      ((λ i. places (sym counted i) (e₀ i) (e₁ i) (e₂ i) (e₃ i)) ∙ four-places gs (h .thread .tidy .held .sized .count)) q
 
-    held-there : heldAt (machineFrom b₁) t ≡ heldAt m t
-    held-there = ap heldOf same
+  -- the own tree is settled and the signals are admitted: the thread's record says w still
+  pub still-runs : {b′ : List ℕ} → Encodes b′ (admitted (rulesBy image table) gs (settled image table t m)) → Recorded b′ t w
+  still-runs k = still-recorded t (h .inside) (h .thread) k
+      (ap (λ (z : List law.ThreadState). getD z t idle) (admitted-threads (rulesBy image table) gs (settled image table t m)) ∙ h .runs)
 
-    pub still-held : Holds image table b₁ t
-    still-held = record {
-      checked = h .ready .checked;
-      canonical = encoded-canonical b₁ _ k₁;
-      inside = h .inside;
-      entries = subst (λ (gs : List Signal). Each (HeldIn image table) gs) (sym held-there) held-in;
-    }
+  -- and then it is cleared
+  pub left : {b₁ b₂ : List ℕ} → Encodes b₁ (admitted (rulesBy image table) gs (settled image table t m))
+      → Encodes b₂ (withThread (machineFrom b₁) t idle) → Encodes b₂ (admitted (rulesBy image table) gs (finished (rulesBy image table) t m))
+  left {b₁} {b₂} k₁ k₂ =
+      subst (Encodes b₂)
+      (ap (λ (x : Machine). withThread x t idle) (encoded-machine b₁ _ k₁)
+      ∙ sym (admitted-thread (rulesBy image table) t idle gs (settled image table t m))) k₂
 
-    -- the held signals are admitted
-    module _ {b₂ : List ℕ} (k₂ : Encodes b₂ (admitted (rulesBy image table) (heldAt (machineFrom b₁) t) (machineFrom b₁))) where
-      same-still : threadAt (machineFrom b₂) t ≡ threadAt (machineFrom b₁) t
-      same-still =
-          ap (λ (x : Machine). threadAt x t) (encoded-machine b₂ _ k₂)
-          ∙ ap (λ z. getD z t idle) (admitted-threads (rulesBy image table) (heldAt (machineFrom b₁) t) (machineFrom b₁))
+  pub lost-there : lost (rulesBy image table) gs (settled image table t m) ≡ lost (rulesBy image table) gs (finished (rulesBy image table) t m)
+  lost-there = sym (lost-thread (rulesBy image table) t idle gs (settled image table t m))
 
-      pub still-busy : Busy b₂ t
-      still-busy = let q = at-busy h in (q .0, q .1, same-still ∙ same ∙ q .2)
+  module _ (e : statementOf r ≡ Exit) where
+    pub left-stepped : {b′ : List ℕ} {n : ℕ} → n ≡ length (lost (rulesBy image table) gs (finished (rulesBy image table) t m))
+        → Encodes b′ (admitted (rulesBy image table) gs (finished (rulesBy image table) t m)) → Stepped image table b t b′ (Exited n)
+    left-stepped f k =
+        done (admitted (rulesBy image table) gs (finished (rulesBy image table) t m))
+        (Exited (length (lost (rulesBy image table) gs (finished (rulesBy image table) t m))))
+        (leaves image table m t (w .locks) (jobOf w) (tree h .0) (h .runs) (tree h .1) (statement-here h Exit e)) (ap Exited f) k
 
-      pub count-still : {n : ℕ} → n ≡ length (heldAt (machineFrom b₁) t) → n ≡ length (heldAt (machineFrom b₂) t)
-      count-still e = rw (ap heldOf same-still) e
-
-      pub left : {b₃ : List ℕ} → Encodes b₃ (withThread (machineFrom b₂) t idle)
-          → Encodes b₃ (admitted (rulesBy image table) (heldAt m t) (finished (rulesBy image table) t m))
-      left {b₃} k₃ =
-          let R = rulesBy image table in
-          let e : withThread (machineFrom b₂) t idle ≡ withThread (admitted R (heldAt (machineFrom b₁) t) (machineFrom b₁)) t idle =
-          ap (λ (x : Machine). withThread x t idle) (encoded-machine b₂ _ k₂) in
-          let f : withThread (admitted R (heldAt (machineFrom b₁) t) (machineFrom b₁)) t idle
-          ≡ admitted R (heldAt m t) (finished R t m) =
-          rw (held-there, encoded-machine b₁ _ k₁) (sym (admitted-thread R t idle (heldAt m t) (settled image table t m))) in
-          subst (Encodes b₃) (e ∙ f) k₃
-
-    pub lost-there : lost (rulesBy image table) (heldAt (machineFrom b₁) t) (machineFrom b₁)
-        ≡ lost (rulesBy image table) (heldAt m t) (finished (rulesBy image table) t m)
-    lost-there =
-        rw (held-there, encoded-machine b₁ _ k₁) (sym (lost-thread (rulesBy image table) t idle (heldAt m t) (settled image table t m)))
+    -- a job that held none
+    pub bare-stepped : {b′ : List ℕ} → w .held ≡ 0 → Ended image table b t b′ → Stepped image table b t b′ (Exited 0)
+    unfolding admitted lost
+    bare-stepped {b′} z k =
+        let none : gs ≡ [] = no-signals (w .signals) z in
+        left-stepped (rw none refl) (subst (λ (q : List Signal). Encodes b′ (admitted (rulesBy image table) q (finished (rulesBy image table) t m)))
+        (sym none) k)

@@ -1,38 +1,42 @@
-// EXIT: the job's own tree is settled, then the signals that it held found trees.
+// EXIT: the job's own tree, then the trees that the signals it held found, oldest first.
 use block_table::thread_at;
 use ending::clear_thread;
+use ending::finish;
 use ending::settle;
-use held_signals::held_count;
-use held_signals::held_signal;
 use image::records::block_at;
 use rules::answer::Answer;
 use rules::sorts::Thread;
+use signal_records::Signal;
+use thread_records::read_held;
+use thread_records::read_thread;
 use threads::thread::ThreadState;
 use trees::list::append_tree;
 use trees::list::room;
 ghost use mathlib.Core.Path.{_≡_};
-ghost use Prim.Native.Nat.{_<_};
-ghost use lib.ListN.{length, getD};
-ghost use Rattle.rules.specs.Encoding.{noSignal, machineFrom};
+ghost use mathlib.Core.Bool.{true};
+ghost use mathlib.Core.List.{[], _∷_};
+ghost use Prim.Native.Nat.{_≤_};
+ghost use lib.ListN.{length};
+ghost use Rattle.rules.specs.Encoding.{machineFrom};
+ghost use Rattle.rules.specs.Steps.{rulesBy, finished, admitted, lost};
 ghost use Rattle.rules.specs.Statements.{statementOf};
-ghost use Rattle.rules.specs.Steps.{rulesBy, admit, admitted, lost};
 ghost use Rattle.rules.specs.declared.statement.Statement.the-variants.{Exit};
-ghost use Rattle.encoding.specs.Encoded.{Encodes};
-ghost use Rattle.held_signals.specs.Held.{heldAt};
-ghost use Rattle.step_ready.specs.Ready.{Stepped};
+ghost use Rattle.encoding.specs.Encoded.{Canonical, Encodes};
+ghost use Rattle.signal_records.specs.Signals.{signalOf};
+ghost use Rattle.threads.specs.Threads.{signalsOf};
+ghost use Rattle.step_ready.specs.Ready.{Stepped, threadIn};
 ghost use Rattle.step_ready.specs.At.{At};
-ghost use Rattle.exiting.specs.Admitting.{Holds, missing};
+ghost use Rattle.exiting.specs.Admitting.{Admissible, only};
 
-// Signal i of those that thread t's job holds becomes a tree at the list's end, on its block's thread, if there is room. How many are
-// lost: 0, or 1 where there is none.
-fn found_tree(image: &[u8], table: &[u8], state: &mut [u8], t: Thread, i: usize) -> u8
-    requires { ⌜ Holds (now image) (now table) (now state) (t .0) × (i < length (heldAt (machineFrom (now state)) (t .0))) ⌝ }
-    ensures { λ n. ⌜ n ≡ missing (now (image .entry)) (now (table .entry)) (machineFrom (now (state .entry)))
-        (getD (heldAt (machineFrom (now (state .entry))) (t .0)) i noSignal) ⌝ }
-    ensures { λ _. ⌜ Encodes (now (state .exit)) (admit (rulesBy (now (image .entry)) (now (table .entry)))
-        (getD (heldAt (machineFrom (now (state .entry))) (t .0)) i noSignal) (machineFrom (now (state .entry)))) ⌝ }
+// A signal that was held becomes a tree at the list's end, on its block's thread, if there is room. How many are lost: 0, or 1 where there
+// is none.
+fn found_tree(image: &[u8], table: &[u8], state: &mut [u8], g: Signal) -> u8
+    requires { ⌜ Admissible (now image) (now table) (now state) g ⌝ }
+    ensures { λ n. ⌜ n ≡ length (lost (rulesBy (now (image .entry)) (now (table .entry))) (signalOf g ∷ [])
+        (machineFrom (now (state .entry)))) ⌝ }
+    ensures { λ _. ⌜ Encodes (now (state .exit)) (admitted (rulesBy (now (image .entry)) (now (table .entry))) (signalOf g ∷ [])
+        (machineFrom (now (state .entry)))) ⌝ }
 {
-    let g = held_signal(state, t, i);
     let to = thread_at(table, block_at(image, g.label));
     if room(state, to) {
         append_tree(state, to, g);
@@ -41,37 +45,59 @@ fn found_tree(image: &[u8], table: &[u8], state: &mut [u8], t: Thread, i: usize)
     1
 }
 
-// The same of all of them, in order.
-fn found_trees(image: &[u8], table: &[u8], state: &mut [u8], t: Thread, count: usize) -> u8
-    requires { ⌜ Holds (now image) (now table) (now state) (t .0) × (count ≡ length (heldAt (machineFrom (now state)) (t .0))) ⌝ }
-    ensures { λ n. ⌜ n ≡ length (lost (rulesBy (now (image .entry)) (now (table .entry)))
-        (heldAt (machineFrom (now (state .entry))) (t .0)) (machineFrom (now (state .entry)))) ⌝ }
-    ensures { λ _. ⌜ Encodes (now (state .exit)) (admitted (rulesBy (now (image .entry)) (now (table .entry)))
-        (heldAt (machineFrom (now (state .entry))) (t .0)) (machineFrom (now (state .entry)))) ⌝ }
+// The same where the signal is held; where it is not, nothing is done.
+fn found_next(image: &[u8], table: &[u8], state: &mut [u8], g: Signal, held: bool) -> u8
+    requires { ⌜ Canonical (now state) × (held ≡ true → Admissible (now image) (now table) (now state) g) ⌝ }
+    ensures { λ n. ⌜ (n ≡ length (lost (rulesBy (now (image .entry)) (now (table .entry))) (only held (signalOf g))
+        (machineFrom (now (state .entry))))) × (n ≤ 1) ⌝ }
+    ensures { λ _. ⌜ Encodes (now (state .exit)) (admitted (rulesBy (now (image .entry)) (now (table .entry))) (only held (signalOf g))
+        (machineFrom (now (state .entry)))) ⌝ }
 {
-    let mut missed = 0u8;
-    let mut i = 0;
-    while i < count {
-        missed += found_tree(image, table, state, t, i);
-        i += 1;
+    if held {
+        return found_tree(image, table, state, g);
     }
-    missed
+    0
 }
 
-pub fn leave(
+// A job that holds signals ends: they are taken out of the thread first, at fixed places, so that the compiler does not copy the others.
+// How many of them are lost.
+fn end_holding(
     image: &[u8],
     table: &[u8],
     state: &mut [u8],
     t: Thread,
     w: ThreadState,
     r: &[u8],
-) -> Answer
-    requires { ⌜ At (now image) (now table) (now state) (t .0) w (now r) × (statementOf (now r) ≡ Exit) ⌝ }
+) -> u8
+    requires { ⌜ At (now image) (now table) (now state) (t .0) w (now r) ⌝ }
+    ensures { λ n. ⌜ n ≡ length (lost (rulesBy (now (image .entry)) (now (table .entry))) (signalsOf w)
+        (finished (rulesBy (now (image .entry)) (now (table .entry))) (t .0) (machineFrom (now (state .entry))))) ⌝ }
+    ensures { λ _. ⌜ Encodes (now (state .exit)) (admitted (rulesBy (now (image .entry)) (now (table .entry))) (signalsOf w)
+        (finished (rulesBy (now (image .entry)) (now (table .entry))) (t .0) (machineFrom (now (state .entry))))) ⌝ }
+{
+    let count = w.held;
+    let first = w.held_signal(0);
+    let second = w.held_signal(1);
+    let third = w.held_signal(2);
+    let fourth = w.held_signal(3);
+    settle(image, table, state, t);
+    let a = found_next(image, table, state, first, 0 < count);
+    let b = found_next(image, table, state, second, 1 < count);
+    let c = found_next(image, table, state, third, 2 < count);
+    let d = found_next(image, table, state, fourth, 3 < count);
+    clear_thread(state, t, w);
+    a + b + c + d
+}
+
+// The thread is read, as one value, where it is known whether it holds signals: of one that holds none they are then not loaded.
+pub fn leave(image: &[u8], table: &[u8], state: &mut [u8], t: Thread, r: &[u8]) -> Answer
+    requires { ⌜ At (now image) (now table) (now state) (t .0) (threadIn (now state) (t .0)) (now r) × (statementOf (now r) ≡ Exit) ⌝ }
     ensures { λ a. ⌜ Stepped (now (image .entry)) (now (table .entry)) (now (state .entry)) (t .0) (now (state .exit)) a ⌝ }
 {
-    settle(image, table, state, t);
-    let count = held_count(state, t);
-    let missed = found_trees(image, table, state, t, count);
-    clear_thread(state, t, w, count);
+    if read_held(state, t) == 0 {
+        finish(image, table, state, t, read_thread(state, t));
+        return Answer::Exited(0);
+    }
+    let missed = end_holding(image, table, state, t, read_thread(state, t), r);
     Answer::Exited(missed)
 }

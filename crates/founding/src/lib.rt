@@ -1,30 +1,25 @@
 // SEND JOBTREE: its signal is held for a new tree, and the thread goes on with its registers.
 use ending::trapped;
-use held_signals::held_count;
-use held_signals::hold;
 use image::record_fields::label_a;
 use image::record_fields::label_b;
 use image::record_fields::operand_count;
-use onward::go_on;
 use operands::read_data;
 use rules::answer::Answer;
 use rules::codes::HELD_FULL;
 use rules::sorts::Thread;
 use signal_records::Signal;
+use thread_records::write_held_signal;
 use threads::thread::ThreadState;
 ghost use mathlib.Core.Path.{_≡_};
 ghost use Prim.Native.Nat.{_<_};
-ghost use lib.ListN.{length};
 ghost use Rattle.rules.specs.Sizes.{heldCount};
-ghost use Rattle.rules.specs.Encoding.{machineFrom};
 ghost use Rattle.rules.specs.Statements.{statementOf};
 ghost use Rattle.rules.specs.declared.statement.Statement.the-variants.{SendTree};
-ghost use Rattle.held_signals.specs.Held.{heldAt};
 ghost use Rattle.operands.specs.Readings.{Given};
 ghost use Rattle.step_ready.specs.Ready.{Stepped};
 ghost use Rattle.step_ready.specs.At.{At};
 
-// The data have been read, and the job holds count signals, fewer than four.
+// The data have been read, and the job holds fewer than four signals.
 fn hold_for_tree(
     image: &[u8],
     table: &[u8],
@@ -33,26 +28,21 @@ fn hold_for_tree(
     w: ThreadState,
     r: &[u8],
     values: [u16; Thread::REGISTERS],
-    count: usize,
 ) -> Answer
     requires { ⌜ At (now image) (now table) (now state) (t .0) w (now r) × (statementOf (now r) ≡ SendTree)
-        × Given (now state) w (now r) values × (count ≡ length (heldAt (machineFrom (now state)) (t .0))) × (count < heldCount) ⌝ }
+        × Given (now state) w (now r) values × (w .held < heldCount) ⌝ }
     ensures { λ a. ⌜ Stepped (now (image .entry)) (now (table .entry)) (now (state .entry)) (t .0) (now (state .exit)) a ⌝ }
 {
     let to = label_a(r);
     let next = label_b(r);
-    let a = go_on(state, t, w, next);
-    hold(
-        state,
-        t,
-        count,
-        Signal {
-            label: to,
-            count: operand_count(r),
-            values: values,
-        },
-    );
-    a
+    let g = Signal {
+        label: to,
+        count: operand_count(r),
+        values: values,
+    };
+    let held = w.hold_signal(g);
+    write_held_signal(state, t, held.move_on(next), g);
+    Answer::Moved
 }
 
 pub fn send_tree(
@@ -71,9 +61,8 @@ pub fn send_tree(
     if trap != 0 {
         return trapped(image, table, state, t, w, trap);
     }
-    let count = held_count(state, t);
-    if Thread::HELD <= count {
+    if Thread::HELD <= w.held {
         return trapped(image, table, state, t, w, HELD_FULL);
     }
-    hold_for_tree(image, table, state, t, w, r, values, count)
+    hold_for_tree(image, table, state, t, w, r, values)
 }

@@ -4,7 +4,7 @@ use mathlib.Core.List.{List}
 use Prim.Native.Nat.{ℕ, _^_}
 use lib.Bits.{bitOr}
 use Rattle.rules.specs.Machine as law
-use Rattle.rules.specs.Machine.{Job, Machine, running, withHeld, heldOf, threadAt, withThread}
+use Rattle.rules.specs.Machine.{Job, Machine, running, withThread}
 use Rattle.rules.specs.declared.sorts.Lock.{Lock}
 use Rattle.encoding.specs.Encoded.{Encodes}
 use Rattle.threads.specs.Threads.{jobOf, Runs, runs-fields, withJob}
@@ -20,4 +20,4 @@ pub holding-as : (s : Machine) (t : ℕ) (l : Lock) {b : List ℕ} {w : ThreadSt
 holding-as s t l {b} m n =
     let f = runs-fields m in
     subst (λ (x : law.ThreadState). Encodes b (withThread s t x))
-    (λ i. running (bitOr (f .0 i) (2 ^ l .0)) (withHeld (heldOf (threadAt s t)) (f .1 i))) n
+    (λ i. running (bitOr (f .0 i) (2 ^ l .0)) (f .1 i)) n

@@ -11,10 +11,10 @@ use Rattle.rules.specs.declared.answer.Answer.the-variants.{Moved}
 use Rattle.rules.specs.declared.statement.Statement.the-variants.{Skip}
 use Rattle.encoding.specs.Encoded.{Encodes}
 use Rattle.step_laws.specs.Statements as law
-use Rattle.threads.specs.Threads.{returnsOf, registersOf, withJob}
+use Rattle.threads.specs.Threads.{returnsOf, registersOf, withJob, jobOf, keeping}
 use Rattle.threads.specs.declared.thread.ThreadState.{ThreadState}
 use Rattle.step_ready.specs.Ready.{Stepped, done}
-use Rattle.step_ready.specs.At.{At, tree, statement-here, jobAt}
+use Rattle.step_ready.specs.At.{At, tree, statement-here}
 
 module _ {image table b : List ℕ} {t : ℕ} {w : ThreadState} {r : List ℕ} (h : At image table b t w r) where
   abbrev m : Machine
@@ -25,11 +25,11 @@ module _ {image table b : List ℕ} {t : ℕ} {w : ThreadState} {r : List ℕ} (
 
   -- the thread at a label, with its registers
   abbrev pub movedTo : ℕ → Machine
-  movedTo l = withJob m t (w .locks) (job l (returnsOf w) (registersOf w))
+  movedTo l = withJob m t (w .locks) (keeping w (job l (returnsOf w) (registersOf w)))
 
   pub skipped : {l : ℕ} {b′ : List ℕ} {a : Answer} → statementOf r ≡ Skip → l ≡ labelA r → a ≡ Moved → Encodes b′ (movedTo l)
       → Stepped image table b t b′ a
   skipped e q f k =
       done (movedTo (labelA here)) Moved
-      (law.skips image table m t (w .locks) (jobAt b t w) (tree h .0) (h .runs) (tree h .1) (statement-here h Skip e)) f
+      (law.skips image table m t (w .locks) (jobOf w) (tree h .0) (h .runs) (tree h .1) (statement-here h Skip e)) f
       (rw (q ∙ ap labelA (h .here)) at k)

@@ -13,7 +13,7 @@ ghost use Rattle.rules.specs.Encoding.{machineFrom};
 ghost use Rattle.rules.specs.Statements.{statementOf};
 ghost use Rattle.rules.specs.declared.statement.Statement.the-variants.{Skip};
 ghost use Rattle.encoding.specs.Encoded.{Encodes, Canonical};
-ghost use Rattle.threads.specs.Threads.{Running, returnsOf, registersOf, withJob};
+ghost use Rattle.threads.specs.Threads.{Running, returnsOf, registersOf, withJob, keeping};
 ghost use Rattle.step_ready.specs.Ready.{Stepped};
 ghost use Rattle.step_ready.specs.At.{At};
 
@@ -22,7 +22,7 @@ pub fn go_on(state: &mut [u8], t: Thread, w: ThreadState, to: Label) -> Answer
     requires { ⌜ Canonical (now state) × (t .0 < threadCount) × Running w × (to .0 < idleLabel) ⌝ }
     ensures { λ a. ⌜ a ≡ Answer.Moved ⌝ }
     ensures { λ _. ⌜ Encodes (now (state .exit)) (withJob (machineFrom (now (state .entry))) (t .0) (w .locks)
-        (job (to .0) (returnsOf w) (registersOf w))) ⌝ }
+        (keeping w (job (to .0) (returnsOf w) (registersOf w)))) ⌝ }
 {
     write_thread(state, t, w.move_on(to));
     Answer::Moved

@@ -30,13 +30,13 @@ use Rattle.laws.specs.Passed.{passed}
 use Rattle.soundness.specs.Destinations.{lock-below}
 use Rattle.step_laws.specs.Events.{reply}
 use Rattle.step_laws.specs.Statements.{unread, send-alien, send-waits, send-enters, call-deep, call-alien, call-waits, call-enters}
-use Rattle.threads.specs.Threads.{returnsOf, ZerosAfter, withJob}
+use Rattle.threads.specs.Threads.{returnsOf, ZerosAfter, withJob, jobOf, keeping}
 use Rattle.threads.specs.declared.thread.ThreadState.{ThreadState}
 use Rattle.state.specs.Locks.{Alone, held-by-other}
 use Rattle.operands.specs.Readings.{Reads}
 use Rattle.operands.specs.Cells.{cellsOf}
 use Rattle.operands.specs.Gathered.{zeros-stay}
-use Rattle.step_ready.specs.At.{At, tree, label-A, depth-is, jobAt}
+use Rattle.step_ready.specs.At.{At, tree, label-A, depth-is}
 use Rattle.passage.specs.Passages.{callTrap, otherHolder, byLock, passageTo, go-clear, call-clear}
 use Rattle.passage.specs.declared.Passage.{Passage}
 use Rattle.passage.specs.declared.Passage.the-variants.{Trap, Wait, Go}
@@ -51,7 +51,7 @@ Passes image table s t locks k (Go l) =
 
 -- the passage of the statement in the record r, with the return labels and the values with which the thread goes in
 pub record Enters (image table b : List ℕ) (t : ℕ) (w : ThreadState) (r returns vs : List ℕ) (p : Passage) : Type 0 where
-  pub passes : Passes image table (machineFrom b) t (w .locks) (job (labelA r) returns (fill (take (operands r) vs))) p
+  pub passes : Passes image table (machineFrom b) t (w .locks) (keeping w (job (labelA r) returns (fill (take (operands r) vs)))) p
   pub zeros : (l : Lock) → p ≡ Go l → ZerosAfter (operands r) vs
   pub room : (l : Lock) → p ≡ Go l → length returns ≤ returnCount
 
@@ -86,7 +86,7 @@ module _ (image table : List ℕ) (s : Machine) (t locks : ℕ) (k : Job) (row :
 
 -- the record at the label of a running thread, and the data that it reads
 module _ (image table b : List ℕ) (t : ℕ) (w : ThreadState) (p : List Signal)
-    (runs : threadAt (machineFrom b) t ≡ running (w .locks) (jobAt b t w)) (own : first t (machineFrom b .trees) ≡ some p)
+    (runs : threadAt (machineFrom b) t ≡ running (w .locks) (jobOf w)) (own : first t (machineFrom b .trees) ≡ some p)
     (sized : length (machineFrom b .threads) ≡ threadCount) where
   abbrev r : List ℕ
   r = recordAt image (w .label .0)
@@ -97,42 +97,42 @@ module _ (image table b : List ℕ) (t : ℕ) (w : ThreadState) (p : List Signal
   module _ {x n : ℕ} {before vs : List ℕ} (g : Reads (readAll (cellsOf b w r) (dataOf r)) x n before vs)
       (inside : into .lock < lockCount) where
     send-by : statementOf r ≡ SendDirect
-        → Passes image table (machineFrom b) t (w .locks) (job (labelA r) (returnsOf w) (fill (take n vs)))
+        → Passes image table (machineFrom b) t (w .locks) (keeping w (job (labelA r) (returnsOf w) (fill (take n vs))))
         (passageTo (machineFrom b) into t x)
     unfolding machineFrom
     send-by e = case (ℕ-discrete x 0)
       where
-        case : Dec (x ≡ 0) → Passes image table (machineFrom b) t (w .locks) (job (labelA r) (returnsOf w) (fill (take n vs)))
+        case : Dec (x ≡ 0) → Passes image table (machineFrom b) t (w .locks) (keeping w (job (labelA r) (returnsOf w) (fill (take n vs))))
             (passageTo (machineFrom b) into t x)
         case (yes z) =
-            rw z (none-before image table (machineFrom b) t (w .locks) (job (labelA r) (returnsOf w) (fill (take n vs))) into
+            rw z (none-before image table (machineFrom b) t (w .locks) (keeping w (job (labelA r) (returnsOf w) (fill (take n vs)))) into
             sized inside
-            (send-alien image table (machineFrom b) t (w .locks) (jobAt b t w) p runs own (take n vs) e (g .values z))
-            (send-waits image table (machineFrom b) t (w .locks) (jobAt b t w) p runs own (take n vs) e (g .values z))
-            (send-enters image table (machineFrom b) t (w .locks) (jobAt b t w) p runs own (take n vs) e (g .values z)))
+            (send-alien image table (machineFrom b) t (w .locks) (jobOf w) p runs own (take n vs) e (g .values z))
+            (send-waits image table (machineFrom b) t (w .locks) (jobOf w) p runs own (take n vs) e (g .values z))
+            (send-enters image table (machineFrom b) t (w .locks) (jobOf w) p runs own (take n vs) e (g .values z)))
         case (no m) = trapped-before image table (machineFrom b) t (w .locks) _ into x m
-            (unread image table (machineFrom b) t (w .locks) (jobAt b t w) p runs own SendDirect x e (g .trapped m))
+            (unread image table (machineFrom b) t (w .locks) (jobOf w) p runs own SendDirect x e (g .trapped m))
 
     call-by : length (returnsOf w) ≡ w .depth → statementOf r ≡ Call
-        → Passes image table (machineFrom b) t (w .locks) (job (labelA r) (returnsOf w ++ labelB r ∷ []) (fill (take n vs)))
+        → Passes image table (machineFrom b) t (w .locks) (keeping w (job (labelA r) (returnsOf w ++ labelB r ∷ []) (fill (take n vs))))
         (passageTo (machineFrom b) into t (callTrap x (w .depth)))
     unfolding machineFrom callTrap
     call-by deep e = case (ℕ-discrete x 0) (leb returnCount (w .depth)) refl
       where
         case : Dec (x ≡ 0) → (f : Bool) → leb returnCount (w .depth) ≡ f
-            → Passes image table (machineFrom b) t (w .locks) (job (labelA r) (returnsOf w ++ labelB r ∷ []) (fill (take n vs)))
+            → Passes image table (machineFrom b) t (w .locks) (keeping w (job (labelA r) (returnsOf w ++ labelB r ∷ []) (fill (take n vs))))
             (passageTo (machineFrom b) into t (cond (eqb x 0) (cond (leb returnCount (w .depth)) returnsFullCode 0) x))
         case (yes z) true f =
             rw (z, f) (trapped-before image table (machineFrom b) t (w .locks) _ into returnsFullCode (λ q. omega arith)
-            (call-deep image table (machineFrom b) t (w .locks) (jobAt b t w) p runs own (take n vs) e (g .values z) (rw deep f)))
+            (call-deep image table (machineFrom b) t (w .locks) (jobOf w) p runs own (take n vs) e (g .values z) (rw deep f)))
         case (yes z) false f =
             rw (z, f) (none-before image table (machineFrom b) t (w .locks) _ into sized inside
-            (call-alien image table (machineFrom b) t (w .locks) (jobAt b t w) p runs own (take n vs) e (g .values z) (rw deep f))
-            (call-waits image table (machineFrom b) t (w .locks) (jobAt b t w) p runs own (take n vs) e (g .values z) (rw deep f))
-            (call-enters image table (machineFrom b) t (w .locks) (jobAt b t w) p runs own (take n vs) e (g .values z) (rw deep f)))
+            (call-alien image table (machineFrom b) t (w .locks) (jobOf w) p runs own (take n vs) e (g .values z) (rw deep f))
+            (call-waits image table (machineFrom b) t (w .locks) (jobOf w) p runs own (take n vs) e (g .values z) (rw deep f))
+            (call-enters image table (machineFrom b) t (w .locks) (jobOf w) p runs own (take n vs) e (g .values z) (rw deep f)))
         case (no m) f q = rw (ne-eqb x 0 m)
             (trapped-before image table (machineFrom b) t (w .locks) _ into x m
-            (unread image table (machineFrom b) t (w .locks) (jobAt b t w) p runs own Call x e (g .trapped m)))
+            (unread image table (machineFrom b) t (w .locks) (jobOf w) p runs own Call x e (g .trapped m)))
 
 module _ {image table b : List ℕ} {t : ℕ} {w : ThreadState} {r : List ℕ} (h : At image table b t w r) where
   -- the signal of a direct SEND or a CALL is below n, and its lock is one of the 16
@@ -166,7 +166,7 @@ module _ {image table b : List ℕ} {t : ℕ} {w : ThreadState} {r : List ℕ} (
         go : (q : List ℕ) → q ≡ recordAt image (w .label .0)
             → Reads (readAll (cellsOf b w q) (dataOf q)) x (operands q) (replicate operandCount 0) vs → statementOf q ≡ SendDirect
             → rowAt table (blockAt image (labelA q)) .lock < lockCount
-            → Passes image table (machineFrom b) t (w .locks) (job (labelA q) (returnsOf w) (fill (take (operands q) vs)))
+            → Passes image table (machineFrom b) t (w .locks) (keeping w (job (labelA q) (returnsOf w) (fill (take (operands q) vs))))
             (passageTo (machineFrom b) (rowAt table (blockAt image (labelA q))) t x)
         go q i = rw i (λ g e l. send-by image table b t w (tree h .0) (h .runs) (tree h .1) eight g l e)
 
@@ -185,6 +185,6 @@ module _ {image table b : List ℕ} {t : ℕ} {w : ThreadState} {r : List ℕ} (
         go : (q : List ℕ) → q ≡ recordAt image (w .label .0)
             → Reads (readAll (cellsOf b w q) (dataOf q)) x (operands q) (replicate operandCount 0) vs → statementOf q ≡ Call
             → rowAt table (blockAt image (labelA q)) .lock < lockCount
-            → Passes image table (machineFrom b) t (w .locks) (job (labelA q) (returnsOf w ++ labelB q ∷ []) (fill (take (operands q) vs)))
+            → Passes image table (machineFrom b) t (w .locks) (keeping w (job (labelA q) (returnsOf w ++ labelB q ∷ []) (fill (take (operands q) vs))))
             (passageTo (machineFrom b) (rowAt table (blockAt image (labelA q))) t (callTrap x (w .depth)))
         go q i = rw i (λ g e l. call-by image table b t w (tree h .0) (h .runs) (tree h .1) eight g l (depth-is h) e)

@@ -139,8 +139,11 @@ heldCountPlace = registersPlace + 2 * registerCount
 abbrev pub heldPlace : ℕ
 heldPlace = heldCountPlace + 1
 
+abbrev pub heldSize : ℕ
+heldSize = signalSize * heldCount
+
 abbrev pub threadSize : ℕ
-threadSize = heldPlace + signalSize * heldCount
+threadSize = heldPlace + heldSize
 
 -- ---- a tree record: thread, pending count, signals
 

@@ -59,7 +59,9 @@ pub const HELD_COUNT_PLACE: usize = REGISTERS_PLACE + 2 * Thread::REGISTERS;
 
 pub const HELD_PLACE: usize = HELD_COUNT_PLACE + 1;
 
-pub const THREAD_SIZE: usize = HELD_PLACE + SIGNAL_SIZE * Thread::HELD;
+pub const HELD_SIZE: usize = SIGNAL_SIZE * Thread::HELD;
+
+pub const THREAD_SIZE: usize = HELD_PLACE + HELD_SIZE;
 
 // A tree record: thread, pending count, signals, the oldest first.
 pub const PENDING_COUNT_PLACE: usize = 1;

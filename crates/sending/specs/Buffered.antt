@@ -17,14 +17,14 @@ use Rattle.rules.specs.declared.answer.Answer.the-variants.{Moved, Trapped}
 use Rattle.rules.specs.declared.statement.Statement.the-variants.{SendBuffered}
 use Rattle.encoding.specs.Encoded.{Encodes, Canonical, encoded-machine}
 use Rattle.encoding.specs.FirstTree.{firstTree, first-some}
-use Rattle.threads.specs.Threads.{returnsOf, registersOf, withJob}
+use Rattle.threads.specs.Threads.{returnsOf, registersOf, withJob, jobOf, keeping}
 use Rattle.threads.specs.declared.thread.ThreadState.{ThreadState}
 use Rattle.pending_signals.specs.Canon.{pendingAt}
 use Rattle.pending_signals.specs.Changes.{sent}
 use Rattle.operands.specs.Readings.{Given}
 use Rattle.step_laws.specs.Statements.{buffer-full, buffers}
 use Rattle.step_ready.specs.Ready.{Stepped, Ended, done}
-use Rattle.step_ready.specs.At.{At, tree, statement-here, reads-here, jobAt}
+use Rattle.step_ready.specs.At.{At, tree, statement-here, reads-here}
 use Rattle.ending.specs.Home.{first-inside}
 
 module _ {image table b : List ℕ} {t : ℕ} {w : ThreadState} {r : List ℕ} (h : At image table b t w r) where
@@ -51,12 +51,12 @@ module _ {image table b : List ℕ} {t : ℕ} {w : ThreadState} {r : List ℕ} (
         → Ended image table b t b′ → Stepped image table b t b′ a
     full-stepped l f k =
         done (finished (rulesBy image table) t m) (Trapped pendingFullCode)
-        (buffer-full image table m t (w .locks) (jobAt b t w) (pendingAt m i) (h .runs) own vs
+        (buffer-full image table m t (w .locks) (jobOf w) (pendingAt m i) (h .runs) own vs
         (statement-here h SendBuffered e) (reads-here h SendBuffered (g .values refl)) (le-leb pendingCount _ l)) f k
 
     -- the machine with the thread at label B, and then with the signal in the tree
     abbrev moved : List ℕ → Machine
-    moved q = withJob m t (w .locks) (job (labelB q) (returnsOf w) (registersOf w))
+    moved q = withJob m t (w .locks) (keeping w (job (labelB q) (returnsOf w) (registersOf w)))
 
     abbrev buffered : List ℕ → Machine → Machine
     buffered q s = sent t i (record { label = labelA q; values = vs }) s
@@ -66,6 +66,6 @@ module _ {image table b : List ℕ} {t : ℕ} {w : ThreadState} {r : List ℕ} (
     buffered-stepped {b₁} {b₂} l k z n f =
         let both : machineFrom b₂ ≡ buffered r (moved r) = n ∙ ap (buffered r) (encoded-machine b₁ (moved r) k) in
         done (buffered here (moved here)) Moved
-        (buffers image table m t (w .locks) (jobAt b t w) (pendingAt m i) (h .runs) own vs
+        (buffers image table m t (w .locks) (jobOf w) (pendingAt m i) (h .runs) own vs
         (statement-here h SendBuffered e) (reads-here h SendBuffered (g .values refl)) (lt-leb pendingCount _ l)) f
         (subst (λ (q : List ℕ). Encodes b₂ (buffered q (moved q))) (h .here) (subst (Encodes b₂) both z))

@@ -150,7 +150,7 @@ module _ {image table b : List ℕ} (h : Ready image table b) (t : ℕ) (rests :
 
     -- no other does
     pub start-running : held (l .0) (set (s .threads) t idle) ≡ false → replyTo image table b (step t) ≡ reply (begun s t i l) Started
-    start-running e = rw (k .lock, rests) (start-runs (rulesBy image table) s t (oldestAt s i) (drop 1 (pendingAt s i)) rests first-oldest
+    start-running e = rw (k .lock) (start-runs (rulesBy image table) s t (oldestAt s i) (drop 1 (pendingAt s i)) rests first-oldest
         (rw (k .lock) at e))
 
   -- by the first signal that is found

@@ -6,15 +6,14 @@ use mathlib.Core.Option.{some}
 use Prim.Native.Nat.{ℕ, _<_}
 use native.Mathlib.Omega.{arith}
 use lib.Dec.{eqb}
-use lib.ListN.{length, set}
-use lib.Seq.{length-take-le}
+use lib.ListN.{length}
 use Rattle.rules.specs.Sizes.{threadCount, idleLabel}
 use Rattle.rules.specs.Image.{labels, recordAt, blockField, labelA, labelB}
 use Rattle.rules.specs.Statements.{statementOf, roleA, roleB, dataOf, reads}
 use Rattle.rules.specs.Check.{recordOk}
 use Rattle.rules.specs.Effects.{Got, trap, Cells, readAll}
 use Rattle.rules.specs.Machine as law
-use Rattle.rules.specs.Machine.{Signal, Job, job, withHeld, heldOf, threadAt, first, idle, running, window}
+use Rattle.rules.specs.Machine.{Signal, threadAt, first, idle, running, window}
 use Rattle.rules.specs.Encoding.{machineFrom}
 use Rattle.rules.specs.Steps.{blockAt, rulesBy, finished}
 use Rattle.rules.specs.declared.answer.Answer.{Answer}
@@ -23,20 +22,16 @@ use Rattle.rules.specs.declared.statement.Statement.{Statement}
 use Rattle.laws.specs.Passed.{Parts, passed, rule-parts}
 use Rattle.laws.specs.Heads.{head-fields, few-operands}
 use Rattle.soundness.specs.Sound.{ThreadIn}
-use Rattle.encoding.specs.Slots.{returnsIn, registersIn}
+use Rattle.encoding.specs.Slots.{registersIn}
 use Rattle.step_laws.specs.Statements.{unread}
 use Rattle.image.specs.Records.{labels-small, length-record}
-use Rattle.threads.specs.Threads.{keepHeld, says-whole, jobOf, returnsOf, registersOf, Running, Runs, runs-fields, idle-says, runs-says}
-use Rattle.threads.specs.Records.{rawThread, same-returns, set-registers}
+use Rattle.threads.specs.Threads.{jobOf, returnsOf, Running, idle-says, runs-says}
+use Rattle.threads.specs.Records.{rawThread, returns-counted}
 use Rattle.threads.specs.declared.thread.ThreadState.{ThreadState}
 use Rattle.thread_records.specs.Records.{Busy}
 use Rattle.operands.specs.Legal.{Below, Readable, label-below}
 use Rattle.operands.specs.Cells.{cellsFrom, cellsOf}
 use Rattle.step_ready.specs.Ready.{Ready, Recorded, Stepped, Ended, done, says}
-
--- the job that thread t, which is w, runs in the bytes b: what it holds stands there
-abbrev pub jobAt : List ℕ → ℕ → ThreadState → Job
-jobAt b t w = withHeld (heldOf (threadAt (machineFrom b) t)) (jobOf w)
 
 -- thread t, which is w, runs a job and comes to the record r
 pub record At (image table b : List ℕ) (t : ℕ) (w : ThreadState) (r : List ℕ) : Type 0 where
@@ -44,7 +39,7 @@ pub record At (image table b : List ℕ) (t : ℕ) (w : ThreadState) (r : List �
   pub inside : t < threadCount
   pub read : Recorded b t w
   pub thread : Running w
-  pub runs : threadAt (machineFrom b) t ≡ running (w .locks) (jobAt b t w)
+  pub runs : threadAt (machineFrom b) t ≡ running (w .locks) (jobOf w)
   pub here : r ≡ recordAt image (w .label .0)
   pub parts : Parts image r
   pub readable : Readable r
@@ -52,21 +47,19 @@ pub record At (image table b : List ℕ) (t : ℕ) (w : ThreadState) (r : List �
 -- a thread that was read and is idle, or is not
 pub at-rest : {image table b : List ℕ} (h : Ready image table b) (t : ℕ) (w : ThreadState) → t < threadCount → Recorded b t w
     → eqb (w .label .0) idleLabel ≡ true → threadAt (machineFrom b) t ≡ idle
-at-rest {b = b} h t w l e n =
-    let x = threadAt (machineFrom b) t in
-    says-whole (says h t l e) ∙ ap (keepHeld (heldOf x)) (idle-says w n)
+at-rest h t w l e n = sym (says h t l e .state) ∙ idle-says w n
 
 module _ {image table b : List ℕ} (h : Ready image table b) (t : ℕ) (w : ThreadState) (l : t < threadCount) (e : Recorded b t w)
     (n : eqb (w .label .0) idleLabel ≡ false) where
-  pub runs-job : threadAt (machineFrom b) t ≡ running (w .locks) (jobAt b t w)
-  runs-job = let x = threadAt (machineFrom b) t in says-whole (says h t l e) ∙ ap (keepHeld (heldOf x)) (runs-says w n)
-
-  pub busy : Busy b t
-  busy = (w .locks, jobAt b t w, runs-job)
+  pub runs-job : threadAt (machineFrom b) t ≡ running (w .locks) (jobOf w)
+  runs-job = sym (says h t l e .state) ∙ runs-says w n
 
   -- its label is below n
   pub label-inside : w .label .0 < labels image
   label-inside = subst (ThreadIn image table t) runs-job (h .sound .threads t) .places .0 .below
+
+  pub thread-runs : Running w
+  thread-runs = record { label = omega (arith, label-inside, labels-small image); tidy = says h t l e .tidy }
 
   pub at : {r : List ℕ} → r ≡ recordAt image (w .label .0) → At image table b t w r
   unfolding recordOk
@@ -78,7 +71,7 @@ module _ {image table b : List ℕ} (h : Ready image table b) (t : ℕ) (w : Thr
         ready = h;
         inside = l;
         read = e;
-        thread = record { label = omega (arith, label-inside, labels-small image); tidy = says h t l e .tidy };
+        thread = thread-runs;
         runs = runs-job;
         here = f;
         parts = q;
@@ -92,7 +85,7 @@ module _ {image table b : List ℕ} (h : Ready image table b) (t : ℕ) (w : Thr
 
 module _ {image table b : List ℕ} {t : ℕ} {w : ThreadState} {r : List ℕ} (h : At image table b t w r) where
   pub at-busy : Busy b t
-  at-busy = (w .locks, jobAt b t w, h .runs)
+  at-busy = (w .locks, jobOf w, h .runs)
 
   -- its registers, as the record has them
   pub registers-here : w .registers ≡ registersIn b t
@@ -101,7 +94,7 @@ module _ {image table b : List ℕ} {t : ℕ} {w : ThreadState} {r : List ℕ} (
 
   -- a running thread has a tree
   pub tree : (p : List Signal) × (first t (machineFrom b .trees) ≡ some p)
-  tree = h .ready .sound .invariant .rooted t (jobAt b t w) (ap law.jobOf (h .runs))
+  tree = h .ready .sound .invariant .rooted t (jobOf w) (ap law.jobOf (h .runs))
 
   -- the statement at the law's record
   pub statement-here : (S : Statement) → statementOf r ≡ S → statementOf (recordAt image (w .label .0)) ≡ S
@@ -146,22 +139,9 @@ module _ {image table b : List ℕ} {t : ℕ} {w : ThreadState} {r : List ℕ} (
       → Stepped image table b t b′ a
   unread-stepped S {reason} e g f k =
       done (finished (rulesBy image table) t (machineFrom b)) (Trapped reason)
-      (unread image table (machineFrom b) t (w .locks) (jobAt b t w) (tree .0) (h .runs) (tree .1) S reason (statement-here S e)
+      (unread image table (machineFrom b) t (w .locks) (jobOf w) (tree .0) (h .runs) (tree .1) S reason (statement-here S e)
       (reads-here S g)) f k
 
   -- as many return labels as the thread counts
   pub depth-is : length (returnsOf w) ≡ w .depth
-  depth-is = length-take-le (w .depth) (w .returns) (omega (arith, h .thread .tidy .returns .sized, h .thread .tidy .returns .within))
-
-  -- after ASSIGN to a register the return labels and all registers but one are as the record has them
-  pub slots-assigned : {w′ : ThreadState} {locks l : ℕ} (k v : ℕ) → Runs w′ locks (job l (returnsOf w) (set (registersOf w) k (some v)))
-      → (w′ .returns ≡ returnsIn b t) × (w′ .registers ≡ set (registersIn b t) k v)
-  unfolding rawThread
-  slots-assigned {w′} k v q =
-      let f = runs-fields q .1 in
-      let z = h .thread .tidy in
-      let z′ = q .running .tidy in
-      let returns : w .returns ≡ returnsIn b t = ap (λ (x : ThreadState). x .returns) (h .read) in (
-        same-returns w w′ z z′ (ap (λ (j : Job). j .returns) f) ∙ returns,
-        set-registers w w′ z z′ k v (ap (λ (j : Job). j .registers) f) ∙ ap (λ q. set q k v) registers-here,
-      )
+  depth-is = returns-counted w (h .thread .tidy)

@@ -1,24 +1,27 @@
 -- A state that an event can be carried out on: the image and the table have passed the check, and the bytes are those of a well-formed
 -- machine. Every accepted event leaves such a state.
-use mathlib.Core.Path.{_≡_, refl, sym, ap, _∙_}
+use mathlib.Core.Path.{_≡_, refl, sym, ap, _∙_, subst}
 use mathlib.Core.List.{List}
+use mathlib.Core.Option.{Option, some}
 use Prim.Native.Nat.{ℕ, _<_}
-use lib.ListN.{drop}
+use lib.ListN.{length, set, drop}
 use Rattle.rules.specs.Sizes.{threadCount}
 use Rattle.rules.specs.Check.{Checked}
-use Rattle.rules.specs.Machine.{Machine, Job, threadAt}
+use Rattle.rules.specs.Machine.{Machine, Job, job, threadAt, running}
 use Rattle.rules.specs.Encoding.{machineFrom}
 use Rattle.rules.specs.Events.{Event, step}
 use Rattle.rules.specs.Steps.{rulesBy, Reply, react, finished}
 use Rattle.rules.specs.declared.answer.Answer.{Answer}
 use Rattle.fields.specs.Put.{put}
+use Rattle.encoding.specs.Slots.{returnsIn, registersIn}
 use Rattle.encoding.specs.Encoded.{Encodes, Canonical, encoded-machine, encoded-canonical}
 use Rattle.soundness.specs.Sound.{Sound}
 use Rattle.soundness.specs.StaysWellFormed.{Accepted, sound-react}
-use Rattle.laws.specs.Logic.{never}
-use Rattle.threads.specs.Threads.{Says, Runs, withJob}
-use Rattle.threads.specs.Records.{threadPlace, rawThread, rawBytes}
+use Rattle.threads.specs.Threads.{Says, Running, Runs, jobOf, keeping, returnsOf, registersOf, withJob, runs-fields, runs-itself, says-runs}
+use Rattle.threads.specs.Records.{threadPlace, rawThread, rawBytes, same-thread, same-returns, same-signals, set-registers}
+use Rattle.threads.specs.Records.{returns-counted}
 use Rattle.threads.specs.declared.thread.ThreadState.{ThreadState}
+use Rattle.thread_records.specs.Stores.{HeadThere, HeldThere}
 use Rattle.thread_records.specs.Records.{thread-read, thread-written}
 
 pub record Ready (image table b : List ℕ) : Type 0 where
@@ -26,9 +29,12 @@ pub record Ready (image table b : List ℕ) : Type 0 where
   pub canonical : Canonical b
   pub sound : Sound image table (machineFrom b)
 
--- thread t's record in the bytes b says w
+-- the thread that thread t's record in the bytes b says
+abbrev pub threadIn : List ℕ → ℕ → ThreadState
+threadIn b t = rawThread (drop (threadPlace t) b)
+
 abbrev pub Recorded : List ℕ → ℕ → ThreadState → Type 0
-Recorded b t w = w ≡ rawThread (drop (threadPlace t) b)
+Recorded b t w = w ≡ threadIn b t
 
 -- the reply to an event, and what carrying it out has to leave: its answer, and the bytes of its machine
 abbrev pub replyTo : List ℕ → List ℕ → List ℕ → Event → Reply
@@ -59,8 +65,52 @@ done {r} {b} {a} s x e f h = record {
 -- a thread that runs a job, written
 pub job-written : {b b′ : List ℕ} (t : ℕ) {w : ThreadState} {locks : ℕ} {j : Job} → Canonical b → t < threadCount → Runs w locks j
     → b′ ≡ put b (threadPlace t) (rawBytes w) → Encodes b′ (withJob (machineFrom b) t locks j)
-job-written {b} t {w} h l r e =
-    rw (r .state) at (thread-written b (machineFrom b) h t w l (r .running .tidy) (λ q. never (cc (r .state))) e)
+job-written {b} t {w} h l r e = rw (r .state) at (thread-written b (machineFrom b) h t w l (r .running .tidy) e)
+
+-- a thread that runs a job, where the bytes say that job: it is what the record says
+pub recorded : {b : List ℕ} (t : ℕ) {w : ThreadState} {locks : ℕ} {j : Job} → Canonical b → t < threadCount → Runs w locks j
+    → threadAt (machineFrom b) t ≡ running locks j → Recorded b t w
+recorded {b} t h l r e =
+    same-thread (says-runs r (subst (Says (threadIn b t)) e (thread-read b (machineFrom b) h t l))) r
+
+-- ---- a running thread that was read, after ASSIGN to a register
+
+module _ {b : List ℕ} {t : ℕ} {w : ThreadState} (e : Recorded b t w) (h : Running w) {x : ThreadState} where
+  -- the return labels, the signals held, and all registers but one are as the record has them
+  pub slots-assigned : {locks l : ℕ} (k v : ℕ) → Runs x locks (keeping w (job l (returnsOf w) (set (registersOf w) k (some v))))
+      → (x .returns ≡ returnsIn b t) × (x .registers ≡ set (registersIn b t) k v) × HeldThere b t x
+  unfolding rawThread
+  slots-assigned k v r =
+      let f = runs-fields r .1 in
+      let z = h .tidy in
+      let y = r .running .tidy in
+      let signals = same-signals w x z y (ap (λ (j : Job). j .held) f) in (
+        same-returns w x z y (ap (λ (j : Job). j .returns) f) ∙ ap (λ (q : ThreadState). q .returns) e,
+        set-registers w x z y k v (ap (λ (j : Job). j .registers) f) ∙ ap (λ (q : ThreadState). set (q .registers) k v) e,
+        record {
+          count = signals .0 ∙ ap (λ (q : ThreadState). q .held) e;
+          signals = signals .1 ∙ ap (λ (q : ThreadState). q .signals) e;
+        },
+      )
+
+  -- and so is the head, where the thread stays at its label
+  pub head-assigned : {registers : List (Option ℕ)} → Runs x (w .locks) (keeping w (job (w .label .0) (returnsOf w) registers))
+      → HeadThere b t x
+  unfolding rawThread
+  head-assigned r =
+      let f = runs-fields r in
+      let depth = sym (returns-counted x (r .running .tidy)) ∙ ap (λ (j : Job). length (j .returns)) (f .1) ∙ returns-counted w (h .tidy) in
+      record {
+        label = ap (λ (j : Job). j .label) (f .1) ∙ ap (λ (q : ThreadState). q .label .0) e;
+        locks = f .0 ∙ ap (λ (q : ThreadState). q .locks) e;
+        depth = depth ∙ ap (λ (q : ThreadState). q .depth) e;
+      }
+
+-- a running thread is what its record says in the bytes of every machine in which it runs its job
+pub still-recorded : {b : List ℕ} {s : Machine} (t : ℕ) {w : ThreadState} → t < threadCount → Running w → Encodes b s
+    → threadAt s t ≡ running (w .locks) (jobOf w) → Recorded b t w
+still-recorded {b} {s} t l r k e =
+    recorded t (encoded-canonical b s k) l (runs-itself r) (ap (λ (q : Machine). threadAt q t) (encoded-machine b s k) ∙ e)
 
 module _ {image table b : List ℕ} (h : Ready image table b) where
   pub ready-again : {b′ : List ℕ} {a : Answer} (e : Event) → Accepted image e → Done (replyTo image table b e) b′ a → Ready image table b′
@@ -73,6 +123,11 @@ module _ {image table b : List ℕ} (h : Ready image table b) where
   -- thread t, read
   pub says : (t : ℕ) {w : ThreadState} → t < threadCount → Recorded b t w → Says w (threadAt (machineFrom b) t)
   says t l e = rw e (thread-read b (machineFrom b) (h .canonical) t l)
+
+  -- thread t, which was read and runs a job
+  pub stands : (t : ℕ) {w : ThreadState} → t < threadCount → Recorded b t w → Running w
+      → threadAt (machineFrom b) t ≡ running (w .locks) (jobOf w)
+  stands t l e r = sym (says t l e .state) ∙ runs-itself r .state
 
   -- a step that leaves the thread with these locks and this job, and all else as it was
   pub thread-stepped : (t : ℕ) {w : ThreadState} {locks : ℕ} {j : Job} {b′ : List ℕ} (x : Answer) → t < threadCount

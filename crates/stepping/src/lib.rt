@@ -20,16 +20,14 @@ use thread_records::read_thread;
 use transfers::give_back;
 use transfers::transfer;
 ghost use Prim.Native.Nat.{_<_};
-ghost use lib.ListN.{drop};
 ghost use Rattle.rules.specs.Sizes.{threadCount};
-ghost use Rattle.threads.specs.Records.{threadPlace, rawThread};
-ghost use Rattle.step_ready.specs.Ready.{Ready, Stepped};
+ghost use Rattle.step_ready.specs.Ready.{Ready, Stepped, threadIn};
 ghost use Rattle.step_ready.specs.At.{At};
 
 // The statement in the record r at the label of thread t. Each arm reads the thread, as one value, by itself: what a statement does not
 // need of it is then not loaded.
 fn carry_out(image: &[u8], table: &[u8], state: &mut [u8], t: Thread, r: &[u8]) -> Answer
-    requires { ⌜ At (now image) (now table) (now state) (t .0) (rawThread (drop (threadPlace (t .0)) (now state))) (now r) ⌝ }
+    requires { ⌜ At (now image) (now table) (now state) (t .0) (threadIn (now state) (t .0)) (now r) ⌝ }
     ensures { λ a. ⌜ Stepped (now (image .entry)) (now (table .entry)) (now (state .entry)) (t .0) (now (state .exit)) a ⌝ }
 {
     match statement_of(r) {
@@ -41,7 +39,7 @@ fn carry_out(image: &[u8], table: &[u8], state: &mut [u8], t: Thread, r: &[u8]) 
         Statement::Call => call(image, table, state, t, read_thread(state, t), r),
         Statement::Return => give_back(image, table, state, t, read_thread(state, t), r),
         Statement::Transfer => transfer(image, table, state, t, read_thread(state, t), r),
-        Statement::Exit => leave(image, table, state, t, read_thread(state, t), r),
+        Statement::Exit => leave(image, table, state, t, r),
         Statement::SendTree => send_tree(image, table, state, t, read_thread(state, t), r),
     }
 }

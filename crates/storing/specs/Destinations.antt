@@ -7,7 +7,7 @@ use lib.ListN.{length, getD, set, length-set}
 use lib.Seq.{getD-set-same, set-set}
 use Rattle.rules.specs.Sizes.{wordCount}
 use Rattle.rules.specs.Image.{blockField, labelA}
-use Rattle.rules.specs.Machine.{Machine, ThreadState, Tree, Job, idle, running, window, keep, job, withHeld, heldOf, threadAt}
+use Rattle.rules.specs.Machine.{Machine, ThreadState, Tree, Job, idle, running, window, keep, job, withHeld, threadAt}
 use Rattle.rules.specs.Encoding.{machineFrom}
 use Rattle.rules.specs.Effects.{Cells, store, assigned}
 use Rattle.rules.specs.Storing.{length-window}
@@ -17,7 +17,7 @@ use Rattle.rules.specs.declared.statement.Operand.the-variants.{Number, Registe
 use Rattle.encoding.specs.Encoded.{Encodes, encoded-machine, encoded-canonical}
 use Rattle.encoding.specs.Stores.{withWord}
 use Rattle.step_laws.specs.Same.{keep-window, keep-more}
-use Rattle.threads.specs.Threads.{Runs, jobOf, returnsOf, registersOf, runs-fields, runs-then, withJob}
+use Rattle.threads.specs.Threads.{Runs, jobOf, returnsOf, registersOf, runs-fields, runs-then, withJob, keeping}
 use Rattle.threads.specs.declared.thread.ThreadState as code
 use Rattle.operands.specs.Legal.{Fits}
 
@@ -52,14 +52,15 @@ first-written s t block w d u {b} {c} e f =
 abbrev pub withSecond : Machine → ℕ → ℕ → code.ThreadState → Operand → ℕ → Machine
 withSecond s t block w (Number n) v = s
 withSecond s t block w (Register k) v =
-    withJob s t (w .locks) (job (w .label .0) (returnsOf w) (registersAfter (Register k) v (registersOf w)))
+    withJob s t (w .locks) (keeping w (job (w .label .0) (returnsOf w) (registersAfter (Register k) v (registersOf w))))
 withSecond s t block w (Word k) v = withWord s (wordCount * block + k) v
 
 -- a thread that has the value, after a change of it
 pub register-stored : {x y : code.ThreadState} {locks : ℕ} {j : Job} (d : Operand) (u : ℕ) → Runs x locks j
-    → Runs y (x .locks) (job (x .label .0) (returnsOf x) (registersAfter d u (registersOf x)))
-    → Runs y locks (job (j .label) (j .returns) (registersAfter d u (j .registers)))
-register-stored d u h k = runs-then (λ l. l) (λ j. job (j .label) (j .returns) (registersAfter d u (j .registers))) h k
+    → Runs y (x .locks) (keeping x (job (x .label .0) (returnsOf x) (registersAfter d u (registersOf x))))
+    → Runs y locks (withHeld (j .held) (job (j .label) (j .returns) (registersAfter d u (j .registers))))
+register-stored d u h k =
+    runs-then (λ l. l) (λ j. withHeld (j .held) (job (j .label) (j .returns) (registersAfter d u (j .registers)))) h k
 
 -- the law's store is both
 store-is : (d : Operand) (v : ℕ) (c : Cells)
@@ -103,7 +104,7 @@ cellsAfter s w r a u v =
 abbrev pub landed : Machine → ℕ → code.ThreadState → List ℕ → Assignment → ℕ → ℕ → Machine
 landed s t w r a u v = record {
   words = keep (blockField r) (cellsAfter s w r a u v .words) (s .words);
-  threads = withJob s t (w .locks) (job (labelA r) (returnsOf w) (cellsAfter s w r a u v .registers)) .threads;
+  threads = withJob s t (w .locks) (keeping w (job (labelA r) (returnsOf w) (cellsAfter s w r a u v .registers))) .threads;
   trees = s .trees;
 }
 
@@ -120,37 +121,22 @@ both-cells a u v c =
 
 -- the thread with the first value is written, the first word is, and then the second value is stored
 module _ (s : Machine) (t : ℕ) (inside : t < length (s .threads)) (block locks : ℕ) where
-  -- thread t with this job
-  abbrev busy : Job → ThreadState
-  busy j = running locks (withHeld (heldOf (threadAt s t)) j)
-
-  there : (j : Job) → getD (set (s .threads) t (busy j)) t idle ≡ busy j
-  there j = getD-set-same (s .threads) t (busy j) idle inside
-
   again : (j k : Job) (words : List ℕ)
-      → withJob (record { words = words; threads = set (s .threads) t (busy j); trees = s .trees }) t locks k
-      ≡ record { words = words; threads = set (s .threads) t (busy k); trees = s .trees }
+      → withJob (record { words = words; threads = set (s .threads) t (running locks j); trees = s .trees }) t locks k
+      ≡ record { words = words; threads = set (s .threads) t (running locks k); trees = s .trees }
   again j k words =
-      ap (λ (z : ThreadState). record {
-        words = words;
-        threads = set (set (s .threads) t (busy j)) t (running locks (withHeld (heldOf z) k));
-        trees = s .trees;
-      }) (there j)
-      ∙ ap (λ (z : List ThreadState). record { words = words; threads = z; trees = s .trees }) (set-set (s .threads) t (busy j) (busy k))
+      ap (λ (z : List ThreadState). record { words = words; threads = z; trees = s .trees })
+      (set-set (s .threads) t (running locks j) (running locks k))
 
-  threads-stay : (d : Operand) (u : ℕ) (j : Job) → withWordAt (withJob s t locks j) block d u .threads ≡ set (s .threads) t (busy j)
+  threads-stay : (d : Operand) (u : ℕ) (j : Job) → withWordAt (withJob s t locks j) block d u .threads ≡ set (s .threads) t (running locks j)
   threads-stay (Number n) u j = refl
   threads-stay (Register k) u j = refl
   threads-stay (Word k) u j = refl
 
   -- so it stands there before the second value is stored
-  pub standing : (d : Operand) (u : ℕ) (j : Job) (m : Machine) → m ≡ withWordAt (withJob s t locks j) block d u
-      → threadAt m t ≡ running locks (withHeld (heldOf (threadAt m t)) j)
-  standing d u j m e =
-      let f : threadAt m t ≡ busy j = ap (λ (z : Machine). threadAt z t) e
-      ∙ ap (λ (z : List ThreadState). getD z t idle) (threads-stay d u j)
-      ∙ there j in
-      f ∙ ap (λ (z : ThreadState). running locks (withHeld (heldOf z) j)) (sym f)
+  pub standing : (d : Operand) (u : ℕ) (j : Job) → threadAt (withWordAt (withJob s t locks j) block d u) t ≡ running locks j
+  standing d u j =
+      ap (λ (z : List ThreadState). getD z t idle) (threads-stay d u j) ∙ getD-set-same (s .threads) t (running locks j) idle inside
 
   -- a second register is stored to before the words or after them
   register-last : (d : Operand) (u : ℕ) (j k : Job)
@@ -165,25 +151,25 @@ module _ (s : Machine) (t : ℕ) (inside : t < length (s .threads)) (w : code.Th
 
   abbrev afterBoth : ℕ → Job → ThreadState
   afterBoth locks j =
-      running locks (withHeld (heldOf (threadAt s t)) (job (j .label) (j .returns) (registersAfter (a .second) v (j .registers))))
+      running locks (withHeld (j .held) (job (j .label) (j .returns) (registersAfter (a .second) v (j .registers))))
 
   abbrev machineWith : Cells → Machine
   machineWith c = record {
     words = keep block (c .words) (s .words);
-    threads = withJob s t (w .locks) (job (labelA r) (returnsOf w) (c .registers)) .threads;
+    threads = withJob s t (w .locks) (keeping w (job (labelA r) (returnsOf w) (c .registers))) .threads;
     trees = s .trees;
   }
 
   second-last : (x : code.ThreadState) (d e : Operand)
       → withSecond (withWordAt (withJob s t (x .locks) (jobOf x)) block d u) t block x e v
       ≡ withWordAt
-      (withWordAt (withJob s t (x .locks) (job (x .label .0) (returnsOf x) (registersAfter e v (registersOf x)))) block d u) block e v
+      (withWordAt (withJob s t (x .locks) (keeping x (job (x .label .0) (returnsOf x) (registersAfter e v (registersOf x))))) block d u) block e v
   second-last x d (Number n) = refl
-  second-last x d (Register k) = register-last s t inside block (x .locks) d u (jobOf x) (job _ _ _)
+  second-last x d (Register k) = register-last s t inside block (x .locks) d u (jobOf x) (keeping x (job _ _ _))
   second-last x d (Word k) = refl
 
   module _ (x : code.ThreadState) {b : List ℕ} (h : Fits (a .first)) (k : Fits (a .second))
-      (q : Runs x (w .locks) (job (labelA r) (returnsOf w) (registersAfter (a .first) u (registersOf w))))
+      (q : Runs x (w .locks) (keeping w (job (labelA r) (returnsOf w) (registersAfter (a .first) u (registersOf w)))))
       (e : Encodes b (withFirst s t block x (a .first) u)) where
     pub both-stored : {c : List ℕ} → Encodes c (withSecond (machineFrom b) t block x (a .second) v) → Encodes c (landed s t w r a u v)
     both-stored {c} f =

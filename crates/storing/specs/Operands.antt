@@ -3,10 +3,9 @@ use mathlib.Core.Path.{_≡_, refl, sym, ap, _∙_, subst}
 use mathlib.Core.Bool.{Bool, true, false, cond}
 use mathlib.Core.List.{List}
 use Prim.Native.Nat.{ℕ, _<_}
-use native.Mathlib.Omega.{arith}
 use lib.Dec.{eqb}
 use borrow.Author.Tests.{ne-eqb}
-use Rattle.rules.specs.Sizes.{registerCount, wordCount, idleLabel}
+use Rattle.rules.specs.Sizes.{registerCount, wordCount}
 use Rattle.rules.specs.Codes.{numberOperandCode, registerOperandCode}
 use Rattle.rules.specs.Image.{kind, value}
 use Rattle.rules.specs.Statements.{shape, optional, statementOf, operandOf, operandAt, assignmentBy}
@@ -14,16 +13,11 @@ use Rattle.rules.specs.declared.statement.Assignment.{Assignment}
 use Rattle.rules.specs.declared.statement.Operand.{Operand}
 use Rattle.rules.specs.declared.statement.Operand.the-variants.{Number, Register, Word}
 use Rattle.rules.specs.declared.statement.Statement.the-variants.{Assign}
-use Rattle.threads.specs.Threads.{Running, Runs, jobOf, runs-says}
 use Rattle.threads.specs.declared.thread.ThreadState.{ThreadState}
 use Rattle.operands.specs.Legal.{Fits}
 use Rattle.operands.specs.Statements.{Lands, assigns, first-lands, second-fits, left-fits, right-fits}
 use Rattle.operands.specs.TwoDestinations.{second-lands}
 use Rattle.step_ready.specs.At.{At}
-
--- a running thread runs its job
-pub runs-itself : {w : ThreadState} → Running w → Runs w (w .locks) (jobOf w)
-runs-itself {w} h = record { state = runs-says w (ne-eqb (w .label .0) idleLabel (λ q. omega (arith, h .label))); running = h }
 
 -- a destination is a register or a word, by its kind
 pub register-lands : (k v : ℕ) → k ≡ registerOperandCode → Lands (operandOf k v) → (operandOf k v ≡ Register v) × (v < registerCount)

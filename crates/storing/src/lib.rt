@@ -23,11 +23,11 @@ ghost use Rattle.rules.specs.Encoding.{machineFrom};
 ghost use Rattle.rules.specs.Statements.{statementOf, operandOf, shape};
 ghost use Rattle.rules.specs.declared.statement.Statement.the-variants.{Assign};
 ghost use Rattle.encoding.specs.Encoded.{Encodes, Canonical};
-ghost use Rattle.threads.specs.Threads.{Running, Runs, returnsOf, registersOf};
+ghost use Rattle.threads.specs.Threads.{Running, Runs, returnsOf, registersOf, keeping};
 ghost use Rattle.operands.specs.Statements.{Lands};
+ghost use Rattle.step_ready.specs.Ready.{Recorded};
 ghost use Rattle.step_ready.specs.At.{At};
 ghost use Rattle.storing.specs.Destinations.{registersAfter, withFirst, withSecond, landed};
-ghost use Rattle.storing.specs.Written.{Standing};
 
 // The second value, after the thread w, which has the first, was written: one register, or one word, is stored by itself. Its destination
 // is no number.
@@ -41,7 +41,7 @@ fn store_second(
     v: u16,
 )
     requires { ⌜ Canonical (now state) × (t .0 < threadCount) × Running w × (block .0 < blockCount) × Lands (operandOf kind to)
-        × Standing (now state) (t .0) w ⌝ }
+        × Recorded (now state) (t .0) w ⌝ }
     ensures { λ _. ⌜ Encodes (now (state .exit)) (withSecond (machineFrom (now (state .entry))) (t .0) (block .0) w
         (operandOf kind to) v) ⌝ }
 {
@@ -65,7 +65,8 @@ fn store_first(
     u: u16,
 ) -> ThreadState
     requires { ⌜ At (now image) (now table) (now state) (t .0) w (now r) × (statementOf (now r) ≡ Assign a) ⌝ }
-    ensures { λ x. ⌜ Runs x (w .locks) (job (labelA (now (r .entry))) (returnsOf w) (registersAfter (a .first) u (registersOf w))) ⌝ }
+    ensures { λ x. ⌜ Runs x (w .locks)
+        (keeping w (job (labelA (now (r .entry))) (returnsOf w) (registersAfter (a .first) u (registersOf w)))) ⌝ }
     ensures { λ x. ⌜ Encodes (now (state .exit)) (withFirst (machineFrom (now (state .entry))) (t .0) (blockField (now (r .entry))) x
         (a .first) u) ⌝ }
 {

@@ -1,18 +1,16 @@
 -- What a thread record, read from the bytes of a machine and stored into them, comes to.
-use mathlib.Core.Path.{_≡_, refl, sym}
-use mathlib.Core.List.{List, []}
+use mathlib.Core.Path.{_≡_, refl}
+use mathlib.Core.List.{List}
 use Prim.Native.Nat.{ℕ, _<_}
 use lib.ListN.{drop}
 use Rattle.rules.specs.Sizes.{threadCount}
-use Rattle.rules.specs.Machine.{Job, Machine, threadAt, withThread, idle, running, heldOf}
+use Rattle.rules.specs.Machine.{Job, Machine, threadAt, withThread, running}
 use Rattle.rules.specs.Encoding.{machineFrom}
 use Rattle.fields.specs.Put.{put}
 use Rattle.encoding.specs.Encoded.{Encodes, encodes}
 use Rattle.encoding.specs.Layout.{thread-on}
-use Rattle.encoding.specs.Lengths.{length-raw}
-use Rattle.encoding.specs.Stores.{sized-thread, thread-at-sized}
-use Rattle.encoding.specs.HeldStores.{held-all, value-stored}
-use Rattle.threads.specs.Threads.{stateOf, keepHeld, Tidy, Says}
+use Rattle.encoding.specs.Stores.{sized-thread, thread-at-sized, thread-then}
+use Rattle.threads.specs.Threads.{stateOf, Tidy, Says}
 use Rattle.threads.specs.Records.{threadPlace, rawThread, rawBytes, bytes-are, bytes-of, tidy-sized}
 use Rattle.threads.specs.declared.thread.ThreadState.{ThreadState}
 
@@ -27,12 +25,8 @@ module _ (b : List ℕ) (s : Machine) (h : Encodes b s) where
       let d = thread-on s t (threadPlace t) (h .sized .threads) l refl in
       rw (h .same, d .1) (bytes-of (threadAt s t) (thread-at-sized s t (h .sized) l) (d .0))
 
-  -- the signals held stay; of an idle thread there are none
-  pub thread-written : (t : ℕ) (w : ThreadState) {b′ : List ℕ} → t < threadCount → Tidy w → (stateOf w ≡ idle → heldOf (threadAt s t) ≡ [])
-      → b′ ≡ put b (threadPlace t) (rawBytes w) → Encodes b′ (withThread s t (keepHeld (heldOf (threadAt s t)) (stateOf w)))
-  unfolding rawBytes
-  thread-written t w l z n e =
-      let gs = heldOf (threadAt s t) in
-      encodes _ _ (value-stored s t (h .sized .threads) l (h .same) (rawBytes w) (keepHeld gs (stateOf w)) (length-raw _ _ _ _ _ _)
-      (sym (bytes-are w z gs n)) e)
-      (sized-thread s t (keepHeld gs (stateOf w)) (tidy-sized w gs z (held-all s t (h .same) (h .sized) l)) (h .sized))
+  pub thread-written : (t : ℕ) (w : ThreadState) {b′ : List ℕ} → t < threadCount → Tidy w → b′ ≡ put b (threadPlace t) (rawBytes w)
+      → Encodes b′ (withThread s t (stateOf w))
+  thread-written t w l z e =
+      encodes _ _ (thread-then s (h .sized) (h .same) t (stateOf w) l (rw (bytes-are w z) e))
+      (sized-thread s t (stateOf w) (tidy-sized w z) (h .sized))

@@ -4,15 +4,20 @@ use fields::read::get16;
 use fields::read::get16s;
 use fields::read::get32;
 use fields::read::wide;
+use fields::write::copy;
 use fields::write::put8;
 use fields::write::put16;
 use fields::write::put16s;
 use fields::write::put32;
+use rules::layout::HELD_COUNT_PLACE;
+use rules::layout::HELD_PLACE;
+use rules::layout::HELD_SIZE;
 use rules::layout::LOCKS_PLACE;
 use rules::layout::PRESENCE_PLACE;
 use rules::layout::REGISTERS_PLACE;
 use rules::layout::RETURN_COUNT_PLACE;
 use rules::layout::RETURNS_PLACE;
+use rules::layout::SIGNAL_SIZE;
 use rules::layout::THREAD_SIZE;
 use rules::layout::THREADS_PLACE;
 use rules::sorts::Label;
@@ -20,16 +25,20 @@ use rules::sorts::Thread;
 use rules::sorts::label_number;
 use rules::sorts::label_of;
 use rules::sorts::thread_number;
+use signal_records::Signal;
+use signal_records::write_signal;
 use threads::thread::ThreadState;
 ghost use mathlib.Core.Path.{_≡_};
-ghost use Prim.Native.Nat.{_+_, _<_, _≤_};
+ghost use Prim.Native.Nat.{_+_, _*_, _-_, _<_, _≤_};
 ghost use lib.ListN.{length, getD, set, drop};
-ghost use Rattle.rules.specs.Sizes.{threadCount, returnCount, registerCount, threadSize, returnsPlace, presencePlace, stateSize};
-ghost use Rattle.rules.specs.Bytes.{part};
+ghost use Rattle.rules.specs.Sizes.{threadCount, returnCount, registerCount, heldCount, threadSize, presencePlace};
+ghost use Rattle.rules.specs.Sizes.{heldCountPlace, signalSize, stateSize};
 ghost use Rattle.fields.specs.Put.{put};
-ghost use Rattle.encoding.specs.Slots.{returnsIn, registersIn};
+ghost use Rattle.rules.specs.Encoding.{signalBytes};
+ghost use Rattle.encoding.specs.Slots.{returnsIn, presentIn, registersIn, signalsIn};
+ghost use Rattle.signal_records.specs.Signals.{signalOf, TidySignal};
 ghost use Rattle.threads.specs.Records.{threadPlace, rawThread, rawBytes};
-ghost use Rattle.thread_records.specs.Stores.{headBytes, labelBytes, registerBytes};
+ghost use Rattle.thread_records.specs.Stores.{headBytes, labelBytes, registerBytes, heldBytes, HeadThere, HeldThere};
 
 // The place of a thread's record.
 fn record_at(t: Thread) -> usize
@@ -48,6 +57,8 @@ pub fn read_thread(state: &[u8], t: Thread) -> ThreadState
     get16s(state, at + RETURNS_PLACE, &mut returns);
     let mut registers = [0u16; Thread::REGISTERS];
     get16s(state, at + REGISTERS_PLACE, &mut registers);
+    let mut signals = [0u8; HELD_SIZE];
+    copy(&mut signals, 0, state, at + HELD_PLACE, HELD_SIZE);
     ThreadState {
         present: get32(state, at + PRESENCE_PLACE),
         label: label_of(get16(state, at)),
@@ -55,6 +66,8 @@ pub fn read_thread(state: &[u8], t: Thread) -> ThreadState
         depth: get8(state, at + RETURN_COUNT_PLACE),
         returns: returns,
         registers: registers,
+        held: get8(state, at + HELD_COUNT_PLACE),
+        signals: signals,
     }
 }
 
@@ -64,6 +77,14 @@ pub fn read_label(state: &[u8], t: Thread) -> Label
     ensures { λ r. ⌜ r ≡ rawThread (drop (threadPlace (t .0)) (now (state .entry))) .label ⌝ }
 {
     label_of(get16(state, record_at(t)))
+}
+
+// How many signals a thread's record holds, read by itself.
+pub fn read_held(state: &[u8], t: Thread) -> usize
+    requires { ⌜ (length (now state) ≡ stateSize) × (t .0 < threadCount) ⌝ }
+    ensures { λ r. ⌜ r ≡ rawThread (drop (threadPlace (t .0)) (now (state .entry))) .held ⌝ }
+{
+    get8(state, record_at(t) + HELD_COUNT_PLACE)
 }
 
 // One register of a thread's record, read by itself.
@@ -107,10 +128,57 @@ fn write_registers(s: &mut [u8], at: usize, w: ThreadState)
     put16s(s, at + REGISTERS_PLACE, &registers);
 }
 
-// The thread comes back, whole but for the signals held. Of a thread that runs on, what is as it was read is not stored: the compiler
-// sees that it comes from where it goes. So this comes before any other store to the state; an end, whose stores are constants, comes last.
+// The signals held of a record at a place.
+fn write_held(s: &mut [u8], at: usize, w: ThreadState)
+    requires { ⌜ (at + threadSize ≤ length (now s)) × (w .held ≤ heldCount) ⌝ }
+    ensures { λ _. ⌜ now (s .exit) ≡ put (now (s .entry)) (at + heldCountPlace) (heldBytes w) ⌝ }
+{
+    put8(s, at + HELD_COUNT_PLACE, w.held as u8);
+    let signals = w.signals;
+    copy(s, at + HELD_PLACE, &signals, 0, HELD_SIZE);
+}
+
+// The thread comes back, whole. Of a thread that runs on, what is as it was read is not stored: the compiler sees that it comes from where
+// it goes. So this comes before any other store to the state; an end, whose stores are constants, comes last.
 pub fn write_thread(state: &mut [u8], t: Thread, w: ThreadState)
-    requires { ⌜ (length (now state) ≡ stateSize) × (t .0 < threadCount) × (w .depth ≤ returnCount) ⌝ }
+    requires { ⌜ (length (now state) ≡ stateSize) × (t .0 < threadCount) × (w .depth ≤ returnCount) × (w .held ≤ heldCount) ⌝ }
+    ensures { λ _. ⌜ now (state .exit) ≡ put (now (state .entry)) (threadPlace (t .0)) (rawBytes w) ⌝ }
+{
+    let at = record_at(t);
+    write_labels(state, at, w);
+    write_registers(state, at, w);
+    write_held(state, at, w);
+}
+
+// The same where the head, the return labels, the signals held, and all registers but one, are as the record has them: they are not written.
+pub fn write_register(state: &mut [u8], t: Thread, w: ThreadState, register: u16, value: u16)
+    requires { ⌜ (length (now state) ≡ stateSize) × (t .0 < threadCount) × (register < registerCount)
+        × HeadThere (now state) (t .0) w
+        × (w .returns ≡ returnsIn (now state) (t .0)) × (w .registers ≡ set (registersIn (now state) (t .0)) register value)
+        × HeldThere (now state) (t .0) w ⌝ }
+    ensures { λ _. ⌜ now (state .exit) ≡ put (now (state .entry)) (threadPlace (t .0)) (rawBytes w) ⌝ }
+{
+    let at = record_at(t);
+    put32(state, at + PRESENCE_PLACE, w.present);
+    put16(state, at + REGISTERS_PLACE + 2 * (register as usize), value);
+}
+
+// The same where the return labels, the signals held, and all registers but one, are as the record has them: they are not written.
+pub fn write_assigned(state: &mut [u8], t: Thread, w: ThreadState, register: u16, value: u16)
+    requires { ⌜ (length (now state) ≡ stateSize) × (t .0 < threadCount) × (w .depth ≤ returnCount) × (register < registerCount)
+        × (w .returns ≡ returnsIn (now state) (t .0)) × (w .registers ≡ set (registersIn (now state) (t .0)) register value)
+        × HeldThere (now state) (t .0) w ⌝ }
+    ensures { λ _. ⌜ now (state .exit) ≡ put (now (state .entry)) (threadPlace (t .0)) (rawBytes w) ⌝ }
+{
+    let at = record_at(t);
+    write_head(state, at, w);
+    put32(state, at + PRESENCE_PLACE, w.present);
+    put16(state, at + REGISTERS_PLACE + 2 * (register as usize), value);
+}
+
+// The same where the signals held are as the record has them: they are not written.
+pub fn write_without_held(state: &mut [u8], t: Thread, w: ThreadState)
+    requires { ⌜ (length (now state) ≡ stateSize) × (t .0 < threadCount) × (w .depth ≤ returnCount) × HeldThere (now state) (t .0) w ⌝ }
     ensures { λ _. ⌜ now (state .exit) ≡ put (now (state .entry)) (threadPlace (t .0)) (rawBytes w) ⌝ }
 {
     let at = record_at(t);
@@ -118,26 +186,18 @@ pub fn write_thread(state: &mut [u8], t: Thread, w: ThreadState)
     write_registers(state, at, w);
 }
 
-// The same where the head and the return labels, and all registers but one, are as the record has them: they are not written.
-pub fn write_register(state: &mut [u8], t: Thread, w: ThreadState, register: u16, value: u16)
-    requires { ⌜ (length (now state) ≡ stateSize) × (t .0 < threadCount) × (register < registerCount)
-        × (headBytes w ≡ part (now state) (threadPlace (t .0)) returnsPlace)
-        × (w .returns ≡ returnsIn (now state) (t .0)) × (w .registers ≡ set (registersIn (now state) (t .0)) register value) ⌝ }
+// The same where the return labels, the registers, and all signals held but the last, which is g, are as the record has them: they are not
+// written.
+pub fn write_held_signal(state: &mut [u8], t: Thread, w: ThreadState, g: Signal)
+    requires { ⌜ (length (now state) ≡ stateSize) × (t .0 < threadCount) × (w .depth ≤ returnCount) × TidySignal g
+        × (w .returns ≡ returnsIn (now state) (t .0)) × (w .present ≡ presentIn (now state) (t .0))
+        × (w .registers ≡ registersIn (now state) (t .0)) × (0 < w .held) × (w .held ≤ heldCount)
+        × (w .signals ≡ put (signalsIn (now state) (t .0)) (signalSize * (w .held - 1)) (signalBytes (signalOf g))) ⌝ }
     ensures { λ _. ⌜ now (state .exit) ≡ put (now (state .entry)) (threadPlace (t .0)) (rawBytes w) ⌝ }
 {
     let at = record_at(t);
-    put32(state, at + PRESENCE_PLACE, w.present);
-    put16(state, at + REGISTERS_PLACE + 2 * (register as usize), value);
-}
-
-// The same where the return labels, and all registers but one, are as the record has them: they are not written.
-pub fn write_assigned(state: &mut [u8], t: Thread, w: ThreadState, register: u16, value: u16)
-    requires { ⌜ (length (now state) ≡ stateSize) × (t .0 < threadCount) × (w .depth ≤ returnCount) × (register < registerCount)
-        × (w .returns ≡ returnsIn (now state) (t .0)) × (w .registers ≡ set (registersIn (now state) (t .0)) register value) ⌝ }
-    ensures { λ _. ⌜ now (state .exit) ≡ put (now (state .entry)) (threadPlace (t .0)) (rawBytes w) ⌝ }
-{
-    let at = record_at(t);
+    let count = w.held;
     write_head(state, at, w);
-    put32(state, at + PRESENCE_PLACE, w.present);
-    put16(state, at + REGISTERS_PLACE + 2 * (register as usize), value);
+    put8(state, at + HELD_COUNT_PLACE, count as u8);
+    write_signal(state, at + HELD_PLACE + SIGNAL_SIZE * (count - 1), g);
 }

@@ -2,33 +2,34 @@
 use mathlib.Core.Path.{_≡_, refl, sym, ap, _∙_}
 use mathlib.Core.Bool.{Bool, true, false, cond, _&&_}
 use mathlib.Core.Option.{Option, some}
-use mathlib.Core.List.{List, [], _∷_, _++_, map}
+use mathlib.Core.List.{List, [], _∷_, _++_, map, append-assoc}
 use Prim.Native.Nat.{ℕ, zero, suc, _+_, _*_, _-_, _≤_, _<_}
 use native.Mathlib.Nat.{add-zero}
 use native.Mathlib.Omega.{arith}
 use lib.Dec.{eqb}
 use lib.ListN.{length, getD, set, take, drop, replicate, length-append, length-drop, length-replicate, getD-replicate, take-append-drop}
-use lib.Seq.{drop-drop, ext-getD, getD-drop, getD-take, length-take-le, take-all}
+use lib.Seq.{drop-at, drop-drop, ext-getD, getD-drop, getD-take, length-take-le, take-all, take-at}
 use borrow.Author.Tests.{eqb-true, eqb-false}
 use Rattle.rules.specs.Sorts.{label}
 use Rattle.rules.specs.Sizes.{returnCount, registerCount, heldCount, threadSize, threadsPlace, locksPlace, returnCountPlace}
-use Rattle.rules.specs.Sizes.{returnsPlace, presencePlace, registersPlace, heldCountPlace, idleLabel}
-use Rattle.rules.specs.Bytes.{num16, num32, part, isZeros, pad, chunks}
+use Rattle.rules.specs.Sizes.{returnsPlace, presencePlace, registersPlace, heldCountPlace, heldPlace, heldSize, idleLabel}
+use Rattle.rules.specs.Bytes.{num16, num32, part, isZeros, blocks, pad, chunks}
 use Rattle.rules.specs.Machine as law
-use Rattle.rules.specs.Machine.{Signal, withHeld, idle, running}
-use Rattle.rules.specs.Encoding.{signalsBytes, valueOr0, presence, threadRaw, threadBytes, threadFrom, jobFrom}
+use Rattle.rules.specs.Machine.{Job, heldOf, idle, running}
+use Rattle.rules.specs.Encoding.{noSignal, signalBytes, signalsBytes, valueOr0, presence, threadRaw, threadBytes, threadFrom, jobFrom}
 use Rattle.rules.specs.WellFormed.{absentZero, runningTidy, signalsTidy, threadTidy}
 use Rattle.fields.specs.Blocks.{pad-full, pad-split}
 use Rattle.laws.specs.Logic.{and-both}
-use Rattle.encoding.specs.Sized.{SizedSignals, SizedThread}
-use Rattle.encoding.specs.Lengths.{length-thread}
+use Rattle.encoding.specs.Sized.{SizedThread}
+use Rattle.encoding.specs.Lengths.{length-thread, length-signals}
 use Rattle.fields.specs.Tests.{zeros-part}
 use Rattle.encoding.specs.Runs.{length-chunks, chunks-at}
 use Rattle.encoding.specs.Registers.{length-registers, presence-forth, values-forth}
-use Rattle.encoding.specs.Threads.{RunningRead, running-read, thread-back, thread-tidy}
+use Rattle.encoding.specs.Threads.{RunningRead, running-read, thread-back, thread-tidy, held-behind, held-sized}
 use Rattle.threads.specs.Returns.{TidyReturns}
 use Rattle.threads.specs.Registers.{none-registers, none-tidy}
-use Rattle.threads.specs.Threads.{stateOf, keepHeld, jobOf, returnsOf, registersOf, Tidy, Says}
+use Rattle.threads.specs.Held.{TidyHeld, no-signals, held-of, same-held}
+use Rattle.threads.specs.Threads.{stateOf, jobOf, returnsOf, registersOf, signalsOf, Tidy, Says, Runs, runs-fields}
 use Rattle.threads.specs.declared.thread.ThreadState.{ThreadState}
 
 -- where the record of a thread stands in a state
@@ -37,7 +38,7 @@ threadPlace t = threadsPlace + threadSize * t
 
 -- the bytes of the fields
 unfoldable pub rawBytes : ThreadState → List ℕ
-rawBytes w = threadRaw (w .label .0) (w .locks) (w .depth) (w .returns) (w .present) (w .registers)
+rawBytes w = threadRaw (w .label .0) (w .locks) (w .depth) (w .returns) (w .present) (w .registers) ++ w .held ∷ w .signals
 
 -- the fields that bytes say
 unfoldable pub rawThread : List ℕ → ThreadState
@@ -48,6 +49,8 @@ rawThread b = record {
   returns = chunks num16 2 returnCount (drop returnsPlace b);
   present = num32 (drop presencePlace b);
   registers = chunks num16 2 registerCount (drop registersPlace b);
+  held = getD (drop heldCountPlace b) 0 0;
+  signals = take heldSize (drop heldPlace b);
 }
 
 -- ---- written
@@ -68,9 +71,9 @@ module _ (w : ThreadState) (z : Tidy w) where
       (λ i l h. z .registers .absent i (omega arith))
       ∙ take-all registerCount (w .registers) (omega (arith, z .registers .sized))
 
-  running-bytes : (gs : List Signal) → threadBytes (running (w .locks) (withHeld gs (jobOf w))) ≡ rawBytes w ++ signalsBytes heldCount gs
+  running-bytes : threadBytes (running (w .locks) (jobOf w)) ≡ rawBytes w
   unfolding threadBytes rawBytes threadRaw
-  running-bytes gs =
+  running-bytes =
       let r = z .returns in
       rw (
         length-take-le (w .depth) (w .returns) (omega (arith, r .sized, r .within)),
@@ -78,9 +81,10 @@ module _ (w : ThreadState) (z : Tidy w) where
             (r .sized) (r .within) (r .unused),
         present-is,
         values-are,
+        ← z .held .bytes,
       )
 
-  idle-bytes : w .label .0 ≡ idleLabel → threadBytes idle ≡ rawBytes w ++ signalsBytes heldCount []
+  idle-bytes : w .label .0 ≡ idleLabel → threadBytes idle ≡ rawBytes w
   unfolding threadBytes rawBytes threadRaw pad
   idle-bytes e =
       let n = z .nothing e in
@@ -88,18 +92,17 @@ module _ (w : ThreadState) (z : Tidy w) where
       (padded returnCount (w .depth) (w .returns) (z .returns .sized) (z .returns .within) (z .returns .unused)) ∙ rw (n .1) in
       let v : w .registers ≡ replicate registerCount 0 = sym values-are ∙ rw (n .2, none-registers (w .registers) 0 registerCount) in
       let g : pad 0 registerCount (w .registers) ≡ pad 0 registerCount [] = rw v in
-      rw (e, n .0, n .1, n .2, r, g)
+      let h : w .held ∷ w .signals ≡ signalsBytes heldCount [] = z .held .bytes
+      ∙ ap (signalsBytes heldCount) (no-signals (w .signals) (n .3)) in
+      rw (e, n .0, n .1, n .2, r, g, h)
 
-  -- with the signals gs held, of which an idle thread has none
-  pub bytes-are : (gs : List Signal) → (stateOf w ≡ idle → gs ≡ [])
-      → threadBytes (keepHeld gs (stateOf w)) ≡ rawBytes w ++ signalsBytes heldCount gs
+  pub bytes-are : threadBytes (stateOf w) ≡ rawBytes w
   unfolding stateOf
-  bytes-are gs n = go (eqb (w .label .0) idleLabel) refl n
+  bytes-are = go (eqb (w .label .0) idleLabel) refl
     where
-      go : (b : Bool) → eqb (w .label .0) idleLabel ≡ b → (cond b idle (running (w .locks) (jobOf w)) ≡ idle → gs ≡ [])
-          → threadBytes (keepHeld gs (cond b idle (running (w .locks) (jobOf w)))) ≡ rawBytes w ++ signalsBytes heldCount gs
-      go true e k = rw (k refl) (idle-bytes (eqb-true (w .label .0) idleLabel e))
-      go false e k = running-bytes gs
+      go : (b : Bool) → eqb (w .label .0) idleLabel ≡ b → threadBytes (cond b idle (running (w .locks) (jobOf w))) ≡ rawBytes w
+      go true e = idle-bytes (eqb-true (w .label .0) idleLabel e)
+      go false e = running-bytes
 
 -- ---- the slots of a tidy thread are what its job says
 
@@ -117,9 +120,46 @@ module _ (w w′ : ThreadState) (z : Tidy w) (z′ : Tidy w′) where
       ∙ pad-full 0 returnCount (w′ .returns) (z′ .returns .sized) in
       sym f′ ∙ ap (pad 0 returnCount) e ∙ f
 
+  pub same-registers : registersOf w′ ≡ registersOf w → (w′ .present ≡ w .present) × (w′ .registers ≡ w .registers)
+  same-registers e = (
+    sym (present-is w′ z′) ∙ ap presence e ∙ present-is w z,
+    sym (values-are w′ z′) ∙ ap (map valueOr0) e ∙ values-are w z,
+  )
+
+  pub same-signals : signalsOf w′ ≡ signalsOf w → (w′ .held ≡ w .held) × (w′ .signals ≡ w .signals)
+  same-signals e =
+      let f : w′ .held ∷ w′ .signals ≡ w .held ∷ w .signals = same-held (z′ .held) (z .held) e in
+      (ap (λ l. getD l 0 0) f, ap (drop 1) f)
+
   pub set-registers : (k v : ℕ) → registersOf w′ ≡ set (registersOf w) k (some v) → w′ .registers ≡ set (w .registers) k v
   set-registers k v e = sym (values-are w′ z′) ∙ ap (map valueOr0) e ∙ values-set (registersOf w) k v
       ∙ ap (λ l. set l k v) (values-are w z)
+
+-- as many return labels as are counted
+pub returns-counted : (w : ThreadState) → Tidy w → length (returnsOf w) ≡ w .depth
+returns-counted w z = length-take-le (w .depth) (w .returns) (omega (arith, z .returns .sized, z .returns .within))
+
+-- two threads that run the same job with the same locks are the same
+pub same-thread : {w w′ : ThreadState} {locks : ℕ} {j : Job} → Runs w locks j → Runs w′ locks j → w′ ≡ w
+same-thread {w} {w′} r r′ =
+    let f = runs-fields r in
+    let f′ = runs-fields r′ in
+    let z = r .running .tidy in
+    let z′ = r′ .running .tidy in
+    let job : jobOf w′ ≡ jobOf w = f′ .1 ∙ sym (f .1) in
+    let depth : w′ .depth ≡ w .depth = sym (returns-counted w′ z′) ∙ ap (λ (q : Job). length (q .returns)) job ∙ returns-counted w z in
+    let registers = same-registers w w′ z z′ (ap (λ (q : Job). q .registers) job) in
+    let signals = same-signals w w′ z z′ (ap (λ (q : Job). q .held) job) in
+    λ i. record {
+      label = label (ap (λ (q : Job). q .label) job i);
+      locks = (f′ .0 ∙ sym (f .0)) i;
+      depth = depth i;
+      returns = same-returns w w′ z z′ (ap (λ (q : Job). q .returns) job) i;
+      present = registers .0 i;
+      registers = registers .1 i;
+      held = signals .0 i;
+      signals = signals .1 i;
+    }
 
 -- ---- read
 
@@ -155,9 +195,9 @@ module _ (b : List ℕ) where
             ∙ sym (getD-replicate (returnCount - n) i 0 0 hi′));
       }
 
-  running-tidy : (num16 b ≡ idleLabel → ⊥) → RunningRead b → Tidy (rawThread b)
+  running-tidy : (num16 b ≡ idleLabel → ⊥) → RunningRead b → TidyHeld (rawThread b .held) (rawThread b .signals) → Tidy (rawThread b)
   unfolding rawThread absentZero
-  running-tidy e o =
+  running-tidy e o k =
       record {
         returns = rw (getD-drop returnCountPlace b 0 0) (returns-read (getD b returnCountPlace 0) (o .few)
             (λ j h h′. zero-num (drop returnsPlace b) (2 * getD b returnCountPlace 0) (2 * (returnCount - getD b returnCountPlace 0))
@@ -168,14 +208,18 @@ module _ (b : List ℕ) where
           within = o .present;
           absent = λ r h. rw (chunks-at num16 2 registerCount (drop registersPlace b) 0 r h, drop-drop) (o .absent r h);
         };
+        held = k;
         nothing = λ q. absurd (e q);
       }
 
-  idle-tidy : part b locksPlace (threadSize - locksPlace) ≡ replicate (threadSize - locksPlace) 0 → Tidy (rawThread b)
+  idle-tidy : part b locksPlace (threadSize - locksPlace) ≡ replicate (threadSize - locksPlace) 0
+      → TidyHeld (rawThread b .held) (rawThread b .signals) → Tidy (rawThread b)
   unfolding rawThread num32
-  idle-tidy z =
+  idle-tidy z k =
       let d : getD (drop returnCountPlace b) 0 0 ≡ 0 = getD-drop returnCountPlace b 0 0
       ∙ zero-byte b locksPlace (threadSize - locksPlace) z returnCountPlace (omega arith) (omega arith) in
+      let h : getD (drop heldCountPlace b) 0 0 ≡ 0 = getD-drop heldCountPlace b 0 0
+      ∙ zero-byte b locksPlace (threadSize - locksPlace) z heldCountPlace (omega arith) (omega arith) in
       let p : num32 (drop presencePlace b) ≡ 0 = omega (
         arith,
         zero-num b locksPlace (threadSize - locksPlace) z presencePlace (omega arith) (omega arith),
@@ -190,7 +234,8 @@ module _ (b : List ℕ) where
         registers = rw p (none-tidy _ (length-chunks num16 2 registerCount (drop registersPlace b))
             (λ r h. rw (chunks-at num16 2 registerCount (drop registersPlace b) 0 r h, drop-drop)
             (zero-num b locksPlace (threadSize - locksPlace) z (registersPlace + 2 * r) (omega arith) (omega arith))));
-        nothing = λ q. (zero-num b locksPlace (threadSize - locksPlace) z locksPlace (omega arith) (omega arith), d, p);
+        held = k;
+        nothing = λ q. (zero-num b locksPlace (threadSize - locksPlace) z locksPlace (omega arith) (omega arith), d, p, h);
       }
 
 take-chunks : {A : Type 0} (g : List ℕ → A) (n k m : ℕ) (s : List ℕ) → k ≤ m → take k (chunks g n m s) ≡ chunks g n k s
@@ -199,48 +244,66 @@ take-chunks g n zero m s h = refl
 take-chunks g n (suc k) zero s h = absurd (omega arith)
 take-chunks g n (suc k) (suc m) s h = ap (λ l. g s ∷ l) (take-chunks g n k m (drop n s) (omega arith))
 
-pub bytes-say : (b : List ℕ) → threadSize ≤ length b → threadTidy b ≡ true → Says (rawThread b) (threadFrom b)
-unfolding threadTidy
-bytes-say b l e = go (eqb (num16 b) idleLabel) refl e
-  where
-    job-is : RunningRead b → jobOf (rawThread b) ≡ withHeld [] (jobFrom b)
-    job-is o = unfold rawThread jobFrom in
-        let h : getD (drop returnCountPlace b) 0 0 ≤ returnCount = omega (arith, getD-drop returnCountPlace b 0 0, o .few) in
-        rw (take-chunks num16 2 (getD (drop returnCountPlace b) 0 0) returnCount (drop returnsPlace b) h)
+job-is : (b : List ℕ) → RunningRead b → signalsOf (rawThread b) ≡ jobFrom b .held → jobOf (rawThread b) ≡ jobFrom b
+unfolding rawThread jobFrom
+job-is b o f =
+    let h : getD (drop returnCountPlace b) 0 0 ≤ returnCount = omega (arith, getD-drop returnCountPlace b 0 0, o .few) in
+    rw (take-chunks num16 2 (getD (drop returnCountPlace b) 0 0) returnCount (drop returnsPlace b) h, f)
 
-    state-is : (c : Bool) → eqb (num16 b) idleLabel ≡ c
-        → stateOf (rawThread b) ≡ cond c idle (running (num16 (drop locksPlace b)) (jobOf (rawThread b)))
-    state-is c p = unfold stateOf rawThread in rw p
+module _ (b : List ℕ) (l : threadSize ≤ length b) (k : TidyHeld (rawThread b .held) (rawThread b .signals))
+    (same : signalsOf (rawThread b) ≡ heldOf (threadFrom b)) where
+  bytes-say : threadTidy b ≡ true → Says (rawThread b) (threadFrom b)
+  unfolding threadTidy
+  bytes-say e = go (eqb (num16 b) idleLabel) refl e
+    where
+      state-is : (c : Bool) → eqb (num16 b) idleLabel ≡ c
+          → stateOf (rawThread b) ≡ cond c idle (running (num16 (drop locksPlace b)) (jobOf (rawThread b)))
+      state-is c p = unfold stateOf rawThread in rw p
 
-    from-is : (c : Bool) → eqb (num16 b) idleLabel ≡ c → threadFrom b ≡ cond c idle (running (num16 (drop locksPlace b)) (jobFrom b))
-    from-is c p = unfold threadFrom in rw p
+      from-is : (c : Bool) → eqb (num16 b) idleLabel ≡ c → threadFrom b ≡ cond c idle (running (num16 (drop locksPlace b)) (jobFrom b))
+      from-is c p = unfold threadFrom in rw p
 
-    go : (c : Bool) → eqb (num16 b) idleLabel ≡ c
-        → cond c (isZeros (part b locksPlace (threadSize - locksPlace))) (runningTidy b && signalsTidy heldCount heldCountPlace b) ≡ true
-        → Says (rawThread b) (threadFrom b)
-    go true p t = record {
-      state = state-is true p ∙ ap (keepHeld []) (sym (from-is true p));
-      tidy = idle-tidy b (zeros-part b locksPlace (threadSize - locksPlace) (omega arith) t);
-    }
-    go false p t =
-        let o = running-read b l (and-both (runningTidy b) _ t .0) in
-        record {
-          state = state-is false p ∙ ap (running (num16 (drop locksPlace b))) (job-is o)
-              ∙ ap (keepHeld []) (sym (from-is false p));
-          tidy = running-tidy b (eqb-false (num16 b) idleLabel p) o;
-        }
+      go : (c : Bool) → eqb (num16 b) idleLabel ≡ c
+          → cond c (isZeros (part b locksPlace (threadSize - locksPlace))) (runningTidy b && signalsTidy heldCount heldCountPlace b) ≡ true
+          → Says (rawThread b) (threadFrom b)
+      go true p t = record {
+        state = state-is true p ∙ sym (from-is true p);
+        tidy = idle-tidy b (zeros-part b locksPlace (threadSize - locksPlace) (omega arith) t) k;
+      }
+      go false p t =
+          let o = running-read b l (and-both (runningTidy b) _ t .0) in
+          record {
+            state = state-is false p ∙ ap (running (num16 (drop locksPlace b))) (job-is b o (same ∙ ap heldOf (from-is false p)))
+                ∙ sym (from-is false p);
+            tidy = running-tidy b (eqb-false (num16 b) idleLabel p) o k;
+          }
+
+-- the bytes of the signals that a thread holds, read from the bytes that it was written to
+held-read : (x : law.ThreadState) (q : List ℕ)
+    → rawThread (threadBytes x ++ q) .held ∷ rawThread (threadBytes x ++ q) .signals ≡ signalsBytes heldCount (heldOf x)
+unfolding rawThread
+held-read x q =
+    let p = held-behind x in
+    let S : List ℕ = signalsBytes heldCount (heldOf x) in
+    let d : drop heldCountPlace (threadBytes x ++ q) ≡ S ++ q = rw (p .1, append-assoc) (drop-at (p .0) (S ++ q) heldCountPlace (p .2)) in
+    let e : drop heldPlace (threadBytes x ++ q) ≡ drop 1 (S ++ q) = sym (drop-drop 1 heldCountPlace (threadBytes x ++ q)) ∙ ap (drop 1) d in
+    rw (d, e) (ap (length (heldOf x) ∷_) (take-at (blocks signalBytes (pad noSignal heldCount (heldOf x))) q heldSize
+    (omega (arith, length-signals heldCount (heldOf x)))))
 
 -- the thread that bytes were written of
 pub bytes-of : (x : law.ThreadState) → SizedThread x → (q : List ℕ) → Says (rawThread (threadBytes x ++ q)) x
-bytes-of x z q = rw (thread-back x z q) at (bytes-say (threadBytes x ++ q) (simp length-append (omega (arith, length-thread x)))
-    (thread-tidy x z q))
+bytes-of x z q =
+    let b : List ℕ = threadBytes x ++ q in
+    let back = thread-back x z q in
+    let h = held-of (rawThread b .held) (rawThread b .signals) (heldOf x) (held-sized x z) (held-read x q) in
+    rw back at (bytes-say b (simp length-append (omega (arith, length-thread x))) (h .1) (h .0 ∙ ap heldOf (sym back)) (thread-tidy x z q))
 
--- what a tidy state says, with signals held that are, is within the limits
-pub tidy-sized : (w : ThreadState) (gs : List Signal) → Tidy w → SizedSignals heldCount gs → SizedThread (keepHeld gs (stateOf w))
+-- what a tidy state says is within the limits
+pub tidy-sized : (w : ThreadState) → Tidy w → SizedThread (stateOf w)
 unfolding stateOf
-tidy-sized w gs z k = go (eqb (w .label .0) idleLabel) refl
+tidy-sized w z = go (eqb (w .label .0) idleLabel) refl
   where
-    go : (b : Bool) → eqb (w .label .0) idleLabel ≡ b → SizedThread (keepHeld gs (cond b idle (running (w .locks) (jobOf w))))
+    go : (b : Bool) → eqb (w .label .0) idleLabel ≡ b → SizedThread (cond b idle (running (w .locks) (jobOf w)))
     go true e = tt
     go false e = record {
       label = eqb-false (w .label .0) idleLabel e;
@@ -251,5 +314,5 @@ tidy-sized w gs z k = go (eqb (w .label .0) idleLabel) refl
             (omega (arith, z .returns .within, z .returns .sized)),
       );
       registers = length-registers (w .present) (w .registers) 0 registerCount;
-      held = k;
+      held = z .held .sized;
     }

@@ -1,5 +1,4 @@
--- What a thread's state, as the code has it, says: all of the law's thread but for the signals that its job holds, which stay in the
--- lent record.
+-- What a thread's state, as the code has it, says: the law's thread, with the signals that its job holds.
 use mathlib.Core.Path.{_≡_, refl, sym, ap, _∙_}
 use mathlib.Core.Bool.{Bool, true, false, cond}
 use mathlib.Core.Option.{Option, some}
@@ -12,13 +11,14 @@ use lib.ListN.{length, take, drop, replicate, getD-replicate, take-append-drop}
 use lib.Seq.{length-take-le}
 use borrow.Author.Tests.{ne-eqb, eqb-true}
 use Rattle.rules.specs.Sorts.{label}
-use Rattle.rules.specs.Sizes.{returnCount, registerCount, idleLabel}
+use Rattle.rules.specs.Sizes.{returnCount, registerCount, heldSize, idleLabel}
 use Rattle.rules.specs.Bytes.{pad}
 use Rattle.rules.specs.Machine as law
-use Rattle.rules.specs.Machine.{Signal, Job, job, withHeld, heldOf, idle, running, Machine, threadAt, withThread, fill}
+use Rattle.rules.specs.Machine.{Signal, Job, job, withHeld, idle, running, Machine, withThread, fill}
 use Rattle.rules.specs.Encoding.{registersFrom}
 use Rattle.threads.specs.Returns.{TidyReturns, no-returns}
 use Rattle.threads.specs.Registers.{TidyRegisters, none-tidy, filled-registers, filled-tidy, overlaid-registers, overlaid-tidy}
+use Rattle.threads.specs.Held.{heldFrom, TidyHeld, none-held}
 use Rattle.threads.specs.declared.thread.ThreadState.{ThreadState}
 
 abbrev pub returnsOf : ThreadState → List ℕ
@@ -27,39 +27,35 @@ returnsOf w = take (w .depth) (w .returns)
 abbrev pub registersOf : ThreadState → List (Option ℕ)
 registersOf w = registersFrom (w .present) (w .registers) 0 registerCount
 
+abbrev pub signalsOf : ThreadState → List Signal
+signalsOf w = heldFrom (w .held) (w .signals)
+
+-- a job that holds the signals that the thread holds
+abbrev pub keeping : ThreadState → Job → Job
+keeping w j = withHeld (signalsOf w) j
+
 abbrev pub jobOf : ThreadState → Job
-jobOf w = job (w .label .0) (returnsOf w) (registersOf w)
+jobOf w = keeping w (job (w .label .0) (returnsOf w) (registersOf w))
 
 unfoldable pub stateOf : ThreadState → law.ThreadState
 stateOf w = cond (eqb (w .label .0) idleLabel) idle (running (w .locks) (jobOf w))
 
--- a thread with other signals held; an idle thread holds none
-abbrev pub keepHeld : List Signal → law.ThreadState → law.ThreadState
-keepHeld gs idle = idle
-keepHeld gs (running locks j) = running locks (withHeld gs j)
-
--- a machine in which thread t runs this job with these locks, holding the signals that it held
+-- a machine in which thread t runs this job with these locks
 abbrev pub withJob : Machine → ℕ → ℕ → Job → Machine
-withJob s t locks j = withThread s t (running locks (withHeld (heldOf (threadAt s t)) j))
+withJob s t locks j = withThread s t (running locks j)
 
--- nothing is said but this: unused return labels and absent registers are zero, and so are the other fields of an idle thread
+-- nothing is said but this: unused return labels, absent registers and places without a signal are zero, and so are the other fields of
+-- an idle thread
 pub record Tidy (w : ThreadState) : Type 0 where
   pub returns : TidyReturns (w .depth) (w .returns)
   pub registers : TidyRegisters (w .present) (w .registers)
-  pub nothing : w .label .0 ≡ idleLabel → (w .locks ≡ 0) × (w .depth ≡ 0) × (w .present ≡ 0)
+  pub held : TidyHeld (w .held) (w .signals)
+  pub nothing : w .label .0 ≡ idleLabel → (w .locks ≡ 0) × (w .depth ≡ 0) × (w .present ≡ 0) × (w .held ≡ 0)
 
--- a thread that says x, but for the signals held, and nothing else
+-- a thread that says x and nothing else
 pub record Says (w : ThreadState) (x : law.ThreadState) : Type 0 where
-  pub state : stateOf w ≡ keepHeld [] x
+  pub state : stateOf w ≡ x
   pub tidy : Tidy w
-
--- and x is what it says, with the signals that x holds
-pub says-whole : {w : ThreadState} {x : law.ThreadState} → Says w x → x ≡ keepHeld (heldOf x) (stateOf w)
-says-whole {w} {x} h = rw (h .state) (whole x)
-  where
-    whole : (y : law.ThreadState) → y ≡ keepHeld (heldOf y) (keepHeld [] y)
-    whole idle = refl
-    whole (running locks j) = refl
 
 abbrev pub Idle : ThreadState → Type 0
 Idle w = Says w idle
@@ -84,8 +80,9 @@ idleThread = record {
   locks = 0;
   depth = 0;
   returns = replicate returnCount 0;
-  registers = replicate
-      registerCount 0;
+  registers = replicate registerCount 0;
+  held = 0;
+  signals = replicate heldSize 0;
 }
 
 pub idle-thread : Idle idleThread
@@ -96,17 +93,21 @@ idle-thread = record {
     returns = no-returns;
     registers = none-tidy _ refl
         (λ r h. getD-replicate {A = ℕ} registerCount r 0 0 h);
-    nothing = λ e. (refl, refl, refl);
+    held = none-held;
+    nothing = λ e. (refl, refl, refl, refl);
   };
 }
 
 pub running-thread : (w : ThreadState) (locks : ℕ) (j : Job) → w .label .0 < idleLabel → TidyReturns (w .depth) (w .returns)
-    → TidyRegisters (w .present) (w .registers)
+    → TidyRegisters (w .present) (w .registers) → TidyHeld (w .held) (w .signals)
     → w .locks ≡ locks → jobOf w ≡ j → Runs w locks j
 unfolding stateOf
-running-thread w locks j h returns registers e f = record {
+running-thread w locks j h returns registers held e f = record {
   state = rw (ne-eqb (w .label .0) idleLabel (λ q. omega arith), e, f);
-  running = record { label = h; tidy = record { returns = returns; registers = registers; nothing = λ q. absurd (omega arith) } };
+  running = record {
+    label = h;
+    tidy = record { returns = returns; registers = registers; held = held; nothing = λ q. absurd (omega arith) };
+  };
 }
 
 -- a running thread with other return labels
@@ -118,8 +119,15 @@ pub tidy-with : (w : ThreadState) (depth : ℕ) (returns : List ℕ) → Running
       returns = returns;
       present = w .present;
       registers = w .registers;
+      held = w .held;
+      signals = w .signals;
     })
-tidy-with w depth returns h z = record { returns = z; registers = h .tidy .registers; nothing = λ q. absurd (omega (arith, h .label)) }
+tidy-with w depth returns h z = record {
+  returns = z;
+  registers = h .tidy .registers;
+  held = h .tidy .held;
+  nothing = λ q. absurd (omega (arith, h .label));
+}
 
 pub runs-as : {w : ThreadState} {locks locks′ : ℕ} {j j′ : Job} → Runs w locks j → locks ≡ locks′ → j ≡ j′ → Runs w locks′ j′
 runs-as h e f = rw (e, f) at h
@@ -133,6 +141,10 @@ pub runs-says : (w : ThreadState) → eqb (w .label .0) idleLabel ≡ false → 
 unfolding stateOf
 runs-says w e = rw e refl
 
+-- a running thread runs its job
+pub runs-itself : {w : ThreadState} → Running w → Runs w (w .locks) (jobOf w)
+runs-itself {w} h = record { state = runs-says w (ne-eqb (w .label .0) idleLabel (λ q. omega (arith, h .label))); running = h }
+
 -- the fields of a thread that runs a job
 pub runs-fields : {w : ThreadState} {locks : ℕ} {j : Job} → Runs w locks j → (w .locks ≡ locks) × (jobOf w ≡ j)
 runs-fields {w} {locks} {j} h =
@@ -140,13 +152,24 @@ runs-fields {w} {locks} {j} h =
     (ne-eqb (w .label .0) idleLabel (λ q. omega (arith, h .running .label)))) ∙ h .state in
     (cc, cc)
 
+-- a thread that says what another runs, runs it too
+pub says-runs : {w x : ThreadState} {locks : ℕ} {j : Job} → Runs w locks j → Says x (running locks j) → Runs x locks j
+says-runs {w} {x} {locks} {j} r s = record { state = s .state; running = record { label = go (eqb (x .label .0) idleLabel) refl; tidy = s .tidy } }
+  where
+    go : (z : Bool) → eqb (x .label .0) idleLabel ≡ z → x .label .0 < idleLabel
+    go true q = absurd (let f = sym (idle-says x q) ∙ s .state in let z : _≡_ {A = ℕ} 0 1 = cc in omega arith)
+    go false q =
+        let f = sym (runs-says x q) ∙ s .state in
+        let e : jobOf x ≡ jobOf w = cc (runs-fields r .1) in
+        omega (arith, ap (λ (y : Job). y .label) e, r .running .label)
+
 -- a change of locks and job after another
 pub runs-then : {x y : ThreadState} {locks : ℕ} {j : Job} (L : ℕ → ℕ) (F : Job → Job) → Runs x locks j
     → Runs y (L (x .locks)) (F (jobOf x)) → Runs y (L locks) (F j)
 runs-then L F m n = runs-as n (ap L (runs-fields m .0)) (ap F (runs-fields m .1))
 
--- an idle thread holds no lock, and has no return label and no register
-pub idle-fields : (w : ThreadState) → Idle w → (w .locks ≡ 0) × (w .depth ≡ 0) × (w .present ≡ 0)
+-- an idle thread holds no lock and no signal, and has no return label and no register
+pub idle-fields : (w : ThreadState) → Idle w → (w .locks ≡ 0) × (w .depth ≡ 0) × (w .present ≡ 0) × (w .held ≡ 0)
 unfolding stateOf
 idle-fields w h = h .tidy .nothing (go (eqb (w .label .0) idleLabel) refl (h .state))
   where
@@ -170,14 +193,16 @@ filled w vs = record {
   depth = w .depth;
   returns = w .returns;
   registers = vs ++ replicate (registerCount - length vs) 0;
+  held = w .held;
+  signals = w .signals;
 }
 
 pub filled-runs : (w : ThreadState) (vs : List ℕ) → w .label .0 < idleLabel → TidyReturns (w .depth) (w .returns)
-    → length vs ≤ registerCount
-    → Runs (filled w vs) (w .locks) (job (w .label .0) (returnsOf w) (fill vs))
+    → TidyHeld (w .held) (w .signals) → length vs ≤ registerCount
+    → Runs (filled w vs) (w .locks) (keeping w (job (w .label .0) (returnsOf w) (fill vs)))
 unfolding filled
-filled-runs w vs h z few = running-thread _ _ _ h z (filled-tidy vs few) refl
-    (ap (λ l. job (w .label .0) (returnsOf w) l) (filled-registers vs few))
+filled-runs w vs h z k few = running-thread _ _ _ h z (filled-tidy vs few) k refl
+    (ap (λ l. keeping w (job (w .label .0) (returnsOf w) l)) (filled-registers vs few))
 
 -- registers 0 to n - 1 have the first n values, the others stay
 pub transferred-runs : (w : ThreadState) (l n : ℕ) (values : List ℕ) → Running w → l < idleLabel → n ≤ registerCount
@@ -189,8 +214,10 @@ pub transferred-runs : (w : ThreadState) (l n : ℕ) (values : List ℕ) → Run
       depth = w .depth;
       returns = w .returns;
       registers = values;
+      held = w .held;
+      signals = w .signals;
     }) (w .locks)
-    (job l (returnsOf w) (map some (take n values) ++ drop n (registersOf w)))
+    (keeping w (job l (returnsOf w) (map some (take n values) ++ drop n (registersOf w))))
 transferred-runs w l n values h b few sized same =
     let z = h .tidy .registers in
     let vs = take n values in
@@ -202,4 +229,4 @@ transferred-runs w l n values h b few sized same =
     let r : registersFrom (bitOr (w .present) (2 ^ n - 1)) (take n values ++ drop n (w .registers)) 0 registerCount ≡ map some
     (take n values) ++ drop n (registersOf w) =
     rw c at (overlaid-registers (w .present) (w .registers) vs (z .sized) f) in
-    running-thread _ _ _ b (h .tidy .returns) (rw e at t) refl (ap (λ q. job l (returnsOf w) q) (rw e at r))
+    running-thread _ _ _ b (h .tidy .returns) (rw e at t) (h .tidy .held) refl (ap (λ q. keeping w (job l (returnsOf w) q)) (rw e at r))

@@ -9,7 +9,7 @@ ghost use lib.ListN.{set, take};
 ghost use Rattle.rules.specs.Machine.{job};
 ghost use Rattle.rules.specs.Sizes.{registerCount};
 ghost use Rattle.threads.specs.Bits.{withBit};
-ghost use Rattle.threads.specs.Threads.{Running, Runs, returnsOf, registersOf, filled, ZerosAfter};
+ghost use Rattle.threads.specs.Threads.{Running, Runs, returnsOf, registersOf, keeping, filled, ZerosAfter};
 
 // A presence bit set.
 fn mark(present: u32, register: u16) -> u32
@@ -62,7 +62,8 @@ impl ThreadState {
     // A register stored to becomes present.
     pub fn assign_register(mut self, register: u16, value: u16) -> Self
         requires { ⌜ Running self × (register < registerCount) ⌝ }
-        ensures { λ r. ⌜ Runs r (self .locks) (job (self .label .0) (returnsOf self) (set (registersOf self) register (some value))) ⌝ }
+        ensures { λ r. ⌜ Runs r (self .locks)
+            (keeping self (job (self .label .0) (returnsOf self) (set (registersOf self) register (some value)))) ⌝ }
     {
         let at = register as usize;
         let mut registers = self.registers;

@@ -1,5 +1,6 @@
 // A thread's state as one value, and how a job begins, goes on, calls, returns and ends on it.
 use crate::registers::low;
+use rules::layout::HELD_SIZE;
 use rules::sorts::Label;
 use rules::sorts::Thread;
 use rules::sorts::label_number;
@@ -13,10 +14,11 @@ ghost use lib.ListN.{take, drop};
 ghost use Rattle.rules.specs.Sizes.{registerCount, returnCount, idleLabel};
 ghost use Rattle.rules.specs.Machine.{fill, job};
 ghost use Rattle.threads.specs.Returns.{newestOf, olderOf};
-ghost use Rattle.threads.specs.Threads.{Idle, Tidy, Running, Runs, returnsOf, registersOf, idleThread, ZerosAfter};
+ghost use Rattle.threads.specs.Threads.{Idle, Tidy, Running, Runs, returnsOf, registersOf, keeping, idleThread, ZerosAfter};
 
 // At the label 65,535 a thread is idle. Depth is the number of return labels in use; they stand oldest first. Bit r of the presence set
-// is for register r. An array is indexed in a local copy of it and never as a field, which would keep the whole value in memory.
+// is for register r. The signals held for new trees are their count, and their bytes as the record has them. An array is indexed in a local
+// copy of it and never as a field, which would keep the whole value in memory.
 pub struct ThreadState {
     pub present: u32,
     pub label: Label,
@@ -24,6 +26,8 @@ pub struct ThreadState {
     pub depth: usize,
     pub returns: [u16; Thread::RETURNS],
     pub registers: [u16; Thread::REGISTERS],
+    pub held: usize,
+    pub signals: [u8; HELD_SIZE],
 }
 
 impl ThreadState {
@@ -38,6 +42,8 @@ impl ThreadState {
             depth: 0,
             returns: [0u16; Thread::RETURNS],
             registers: [0u16; Thread::REGISTERS],
+            held: 0,
+            signals: [0u8; HELD_SIZE],
         }
     }
 
@@ -59,7 +65,7 @@ impl ThreadState {
     // A direct SEND.
     pub fn enter(mut self, label: Label, values: [u16; Thread::REGISTERS], count: u8) -> Self
         requires { ⌜ Tidy self × (label .0 < idleLabel) × (count ≤ registerCount) × ZerosAfter count values ⌝ }
-        ensures { λ r. ⌜ Runs r (self .locks) (job (label .0) (returnsOf self) (fill (take count values))) ⌝ }
+        ensures { λ r. ⌜ Runs r (self .locks) (keeping self (job (label .0) (returnsOf self) (fill (take count values)))) ⌝ }
     {
         self.label = label;
         self.fill(values, count)
@@ -75,7 +81,8 @@ impl ThreadState {
     ) -> Self
         requires { ⌜ Running self × (self .depth < returnCount) × (label .0 < idleLabel)
             × (count ≤ registerCount) × ZerosAfter count values ⌝ }
-        ensures { λ r. ⌜ Runs r (self .locks) (job (label .0) (returnsOf self ++ (back .0 ∷ [])) (fill (take count values))) ⌝ }
+        ensures { λ r. ⌜ Runs r (self .locks)
+            (keeping self (job (label .0) (returnsOf self ++ (back .0 ∷ [])) (fill (take count values)))) ⌝ }
     {
         let next = self.depth;
         let mut returns = self.returns;
@@ -89,7 +96,8 @@ impl ThreadState {
     pub fn return_to_caller(mut self, values: [u16; Thread::REGISTERS], count: u8) -> Self
         requires { ⌜ Running self × (0 < self .depth) × (newestOf (returnsOf self) < idleLabel)
             × (count ≤ registerCount) × ZerosAfter count values ⌝ }
-        ensures { λ r. ⌜ Runs r (self .locks) (job (newestOf (returnsOf self)) (olderOf (returnsOf self)) (fill (take count values))) ⌝ }
+        ensures { λ r. ⌜ Runs r (self .locks)
+            (keeping self (job (newestOf (returnsOf self)) (olderOf (returnsOf self)) (fill (take count values)))) ⌝ }
     {
         let newest = self.depth - 1;
         let mut returns = self.returns;
@@ -105,7 +113,7 @@ impl ThreadState {
         requires { ⌜ Running self × (label .0 < idleLabel)
             × (count ≤ registerCount) × (drop count values ≡ drop count (self .registers)) ⌝ }
         ensures { λ r. ⌜ Runs r (self .locks)
-            (job (label .0) (returnsOf self) (map some (take count values) ++ drop count (registersOf self))) ⌝ }
+            (keeping self (job (label .0) (returnsOf self) (map some (take count values) ++ drop count (registersOf self)))) ⌝ }
     {
         self.label = label;
         self.present = self.present | low(count);
@@ -116,7 +124,7 @@ impl ThreadState {
     // On to a label, with the same registers.
     pub fn move_on(mut self, label: Label) -> Self
         requires { ⌜ Running self × (label .0 < idleLabel) ⌝ }
-        ensures { λ r. ⌜ Runs r (self .locks) (job (label .0) (returnsOf self) (registersOf self)) ⌝ }
+        ensures { λ r. ⌜ Runs r (self .locks) (keeping self (job (label .0) (returnsOf self) (registersOf self))) ⌝ }
     {
         self.label = label;
         self

@@ -22,11 +22,11 @@ use Rattle.soundness.specs.Sound.{PlaceIn, ThreadIn}
 use Rattle.step_laws.specs.Events.{reply}
 use Rattle.step_laws.specs.Statements as law
 use Rattle.threads.specs.Returns.{newestOf, olderOf}
-use Rattle.threads.specs.Threads.{returnsOf, registersOf, withJob}
+use Rattle.threads.specs.Threads.{returnsOf, registersOf, withJob, jobOf, keeping}
 use Rattle.threads.specs.declared.thread.ThreadState.{ThreadState}
 use Rattle.operands.specs.Cells.{cellsOf}
 use Rattle.step_ready.specs.Ready.{Stepped, Ended, replyTo, done}
-use Rattle.step_ready.specs.At.{At, tree, statement-here, reads-here, small, depth-is, jobAt}
+use Rattle.step_ready.specs.At.{At, tree, statement-here, reads-here, small, depth-is}
 
 -- the newest of the return labels is one of them
 newest-in : (image table : List ℕ) (t a : ℕ) (l : List ℕ) → PlaceIn image table t a → Each (PlaceIn image table t) l
@@ -49,24 +49,24 @@ module _ {image table b : List ℕ} {t : ℕ} {w : ThreadState} {r : List ℕ} (
 
   module _ (vs : List ℕ) (g : readAll (cellsOf b w r) (dataOf r) ≡ got vs) where
     pub transferred : statementOf r ≡ Transfer → replyTo image table b (step t)
-        ≡ reply (withJob m t (w .locks) (job (labelA r) (returnsOf w) (map some vs ++ drop (length vs) (registersOf w))))
+        ≡ reply (withJob m t (w .locks) (keeping w (job (labelA r) (returnsOf w) (map some vs ++ drop (length vs) (registersOf w)))))
         Moved
     transferred e =
         rw (ap labelA (h .here))
-        (law.transfers image table m t (w .locks) (jobAt b t w) (tree h .0) (h .runs) (tree h .1) vs (statement-here h Transfer e)
+        (law.transfers image table m t (w .locks) (jobOf w) (tree h .0) (h .runs) (tree h .1) vs (statement-here h Transfer e)
         (reads-here h Transfer g))
 
     module _ (e : statementOf r ≡ Return) where
       -- a list of return labels, with one in it
       to-newest : (rs : List ℕ) → returnsOf w ≡ rs → 0 < length rs
-          → replyTo image table b (step t) ≡ reply (withJob m t (w .locks) (job (newestOf rs) (olderOf rs) (fill vs))) Moved
+          → replyTo image table b (step t) ≡ reply (withJob m t (w .locks) (keeping w (job (newestOf rs) (olderOf rs) (fill vs)))) Moved
       to-newest [] q z = absurd (omega arith)
       to-newest (x ∷ more) q z =
-          law.returns-to image table m t (w .locks) (jobAt b t w) (tree h .0) (h .runs) (tree h .1) vs (statement-here h Return e)
+          law.returns-to image table m t (w .locks) (jobOf w) (tree h .0) (h .runs) (tree h .1) vs (statement-here h Return e)
           (reads-here h Return g) x more q
 
       pub returned : 0 < w .depth → replyTo image table b (step t)
-          ≡ reply (withJob m t (w .locks) (job (newestOf (returnsOf w)) (olderOf (returnsOf w)) (fill vs))) Moved
+          ≡ reply (withJob m t (w .locks) (keeping w (job (newestOf (returnsOf w)) (olderOf (returnsOf w)) (fill vs)))) Moved
       returned l = to-newest (returnsOf w) refl (omega (arith, depth-is h))
 
       -- none in it
@@ -74,7 +74,7 @@ module _ {image table b : List ℕ} {t : ℕ} {w : ThreadState} {r : List ℕ} (
           → Stepped image table b t b′ a
       unreturned z f k =
           done (finished (rulesBy image table) t m) (Trapped noReturnLabelCode)
-          (law.return-none image table m t (w .locks) (jobAt b t w) (tree h .0) (h .runs) (tree h .1) vs (statement-here h Return e)
+          (law.return-none image table m t (w .locks) (jobOf w) (tree h .0) (h .runs) (tree h .1) vs (statement-here h Return e)
           (reads-here h Return g) (rw z refl)) f k
 
   pub newest-small : 0 < w .depth → newestOf (returnsOf w) < idleLabel

@@ -5,7 +5,7 @@ use Rattle.rules.specs.Steps.{rulesBy, finished}
 use Rattle.rules.specs.declared.answer.Answer.the-variants.{WasCut, NothingToCut}
 use Rattle.step_laws.specs.Events.{cut-idle, cut-running}
 use Rattle.step_ready.specs.Ready.{done}
-use Rattle.step_ready.specs.At.{at-rest, runs-job, busy}
+use Rattle.step_ready.specs.At.{at-rest, runs-job, thread-runs}
 use Rattle.ending.proofs.cut_job.Statement.{statement}
 use Rattle.ending.proofs.cut_job.Tie as tie
 
@@ -22,7 +22,8 @@ finish-requires c κs =
     let s = c .before .before .before .before .before .before in (
       s .pre .0,
       s .pre .1,
-      busy (s .pre .0) (s .args .t .0) (s .args .w) (s .pre .1) (s .pre .2)
+      s .pre .2,
+      thread-runs (s .pre .0) (s .args .t .0) (s .args .w) (s .pre .1) (s .pre .2)
           (sym (c .before .before .is-idle .ensures) ∙ c .before .if1 .left),
     )
 

@@ -54,13 +54,13 @@ transfer-requires c κs = (
 
 leave-requires : tie.Need-leave-requires
 leave-requires c κs = (
-  rw (c .read-thread9 .ensures) (c .before .before .before .before .before .before .before .before .before .before .pre),
-  sym (c .before .before .before .before .before .statement-of .ensures) ∙ c .before .before .before .enum-told7 .given .1,
+  c .before .before .before .before .before .before .before .before .pre,
+  sym (c .before .before .before .statement-of .ensures) ∙ c .before .enum-told7 .given .1,
 )
 
 send-tree-requires : tie.Need-send-tree-requires
 send-tree-requires c κs = (
-  rw (c .read-thread10 .ensures) (c .before .before .before .before .before .before .before .before .before .before .pre),
+  rw (c .read-thread9 .ensures) (c .before .before .before .before .before .before .before .before .before .before .pre),
   sym (c .before .before .before .before .before .statement-of .ensures) ∙ c .before .before .before .enum-told8 .given .1,
 )
 
@@ -94,7 +94,6 @@ carry-out-spec =
     (λ c κs. search needs)
     transfer-requires
     (λ c. search needs)
-    (λ c κs. search needs)
     leave-requires
     (λ c. search needs)
     (λ c κs. search needs)

@@ -1,6 +1,6 @@
-use Rattle.rules.specs.Machine.{job}
 use Rattle.rules.specs.Encoding.{machineFrom}
-use Rattle.encoding.specs.Encoded.{encoded-canonical, encoded-machine}
+use Rattle.encoding.specs.Encoded.{encoded-canonical}
+use Rattle.step_ready.specs.Ready.{still-recorded}
 use Rattle.storing.specs.Destinations.{standing, both-stored}
 use Rattle.storing.specs.Operands.{legal, second-at}
 use borrow.Author.Needs.{needs}
@@ -20,8 +20,9 @@ store-second-requires c κs =
       first .0 .running,
       rw (c .before .before .before .before .before .before .before .block-field .ensures) (h .readable .block),
       second-at h a (s .pre .1) _ _ (kind-at .ensures) (value-at .ensures) (s .pre .2) .1,
-      standing (machineFrom (s .args .state .now)) (s .args .t .0) (rw (h .ready .canonical .sized .threads) (h .inside))
-          _ _ (a .first) (s .args .u) (job _ _ _) _ (encoded-machine _ _ (first .1)),
+      still-recorded (s .args .t .0) (h .inside) (first .0 .running) (first .1)
+          (standing (machineFrom (s .args .state .now)) (s .args .t .0) (rw (h .ready .canonical .sized .threads) (h .inside))
+          _ _ (a .first) (s .args .u) _),
     )
 
 returns : tie.Need-returns

@@ -9,10 +9,11 @@ use Rattle.rules.specs.declared.statement.Statement.the-variants.{Assign}
 use Rattle.encoding.specs.Encoded.{encoded-canonical}
 use Rattle.operands.specs.Statements.{Lands}
 use Rattle.state.specs.Words.{word-written}
-use Rattle.step_ready.specs.Ready.{job-written}
-use Rattle.step_ready.specs.At.{label-A, small, slots-assigned}
+use Rattle.threads.specs.Threads.{runs-itself}
+use Rattle.step_ready.specs.Ready.{job-written, slots-assigned}
+use Rattle.step_ready.specs.At.{label-A, small}
 use Rattle.storing.specs.Destinations.{register-stored, first-written}
-use Rattle.storing.specs.Operands.{runs-itself, register-lands, word-lands, first-at}
+use Rattle.storing.specs.Operands.{register-lands, word-lands, first-at}
 use borrow.Author.Needs.{needs}
 use Rattle.storing.proofs.store_first.Statement.{statement}
 use Rattle.storing.proofs.store_first.Tie as tie
@@ -60,8 +61,8 @@ write-assigned-requires c κs =
     let h = s .pre .0 in
     let k = c .before .before .before .before .value-at .result in
     let runs = register-stored (Register k) (s .args .u) (move-on .ensures) (c .before .assign-register .ensures) in
-    let kept = slots-assigned h k (s .args .u) runs in
-    (h .ready .canonical .long, h .inside, runs .running .tidy .returns .within, register (c .before .before) .1, kept .0, kept .1)
+    let kept = slots-assigned (h .read) (h .thread) k (s .args .u) runs in
+    (h .ready .canonical .long, h .inside, runs .running .tidy .returns .within, register (c .before .before) .1, kept .0, kept .1, kept .2)
 
 returns : tie.Need-returns
 returns c =
@@ -81,7 +82,8 @@ returns c =
 write-thread-requires : tie.Need-write-thread-requires
 write-thread-requires c κs =
     let h = c .before .before .before .before .before .before .before .before .before .before .before .pre .0 in
-    (h .ready .canonical .long, h .inside, c .before .before .before .before .before .move-on .ensures .running .tidy .returns .within)
+    let z = c .before .before .before .before .before .move-on .ensures .running .tidy in
+    (h .ready .canonical .long, h .inside, z .returns .within, z .held .within)
 
 write-word-requires : tie.Need-write-word-requires
 write-word-requires c κs =

@@ -5,9 +5,8 @@ use Rattle.rules.specs.Sizes.{wordCount, registerCount}
 use Rattle.rules.specs.Statements.{operandOf}
 use Rattle.rules.specs.declared.statement.Operand.the-variants.{Register, Word}
 use Rattle.state.specs.Words.{word-written}
-use Rattle.step_ready.specs.Ready.{job-written}
+use Rattle.step_ready.specs.Ready.{job-written, slots-assigned, head-assigned}
 use Rattle.storing.specs.Operands.{register-lands, word-lands}
-use Rattle.storing.specs.Written.{slots-then, head-then}
 use borrow.Author.Needs.{needs}
 use Rattle.storing.proofs.store_second.Statement.{statement}
 use Rattle.storing.proofs.store_second.Tie as tie
@@ -36,9 +35,8 @@ write-register-requires : tie.Need-write-register-requires
 write-register-requires c κs =
     let s = start-then (c .before .before) in
     let x = c .assign-register .ensures in
-    let kept = slots-then (s .args .state .now) (s .args .t .0) (s .args .w) (s .pre .0) (s .pre .1) (s .pre .5) _ _ x in
-    let head = head-then (s .args .state .now) (s .args .t .0) (s .args .w) (s .pre .0) (s .pre .1) (s .pre .5) x in
-    (s .pre .0 .long, s .pre .1, register (c .before .before) .1, head, kept .0, kept .1)
+    let kept = slots-assigned (s .pre .5) (s .pre .2) _ _ x in
+    (s .pre .0 .long, s .pre .1, register (c .before .before) .1, head-assigned (s .pre .5) (s .pre .2) x, kept .0, kept .1, kept .2)
 
 write-word-requires : tie.Need-write-word-requires
 write-word-requires c κs = (start-else (c .before) .pre .0 .long, start-else (c .before) .pre .3, word (c .before) .1)

@@ -25,7 +25,7 @@ returns c =
           .before .before .slice-known .given i,
     ) in
     let at = c .before .before .before .before .before .before .before .before .before .before .before .before .record-at .ensures in
-    stored-one b (a .t .0) bytes (p .0) (p .1) (a .w) (a .register) (a .value) (p .3) (p .4) (p .5) (sized s .0) (sized s .1)
+    stored-one b (a .t .0) bytes (p .0) (p .1) (a .w) (sized s .0) (sized s .1) (p .6) (a .register) (a .value) (p .3) (p .4) (p .5)
     (rw at at (c .before .before .before .before .before .before .before .before .before .before .write-head .ensures))
     (rw at at (c .before .before .before .before .before .before .put32 .ensures)) (rw at at (c .before .before .put16 .ensures))
 

@@ -9,7 +9,7 @@ use Rattle.fields.specs.Put.{put}
 use Rattle.fields.specs.Inside.{put-self}
 use Rattle.encoding.specs.Numbers.{AreBytes}
 use Rattle.threads.specs.Records.{threadPlace}
-use Rattle.thread_records.specs.Stores.{headBytes, stored-one}
+use Rattle.thread_records.specs.Stores.{headBytes, head-there, stored-one}
 use Rattle.thread_records.proofs.write_register.Statement.{statement}
 use Rattle.thread_records.proofs.write_register.Tie as tie
 
@@ -26,8 +26,9 @@ returns c =
     let bytes : AreBytes b = λ i. omega (arith, known i) in
     let at = c .before .before .before .before .before .before .before .before .record-at .ensures in
     let place : ℕ = threadPlace (a .t .0) in
-    let head : b ≡ put b place (headBytes (a .w)) = sym (ap (put b place) (p .3) ∙ put-self b place returnsPlace (omega arith)) in
-    stored-one b (a .t .0) bytes (p .0) (p .1) (a .w) (a .register) (a .value) (p .2) (p .4) (p .5) (sized s .0) (sized s .1) head
+    let there = head-there b (a .t .0) bytes (p .0) (p .1) (a .w) (sized s .0) (sized s .1) (p .3) in
+    let head : b ≡ put b place (headBytes (a .w)) = sym (ap (put b place) there ∙ put-self b place returnsPlace (omega arith)) in
+    stored-one b (a .t .0) bytes (p .0) (p .1) (a .w) (sized s .0) (sized s .1) (p .6) (a .register) (a .value) (p .2) (p .4) (p .5) head
     (rw at at (c .before .before .before .before .before .before .put32 .ensures)) (rw at at (c .before .before .put16 .ensures))
 
 pub write-register-spec : {M : Type 1} → statement M

@@ -41,6 +41,12 @@ return-to-caller-requires c κs =
     let n = c .operand-count .ensures in
     (h .thread, omega arith, newest-small h (omega arith), rw n (h .readable .few), rw n (zeros-stay (read-data .ensures) (if1 .left)))
 
+write-thread-requires : tie.Need-write-thread-requires
+write-thread-requires c κs =
+    let h = c .before .before .before .before .before .before .before .before .before .before .before .before .before .pre .0 in
+    let z = c .return-to-caller .ensures .running .tidy in
+    (h .ready .canonical .long, h .inside, z .returns .within, z .held .within)
+
 returns-3 : tie.Need-returns-3
 returns-3 c =
     let write-thread = c .before .before .write-thread in
@@ -69,6 +75,6 @@ give-back-spec =
     returns-2
     (λ c κs. search needs)
     return-to-caller-requires
-    (λ c κs. search needs)
+    write-thread-requires
     (λ c. search needs)
     returns-3)

@@ -39,6 +39,12 @@ transfer-requires c κs =
     let small-A = small h _ (label-A h Transfer (s .pre .1)) in
     (h .thread, rw (label-a .ensures) small-A, rw n (h .readable .few), rw n (read-data .ensures .rest (if1 .left)))
 
+write-thread-requires : tie.Need-write-thread-requires
+write-thread-requires c κs =
+    let h = c .before .before .before .before .before .before .before .before .before .before .before .before .before .pre .0 in
+    let z = c .transfer .ensures .running .tidy in
+    (h .ready .canonical .long, h .inside, z .returns .within, z .held .within)
+
 returns-2 : tie.Need-returns-2
 returns-2 c =
     let write-thread = c .before .before .write-thread in
@@ -69,6 +75,6 @@ transfer-spec =
     (λ c κs. search needs)
     (λ c κs. search needs)
     transfer-requires
-    (λ c κs. search needs)
+    write-thread-requires
     (λ c. search needs)
     returns-2)

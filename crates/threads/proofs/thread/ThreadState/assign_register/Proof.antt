@@ -2,7 +2,7 @@ use borrow.Author.Needs.{needs}
 use mathlib.Core.Path.{refl, ap}
 use Rattle.rules.specs.Machine.{job}
 use Rattle.threads.specs.Registers.{stored-registers, stored-tidy}
-use Rattle.threads.specs.Threads.{running-thread, returnsOf}
+use Rattle.threads.specs.Threads.{running-thread, returnsOf, keeping}
 use Rattle.threads.proofs.thread.ThreadState.assign_register.Statement.{statement}
 use Rattle.threads.proofs.thread.ThreadState.assign_register.Tie as tie
 
@@ -14,8 +14,8 @@ returns c =
     let w = a .self in
     rw (c .mark .ensures)
     (running-thread _ _ _ (p .0 .label) (p .0 .tidy .returns) (stored-tidy (w .present) (w .registers) (a .register) (a .value) (z .sized)
-    (p .1) z) refl
-    (ap (λ l. job (w .label .0) (returnsOf w) l) (stored-registers (w .present) (w .registers) (a .register) (a .value) (z .sized)
+    (p .1) z) (p .0 .tidy .held) refl
+    (ap (λ l. keeping w (job (w .label .0) (returnsOf w) l)) (stored-registers (w .present) (w .registers) (a .register) (a .value) (z .sized)
     (p .1))))
 
 pub assign-register-spec : {M : Type 1} → statement M

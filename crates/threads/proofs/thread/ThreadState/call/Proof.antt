@@ -5,7 +5,7 @@ use mathlib.Core.List.{[], _∷_, _++_}
 use lib.ListN.{set, take}
 use Rattle.rules.specs.Machine.{fill, job}
 use Rattle.threads.specs.Returns.{pushed, pushed-tidy}
-use Rattle.threads.specs.Threads.{returnsOf, tidy-with, runs-as}
+use Rattle.threads.specs.Threads.{returnsOf, keeping, tidy-with, runs-as}
 use Rattle.threads.proofs.thread.ThreadState.call.Statement.{statement}
 use Rattle.threads.proofs.thread.ThreadState.call.Tie as tie
 
@@ -23,7 +23,7 @@ returns c =
     let w = a .self in
     let e : take (w .depth + 1) (set (w .returns) (w .depth) (c .before .label-number .result)) ≡ returnsOf w ++ (a .back .0 ∷ []) =
     rw (c .before .label-number .ensures) (pushed (w .depth) (w .returns) (s .pre .0 .tidy .returns) (a .back .0) (s .pre .1)) in
-    runs-as (c .enter .ensures) refl (ap (λ l. job (a .label .0) l (fill (take (a .count) (a .values)))) e)
+    runs-as (c .enter .ensures) refl (ap (λ l. keeping w (job (a .label .0) l (fill (take (a .count) (a .values))))) e)
 
 pub call-spec : {M : Type 1} → statement M
 call-spec =

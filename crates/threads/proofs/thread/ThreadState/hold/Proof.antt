@@ -9,7 +9,7 @@ use Rattle.threads.proofs.thread.ThreadState.hold.Tie as tie
 returns : tie.Need-returns
 returns c =
     let p = c .before .before .pre in
-    running-thread _ _ _ (p .0 .label) (p .0 .tidy .returns) (p .0 .tidy .registers)
+    running-thread _ _ _ (p .0 .label) (p .0 .tidy .returns) (p .0 .tidy .registers) (p .0 .tidy .held)
     (rw (c .before .lock-number .ensures, one-mul, mod-eq-of-lt (pow-lt (p .1)))) refl
 
 pub hold-spec : {M : Type 1} → statement M

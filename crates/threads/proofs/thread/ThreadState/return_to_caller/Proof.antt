@@ -3,7 +3,7 @@ use mathlib.Core.Path.{_≡_, refl, ap, _∙_}
 use lib.ListN.{take}
 use Rattle.rules.specs.Machine.{fill, job}
 use Rattle.threads.specs.Returns.{newestOf, popped, popped-label, popped-tidy}
-use Rattle.threads.specs.Threads.{returnsOf, tidy-with, runs-as}
+use Rattle.threads.specs.Threads.{returnsOf, keeping, tidy-with, runs-as}
 use Rattle.threads.proofs.thread.ThreadState.return_to_caller.Statement.{statement}
 use Rattle.threads.proofs.thread.ThreadState.return_to_caller.Tie as tie
 
@@ -24,7 +24,8 @@ returns c =
     let z = s .pre .0 .tidy .returns in
     let l : c .before .label-of .result .0 ≡ newestOf (returnsOf w) = ap (λ l. l .0) (c .before .label-of .ensures)
     ∙ popped-label (w .depth) (w .returns) z (s .pre .1) in
-    runs-as (c .enter .ensures) refl (λ i. job (l i) (popped (w .depth) (w .returns) z (s .pre .1) i) (fill (take (a .count) (a .values))))
+    runs-as (c .enter .ensures) refl (λ i. keeping w
+    (job (l i) (popped (w .depth) (w .returns) z (s .pre .1) i) (fill (take (a .count) (a .values)))))
 
 pub return-to-caller-spec : {M : Type 1} → statement M
 return-to-caller-spec =

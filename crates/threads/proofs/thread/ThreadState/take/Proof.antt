@@ -1,7 +1,7 @@
-use mathlib.Core.Path.{ap}
 use lib.ListN.{take}
 use borrow.Author.Needs.{needs}
-use Rattle.rules.specs.Machine.{fill, job}
+use Rattle.rules.specs.Machine.{fill, job, withHeld}
+use Rattle.threads.specs.Held.{no-signals}
 use Rattle.threads.specs.Threads.{idle-fields, runs-as}
 use Rattle.threads.proofs.thread.ThreadState.take.Statement.{statement}
 use Rattle.threads.proofs.thread.ThreadState.take.Tie as tie
@@ -10,8 +10,8 @@ returns : tie.Need-returns
 returns c =
     let a = c .before .args in
     let z = idle-fields (a .self) (c .before .pre .0) in
-    runs-as (c .enter .ensures) (z .0) (ap (λ k. job (a .label .0) (take k (a .self .returns)) (fill (take (a .count) (a .values))))
-    (z .1))
+    runs-as (c .enter .ensures) (z .0) (λ i. withHeld (no-signals (a .self .signals) (z .3) i)
+    (job (a .label .0) (take (z .1 i) (a .self .returns)) (fill (take (a .count) (a .values)))))
 
 pub take-spec : {M : Type 1} → statement M
 take-spec = tie.close (tie.spec (λ c κs. search needs) returns)
