@@ -35,7 +35,8 @@ module _ {image table b : List ℕ} {t : ℕ} {w : ThreadState} {r returns vs : 
     (e : Enters image table b t w r returns vs p) where
   passes-as : (q : Passage) → p ≡ q
       → Passes image table (machineFrom b) t (w .locks) (keeping w (job (labelA r) returns (fill (take (operands r) vs)))) q
-  passes-as q f = subst (Passes image table (machineFrom b) t (w .locks) (keeping w (job (labelA r) returns (fill (take (operands r) vs))))) f
+  passes-as q f = subst (Passes image table (machineFrom b) t (w .locks) (keeping w (job (labelA r) returns (fill (take
+      (operands r) vs))))) f
       (e .passes)
 
   pub trap-stepped : (x : ℕ) {b′ : List ℕ} {a : Answer} → p ≡ Trap x → a ≡ Trapped x → Ended image table b t b′

@@ -38,7 +38,8 @@ fn sent(w: ThreadState, r: &[u8], values: [u16; Thread::REGISTERS]) -> ThreadSta
 fn called(w: ThreadState, r: &[u8], values: [u16; Thread::REGISTERS]) -> ThreadState
     requires { ⌜ CanEnter w (now r) values × (w .depth < returnCount) ⌝ }
     ensures { λ x. ⌜ Runs x (w .locks)
-        (keeping w (job (labelA (now (r .entry))) (returnsOf w ++ (labelB (now (r .entry)) ∷ [])) (fill (take (operands (now (r .entry))) values)))) ⌝ }
+        (keeping w (job (labelA (now (r .entry))) (returnsOf w ++ (labelB (now (r .entry)) ∷ [])) (fill (take (operands (now
+        (r .entry))) values)))) ⌝ }
 {
     let to = label_a(r);
     let back = label_b(r);

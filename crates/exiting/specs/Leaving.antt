@@ -59,13 +59,15 @@ module _ {image table b : List ℕ} {t : ℕ} {w : ThreadState} {r : List ℕ} (
 
   -- and then it is cleared
   pub left : {b₁ b₂ : List ℕ} → Encodes b₁ (admitted (rulesBy image table) gs (settled image table t m))
-      → Encodes b₂ (withThread (machineFrom b₁) t idle) → Encodes b₂ (admitted (rulesBy image table) gs (finished (rulesBy image table) t m))
+      → Encodes b₂ (withThread (machineFrom b₁) t idle) → Encodes b₂ (admitted (rulesBy image table) gs (finished
+      (rulesBy image table) t m))
   left {b₁} {b₂} k₁ k₂ =
       subst (Encodes b₂)
       (ap (λ (x : Machine). withThread x t idle) (encoded-machine b₁ _ k₁)
       ∙ sym (admitted-thread (rulesBy image table) t idle gs (settled image table t m))) k₂
 
-  pub lost-there : lost (rulesBy image table) gs (settled image table t m) ≡ lost (rulesBy image table) gs (finished (rulesBy image table) t m)
+  pub lost-there : lost (rulesBy image table) gs (settled image table t m) ≡ lost (rulesBy image table) gs (finished
+      (rulesBy image table) t m)
   lost-there = sym (lost-thread (rulesBy image table) t idle gs (settled image table t m))
 
   module _ (e : statementOf r ≡ Exit) where
@@ -81,5 +83,6 @@ module _ {image table b : List ℕ} {t : ℕ} {w : ThreadState} {r : List ℕ} (
     unfolding admitted lost
     bare-stepped {b′} z k =
         let none : gs ≡ [] = no-signals (w .signals) z in
-        left-stepped (rw none refl) (subst (λ (q : List Signal). Encodes b′ (admitted (rulesBy image table) q (finished (rulesBy image table) t m)))
+        left-stepped (rw none refl) (subst (λ (q : List Signal). Encodes b′ (admitted (rulesBy image table) q (finished
+        (rulesBy image table) t m)))
         (sym none) k)

@@ -185,6 +185,7 @@ module _ {image table b : List ℕ} {t : ℕ} {w : ThreadState} {r : List ℕ} (
         go : (q : List ℕ) → q ≡ recordAt image (w .label .0)
             → Reads (readAll (cellsOf b w q) (dataOf q)) x (operands q) (replicate operandCount 0) vs → statementOf q ≡ Call
             → rowAt table (blockAt image (labelA q)) .lock < lockCount
-            → Passes image table (machineFrom b) t (w .locks) (keeping w (job (labelA q) (returnsOf w ++ labelB q ∷ []) (fill (take (operands q) vs))))
+            → Passes image table (machineFrom b) t (w .locks) (keeping w (job (labelA q) (returnsOf w ++ labelB q ∷ []) (fill (take
+            (operands q) vs))))
             (passageTo (machineFrom b) (rowAt table (blockAt image (labelA q))) t (callTrap x (w .depth)))
         go q i = rw i (λ g e l. call-by image table b t w (tree h .0) (h .runs) (tree h .1) eight g l (depth-is h) e)

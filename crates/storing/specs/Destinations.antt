@@ -128,7 +128,8 @@ module _ (s : Machine) (t : ℕ) (inside : t < length (s .threads)) (block locks
       ap (λ (z : List ThreadState). record { words = words; threads = z; trees = s .trees })
       (set-set (s .threads) t (running locks j) (running locks k))
 
-  threads-stay : (d : Operand) (u : ℕ) (j : Job) → withWordAt (withJob s t locks j) block d u .threads ≡ set (s .threads) t (running locks j)
+  threads-stay : (d : Operand) (u : ℕ) (j : Job) → withWordAt (withJob s t locks j) block d u .threads ≡ set (s .threads) t
+      (running locks j)
   threads-stay (Number n) u j = refl
   threads-stay (Register k) u j = refl
   threads-stay (Word k) u j = refl
@@ -163,7 +164,8 @@ module _ (s : Machine) (t : ℕ) (inside : t < length (s .threads)) (w : code.Th
   second-last : (x : code.ThreadState) (d e : Operand)
       → withSecond (withWordAt (withJob s t (x .locks) (jobOf x)) block d u) t block x e v
       ≡ withWordAt
-      (withWordAt (withJob s t (x .locks) (keeping x (job (x .label .0) (returnsOf x) (registersAfter e v (registersOf x))))) block d u) block e v
+      (withWordAt (withJob s t (x .locks) (keeping x (job (x .label .0) (returnsOf x) (registersAfter e v
+      (registersOf x))))) block d u) block e v
   second-last x d (Number n) = refl
   second-last x d (Register k) = register-last s t inside block (x .locks) d u (jobOf x) (keeping x (job _ _ _))
   second-last x d (Word k) = refl

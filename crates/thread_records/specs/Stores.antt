@@ -41,7 +41,11 @@ module _ (s : List ℕ) (at : ℕ) (a : List ℕ) (j : ℕ) {s′ : List ℕ} (e
   inside-stored k i c h l f =
       f
       ∙ ap (λ q. put q (at + j + i) c) (stays k h)
-      ∙ put-in s′ (at + j) (part s (at + j) k) i c (omega (arith, length-part s (at + j) k h, long)) (omega (arith, length-part s (at + j) k h))
+      ∙ put-in s′ (at + j) (part s (at + j) k) i c (omega (arith, length-part s (at + j) k h, long)) (omega (
+        arith,
+        length-part s
+            (at + j) k h,
+      ))
 
   -- they are k numbers, of which all stay, or one is stored to
   module _ (bytes : AreBytes s) (k : ℕ) (h : at + j + 2 * k ≤ length s) where
@@ -57,7 +61,8 @@ module _ (s : List ℕ) (at : ℕ) (a : List ℕ) (j : ℕ) {s′ : List ℕ} (e
     counted : length there ≡ k
     counted = length-chunks num16 2 k (drop j (drop at s))
 
-    one-stored : (i v : ℕ) {s″ : List ℕ} → i < k → s″ ≡ put s′ (at + j + 2 * i) (le16 v) → s″ ≡ put s′ (at + j) (blocks le16 (set there i v))
+    one-stored : (i v : ℕ) {s″ : List ℕ} → i < k → s″ ≡ put s′ (at + j + 2 * i) (le16 v)
+        → s″ ≡ put s′ (at + j) (blocks le16 (set there i v))
     one-stored i v l f =
         inside-stored (2 * k) (2 * i) (le16 v) h (omega arith) f
         ∙ ap (λ q. put s′ (at + j) (put q (2 * i) (le16 v))) (sym numbers)
@@ -202,7 +207,8 @@ module _ (s : List ℕ) (t : ℕ) (bytes : AreBytes s) (long′ : length s ≡ s
         let labels : s₁ ≡ put s at (labelBytes w) = put-then s at (headBytes w) _ _ e₁ f refl in
         let same : s₁ ≡ put s₁ (at + presencePlace) (registerBytes w) = rw registers-there
         (stays s at (labelBytes w) presencePlace labels (length-labels w n m s at) (heldCountPlace - presencePlace) (omega arith)) in
-        let up : s₂ ≡ put s at ((labelBytes w ++ registerBytes w) ++ w .held ∷ []) = put-then s at _ _ _ (front-stored w n m s at labels same)
+        let up : s₂ ≡ put s at ((labelBytes w ++ registerBytes w) ++ w .held ∷ []) = put-then s at _ _ _
+        (front-stored w n m s at labels same)
         e₂ (ap (at +_) (sym (length-front w n m s at))) in
         let last : s₃ ≡ put s₂ (at + heldPlace) (w .signals) =
         inside-stored s at ((labelBytes w ++ registerBytes w) ++ w .held ∷ []) heldPlace up

@@ -150,7 +150,8 @@ pub fn write_thread(state: &mut [u8], t: Thread, w: ThreadState)
     write_held(state, at, w);
 }
 
-// The same where the head, the return labels, the signals held, and all registers but one, are as the record has them: they are not written.
+// The same where the head, the return labels, the signals held, and all registers but one, are as the record has them: they are not
+// written.
 pub fn write_register(state: &mut [u8], t: Thread, w: ThreadState, register: u16, value: u16)
     requires { ⌜ (length (now state) ≡ stateSize) × (t .0 < threadCount) × (register < registerCount)
         × HeadThere (now state) (t .0) w

@@ -154,7 +154,14 @@ runs-fields {w} {locks} {j} h =
 
 -- a thread that says what another runs, runs it too
 pub says-runs : {w x : ThreadState} {locks : ℕ} {j : Job} → Runs w locks j → Says x (running locks j) → Runs x locks j
-says-runs {w} {x} {locks} {j} r s = record { state = s .state; running = record { label = go (eqb (x .label .0) idleLabel) refl; tidy = s .tidy } }
+says-runs {w} {x} {locks} {j} r s = record {
+  state = s .state;
+  running = record {
+    label = go (eqb
+        (x .label .0) idleLabel) refl;
+    tidy = s .tidy;
+  };
+}
   where
     go : (z : Bool) → eqb (x .label .0) idleLabel ≡ z → x .label .0 < idleLabel
     go true q = absurd (let f = sym (idle-says x q) ∙ s .state in let z : _≡_ {A = ℕ} 0 1 = cc in omega arith)

@@ -16,8 +16,13 @@ few x e = rw e (omega arith, omega arith)
 write-without-held-requires : tie.Need-write-without-held-requires
 write-without-held-requires c κs =
     let s = c .before .before .before .before .before in
-    let e = c .end .ensures in
-    (s .pre .0 .long, s .pre .1, few _ e .0, none-there (s .args .t .0) (s .pre .2) (s .pre .3) (omega (arith, c .before .before .if1 .taken)) e)
+    let e = c .end .ensures in (
+      s .pre .0 .long,
+      s .pre .1,
+      few _ e .0,
+      none-there (s .args .t .0) (s .pre .2) (s .pre .3) (omega
+          (arith, c .before .before .if1 .taken)) e,
+    )
 
 write-thread-requires : tie.Need-write-thread-requires
 write-thread-requires c κs =
@@ -28,7 +33,8 @@ write-thread-requires c κs =
 returns : tie.Need-returns
 returns c =
     let s = c .before .before .before .before .before .before .before .before in
-    cleared (s .args .t .0) (s .pre .0) (s .pre .1) (c .before .before .before .end .ensures) (c .before .before .write-without-held .ensures)
+    cleared (s .args .t .0) (s .pre .0) (s .pre .1) (c .before .before .before .end .ensures)
+    (c .before .before .write-without-held .ensures)
 
 returns-2 : tie.Need-returns-2
 returns-2 c =

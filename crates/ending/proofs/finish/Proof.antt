@@ -21,7 +21,9 @@ clear-thread-requires c κs =
 
 returns : tie.Need-returns
 returns c =
-    subst (λ (q : Machine). Encodes (c .before .before .clear-thread .last .0) (withThread q (c .before .before .before .before .before .before .before .before .before .before .before .args .t .0) idle)) (encoded-machine _ _ (c .before .before .before .before .before .before .settle .ensures))
+    subst (λ (q : Machine). Encodes (c .before .before .clear-thread .last .0) (withThread q
+    (c .before .before .before .before .before .before .before .before .before .before .before .args .t .0) idle)) (encoded-machine _ _
+    (c .before .before .before .before .before .before .settle .ensures))
     (c .before .before .clear-thread .ensures)
 
 pub finish-spec : {M : Type 1} → statement M

@@ -15,7 +15,8 @@ use Rattle.exiting.proofs.end_holding.Statement.{statement}
 use Rattle.exiting.proofs.end_holding.Tie as tie
 
 settle-requires : tie.Need-settle-requires
-settle-requires c κs = let h = c .before .before .before .before .before .before .before .before .before .pre in (h .ready, h .inside, at-busy h)
+settle-requires c κs = let h = c .before .before .before .before .before .before .before .before .before .pre in
+    (h .ready, h .inside, at-busy h)
 
 found-next-requires : tie.Need-found-next-requires
 found-next-requires c κs =
@@ -26,23 +27,28 @@ found-next-requires c κs =
 
 found-next-requires-2 : tie.Need-found-next-requires-2
 found-next-requires-2 c κs =
-    let h = c .before .before .before .before .before .before .before .before .before .before .before .before .before .before .before .before .before .pre in
+    let h = c .before .before .before .before .before .before .before .before .before .before .before .before .before .before .before
+    .before .before .pre in
     let k = encoded-canonical _ _ (c .before .before .before .found-next .ensures .1) in
     let g = c .before .before .before .before .before .before .before .before .before .before .before .held-signal2 .ensures in
     (k, λ l. record { checked = h .ready .checked; canonical = k; entry = held-in h 1 (g .0) l; tidy = g .1 })
 
 found-next-requires-3 : tie.Need-found-next-requires-3
 found-next-requires-3 c κs =
-    let h = c .before .before .before .before .before .before .before .before .before .before .before .before .before .before .before .before .before .before .before .before .before .pre in
+    let h = c .before .before .before .before .before .before .before .before .before .before .before .before .before .before .before
+    .before .before .before .before .before .before .pre in
     let k = encoded-canonical _ _ (c .before .before .before .found-next2 .ensures .1) in
-    let g = c .before .before .before .before .before .before .before .before .before .before .before .before .before .before .held-signal3 .ensures in
+    let g = c .before .before .before .before .before .before .before .before .before .before .before .before .before .before
+    .held-signal3 .ensures in
     (k, λ l. record { checked = h .ready .checked; canonical = k; entry = held-in h 2 (g .0) l; tidy = g .1 })
 
 found-next-requires-4 : tie.Need-found-next-requires-4
 found-next-requires-4 c κs =
-    let h = c .before .before .before .before .before .before .before .before .before .before .before .before .before .before .before .before .before .before .before .before .before .before .before .before .before .pre in
+    let h = c .before .before .before .before .before .before .before .before .before .before .before .before .before .before .before
+    .before .before .before .before .before .before .before .before .before .before .pre in
     let k = encoded-canonical _ _ (c .before .before .before .found-next3 .ensures .1) in
-    let g = c .before .before .before .before .before .before .before .before .before .before .before .before .before .before .before .before .before .held-signal4 .ensures in
+    let g = c .before .before .before .before .before .before .before .before .before .before .before .before .before .before .before
+    .before .before .held-signal4 .ensures in
     (k, λ l. record { checked = h .ready .checked; canonical = k; entry = held-in h 3 (g .0) l; tidy = g .1 })
 
 abbrev start : tie.After-found-next4 → tie.Start
@@ -67,7 +73,8 @@ through c =
     let f₄ = c .found-next4 .ensures in
     let settle = c .before .before .before .before .before .before .before .before .before .before .before .before .before .before .before
     .before .settle .ensures in
-    let g₄ = c .before .before .before .before .before .before .before .before .before .before .before .before .before .before .before .before
+    let g₄ = c .before .before .before .before .before .before .before .before .before .before .before .before .before .before .before
+    .before
     .before .before in
     let x₁ = through-more R _ (through-none R settle) (f₁ .0 .0) (f₁ .1) in
     let x₂ = through-more R _ x₁ (f₂ .0 .0) (f₂ .1) in
@@ -77,23 +84,49 @@ through c =
 
 clear-thread-requires : tie.Need-clear-thread-requires
 clear-thread-requires c κs =
-    let h = c .before .before .before .before .before .before .before .before .before .before .before .before .before .before .before .before .before .before .before .before .before .before .before .before .before .before .before .before .before .pre in
+    let h = c .before .before .before .before .before .before .before .before .before .before .before .before .before .before .before
+    .before .before .before .before .before .before .before .before .before .before .before .before .before .before .pre in
     let k = through (c .before .before .before) .bytes in
     (encoded-canonical _ _ k, h .inside, still-runs h k, h .thread)
 
 add-result : tie.Need-add-result
-add-result c = omega (arith, c .before .before .before .before .before .before .before .before .before .before .before .before .before .before .before .before .before .before .found-next .ensures .0 .1, c .before .before .before .before .before .before .before .before .before .before .before .before .before .before .found-next2 .ensures .0 .1)
+add-result c = omega (
+  arith,
+  c .before .before .before .before .before .before .before .before .before .before .before .before .before
+      .before .before .before .before .before .found-next .ensures .0 .1,
+  c .before .before .before .before .before .before .before .before
+      .before .before .before .before .before .before .found-next2 .ensures .0 .1,
+)
 
 add-result-2 : tie.Need-add-result-2
-add-result-2 c = omega (arith, c .before .before .before .before .before .before .before .before .before .before .before .before .before .before .before .before .before .before .found-next .ensures .0 .1, c .before .before .before .before .before .before .before .before .before .before .before .before .before .before .found-next2 .ensures .0 .1, c .before .before .before .before .before .before .before .before .before .before .found-next3 .ensures .0 .1)
+add-result-2 c = omega (
+  arith,
+  c .before .before .before .before .before .before .before .before .before .before .before .before .before
+      .before .before .before .before .before .found-next .ensures .0 .1,
+  c .before .before .before .before .before .before .before .before
+      .before .before .before .before .before .before .found-next2 .ensures .0 .1,
+  c .before .before .before .before .before .before
+      .before .before .before .before .found-next3 .ensures .0 .1,
+)
 
 add-result-3 : tie.Need-add-result-3
 add-result-3 c =
-    omega (arith, c .before .before .before .before .before .before .before .before .before .before .before .before .before .before .before .before .before .before .found-next .ensures .0 .1, c .before .before .before .before .before .before .before .before .before .before .before .before .before .before .found-next2 .ensures .0 .1, c .before .before .before .before .before .before .before .before .before .before .found-next3 .ensures .0 .1, c .before .before .before .before .before .before .found-next4 .ensures .0 .1)
+    omega (
+      arith,
+      c .before .before .before .before .before .before .before .before .before .before .before .before .before .before
+          .before .before .before .before .found-next .ensures .0 .1,
+      c .before .before .before .before .before .before .before .before .before
+          .before .before .before .before .before .found-next2 .ensures .0 .1,
+      c .before .before .before .before .before .before .before
+          .before .before .before .found-next3 .ensures .0 .1,
+      c .before .before .before .before .before .before .found-next4 .ensures .0 .1,
+    )
 
 returns : tie.Need-returns
 returns c =
-    let h = c .before .before .before .before .before .before .before .before .before .before .before .before .before .before .before .before .before .before .before .before .before .before .before .before .before .before .before .before .before .before .before .before .pre in
+    let h = c .before .before .before .before .before .before .before .before .before .before .before .before .before .before .before
+    .before .before .before .before .before .before .before .before .before .before .before .before .before .before .before .before
+    .before .pre in
     let q = through (c .before .before .before .before .before .before) in
     (omega (arith, q .count, ap length (lost-there h)), left h (q .bytes) (c .before .before .clear-thread .ensures))
 

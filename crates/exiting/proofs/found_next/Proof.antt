@@ -16,7 +16,8 @@ returns : tie.Need-returns
 returns c =
     let s = c .before .before .before .before .before .before .before .before in
     let e = c .before .before .found-tree .ensures in
-    let few = few-lost (rulesBy (s .args .image .now) (s .args .table .now)) true (signalOf (s .args .g)) (machineFrom (s .args .state .now)) in
+    let few = few-lost (rulesBy (s .args .image .now) (s .args .table .now)) true (signalOf (s .args .g)) (machineFrom
+    (s .args .state .now)) in
     rw (c .before .before .before .before .if1 .taken) ((e .0, omega (arith, few, e .0)), e .1)
 
 returns-2 : tie.Need-returns-2

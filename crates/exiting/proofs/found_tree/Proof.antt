@@ -12,12 +12,17 @@ block-at-requires : tie.Need-block-at-requires
 block-at-requires c κs = held-below (c .before .before .before .pre)
 
 thread-at-requires : tie.Need-thread-at-requires
-thread-at-requires c κs = (rw (c .block-at .ensures) (held-block (c .before .before .before .before .pre)), table-long (c .before .before .before .before .pre))
+thread-at-requires c κs = (
+  rw (c .block-at .ensures) (held-block (c .before .before .before .before .pre)),
+  table-long
+      (c .before .before .before .before .pre),
+)
 
 append-tree-requires : tie.Need-append-tree-requires
 append-tree-requires c κs =
     let s = c .before .before .before .before .before .before .before .before .before in
-    let free = room-below (machineFrom (s .args .state .now)) (c .before .before .before .before .thread-at .result .0) (sym (c .before .before .room .ensures) ∙ c .before .if1 .taken) in
+    let free = room-below (machineFrom (s .args .state .now)) (c .before .before .before .before .thread-at .result .0) (sym
+    (c .before .before .room .ensures) ∙ c .before .if1 .taken) in
     (s .pre .canonical, free, s .pre .tidy)
 
 returns : tie.Need-returns
@@ -25,8 +30,14 @@ returns c =
     let s = c .before .before .before .before .before .before .before .before .before .before .before .before in
     let u = c .before .before .before .before .before .before .before .thread-at .result .0 in
     let to : u ≡ rowAt (s .args .table .now) (blockAt (s .args .image .now) (s .args .g .label .0)) .thread =
-    rw (c .before .before .before .before .before .before .before .thread-at .ensures, c .before .before .before .before .before .before .before .before .block-at .ensures) in
-    tree-founded (s .pre) u to (sym (c .before .before .before .before .before .room .ensures) ∙ c .before .before .before .before .if1 .taken) (c .before .before .append-tree .ensures .0) (c .before .before .append-tree .ensures .1)
+    rw (
+      c .before .before .before .before .before .before .before .thread-at .ensures,
+      c .before .before .before .before .before .before
+          .before .before .block-at .ensures,
+    ) in
+    tree-founded (s .pre) u to (sym (c .before .before .before .before .before .room .ensures)
+    ∙ c .before .before .before .before .if1 .taken) (c .before .before .append-tree .ensures .0)
+    (c .before .before .append-tree .ensures .1)
 
 returns-2 : tie.Need-returns-2
 returns-2 c =

@@ -15,10 +15,12 @@ finish-requires c κs =
 returns : tie.Need-returns
 returns c =
     let s = c .before .before .before .before .before .before .before .before .before .before .before .before .before in
-    bare-stepped (s .pre .0) (s .pre .1) (sym (c .before .before .before .before .before .before .before .read-held .ensures) ∙ c .before .before .before .before .before .before .if1 .taken) (c .before .before .finish .ensures)
+    bare-stepped (s .pre .0) (s .pre .1) (sym (c .before .before .before .before .before .before .before .read-held .ensures)
+    ∙ c .before .before .before .before .before .before .if1 .taken) (c .before .before .finish .ensures)
 
 end-holding-requires : tie.Need-end-holding-requires
-end-holding-requires c κs = rw (c .read-thread2 .ensures) (c .before .before .before .before .before .before .before .before .before .before .pre .0)
+end-holding-requires c κs = rw (c .read-thread2 .ensures) (c .before .before .before .before .before .before .before .before .before
+    .before .pre .0)
 
 returns-2 : tie.Need-returns-2
 returns-2 c =

@@ -38,8 +38,11 @@ hold-signal-requires c κs =
 move-on-requires : tie.Need-move-on-requires
 move-on-requires c κs =
     let s = c .before .before .before .before .before .before .before .before .before in
-    let h = s .pre .0 in
-    (c .before .hold-signal .ensures .running, rw (c .before .before .before .label-b .ensures) (small h _ (label-B h SendTree (s .pre .1))))
+    let h = s .pre .0 in (
+      c .before .hold-signal .ensures .running,
+      rw (c .before .before .before .label-b .ensures) (small h _ (label-B h SendTree
+          (s .pre .1))),
+    )
 
 -- the thread that is written holds the signal, and goes on
 runs : (c : tie.After-move-on)
@@ -48,7 +51,8 @@ runs : (c : tie.After-move-on)
     (withHeld (signalsOf w ++ signalOf (signal (c .before .before .before)) ∷ [])
     (job (c .before .before .before .before .label-b .result .0) (returnsOf w) (registersOf w)))
 runs c =
-    runs-then (λ l. l) (λ (j : Job). withHeld (j .held) (job (c .before .before .before .before .label-b .result .0) (j .returns) (j .registers)))
+    runs-then (λ l. l) (λ (j : Job). withHeld (j .held) (job (c .before .before .before .before .label-b .result .0) (j .returns)
+    (j .registers)))
     (c .before .before .hold-signal .ensures) (c .move-on .ensures)
 
 write-held-signal-requires : tie.Need-write-held-signal-requires

@@ -16,14 +16,17 @@ read-data-requires c κs =
 returns : tie.Need-returns
 returns c =
     let s = c .before .before .before .before .before .before .before .before .before .before .before .before in
-    unread-stepped (s .pre .0) SendTree (s .pre .1) (c .before .before .before .before .before .read-data .ensures .trapped (c .before .before .before .before .if1 .taken))
+    unread-stepped (s .pre .0) SendTree (s .pre .1) (c .before .before .before .before .before .read-data .ensures .trapped
+    (c .before .before .before .before .if1 .taken))
     (c .before .before .trapped .ensures .0) (c .before .before .trapped .ensures .1)
 
 returns-2 : tie.Need-returns-2
 returns-2 c =
     let s = c .before .before .before .before .before .before .before .before .before .before .before .before .before .before in
-    let free : c .before .before .before .before .before .before .before .read-data .result ≡ 0 = c .before .before .before .before .before .before .if1 .left in
-    full-stepped (s .pre .0) (s .pre .1) (c .before .before .before .before .before .before .before .read-data .last .1 .1 .1 .1 .0) (rw free at (c .before .before .before .before .before .before .before .read-data .ensures))
+    let free : c .before .before .before .before .before .before .before .read-data .result ≡ 0 = c .before .before .before .before
+    .before .before .if1 .left in
+    full-stepped (s .pre .0) (s .pre .1) (c .before .before .before .before .before .before .before .read-data .last .1 .1 .1 .1 .0)
+    (rw free at (c .before .before .before .before .before .before .before .read-data .ensures))
     (c .before .before .before .before .if2 .taken) (c .before .before .trapped2 .ensures .0) (c .before .before .trapped2 .ensures .1)
 
 hold-for-tree-requires : tie.Need-hold-for-tree-requires

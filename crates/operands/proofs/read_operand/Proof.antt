@@ -49,7 +49,11 @@ returns-3 c =
     let a = s .args in
     let r = c .before .before .p2 .given in
     let h : r .0 .0 < registerCount = rw (r .1) at (s .pre .2) in
-    rw (r .1, register-absent (a .state .now) (a .block .0) (a .present) (registersIn (a .state .now) (a .t .0)) (r .0 .0) h (ne-eqb _ _ (c .if1 .left)))
+    rw (
+      r .1,
+      register-absent (a .state .now) (a .block .0) (a .present) (registersIn (a .state .now) (a .t .0)) (r .0 .0) h (ne-eqb _ _
+          (c .if1 .left)),
+    )
 
 returns-4 : tie.Need-returns-4
 returns-4 c =

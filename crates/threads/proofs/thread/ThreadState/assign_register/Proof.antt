@@ -15,7 +15,8 @@ returns c =
     rw (c .mark .ensures)
     (running-thread _ _ _ (p .0 .label) (p .0 .tidy .returns) (stored-tidy (w .present) (w .registers) (a .register) (a .value) (z .sized)
     (p .1) z) (p .0 .tidy .held) refl
-    (ap (λ l. keeping w (job (w .label .0) (returnsOf w) l)) (stored-registers (w .present) (w .registers) (a .register) (a .value) (z .sized)
+    (ap (λ l. keeping w (job (w .label .0) (returnsOf w) l)) (stored-registers (w .present) (w .registers) (a .register) (a .value)
+    (z .sized)
     (p .1))))
 
 pub assign-register-spec : {M : Type 1} → statement M

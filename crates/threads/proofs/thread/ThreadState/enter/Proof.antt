@@ -16,7 +16,8 @@ few : (c : tie.Start) → length (take (c .args .count) (c .args .values)) ≤ r
 few c = omega (arith, length-take-le (c .args .count) (c .args .values) (omega (arith, sized c)))
 
 returns : tie.Need-returns
-returns c = rw (c .fill .ensures) (filled-runs _ _ (c .before .pre .1) (c .before .pre .0 .returns) (c .before .pre .0 .held) (few (c .before)))
+returns c = rw (c .fill .ensures) (filled-runs _ _ (c .before .pre .1) (c .before .pre .0 .returns) (c .before .pre .0 .held) (few
+    (c .before)))
 
 pub enter-spec : {M : Type 1} → statement M
 enter-spec = tie.close (tie.spec (λ c κs. search needs) returns)

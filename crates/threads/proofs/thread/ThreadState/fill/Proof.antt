@@ -65,7 +65,17 @@ returns c =
     rw (c .low2 .ensures) (and-mask (l .present) registerCount ∙ turned-present turned ∙ mod-eq-of-lt small) in
     let r : l .registers ≡ f .registers = turned-values turned (rw (l .inv .2) (length-after _ _ _ ∙ came-sized s))
     (rw (final-values s) (sized s)) in
-    λ i. record { present = p i; label = w .label; locks = w .locks; depth = w .depth; returns = w .returns; registers = r i; held = w .held; signals = w .signals }
+    λ i. record {
+      present = p i;
+      label = w .label;
+      locks = w .locks;
+      depth = w .depth;
+      returns = w .returns;
+      registers = r i;
+      held = w
+          .held;
+      signals = w .signals;
+    }
 
 pub fill-spec : {M : Type 1} → statement M
 fill-spec =
