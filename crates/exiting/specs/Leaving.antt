@@ -1,18 +1,17 @@
 -- What EXIT leaves: the own tree settled, the held signals admitted, the thread cleared.
 use mathlib.Core.Path.{_≡_, refl, sym, ap, _∙_, subst}
-use mathlib.Core.Bool.{Bool, true, false}
+use mathlib.Core.Bool.{true}
 use mathlib.Core.List.{List, []}
-use Prim.Native.Nat.{ℕ, _<_}
+use Prim.Native.Nat.{ℕ}
 use native.Mathlib.Omega.{arith}
 use lib.Dec.{ltb}
 use lib.ListN.{length, getD}
 use borrow.Author.Tests.{ltb-true}
 use Rattle.rules.specs.Machine as law
-use Rattle.rules.specs.Machine.{Signal, Machine, idle, running, threadAt, withThread}
+use Rattle.rules.specs.Machine.{Signal, Machine, idle, withThread}
 use Rattle.rules.specs.Encoding.{noSignal, machineFrom}
 use Rattle.rules.specs.Steps.{rulesBy, finished, admitted, lost}
 use Rattle.rules.specs.Statements.{statementOf}
-use Rattle.rules.specs.declared.answer.Answer.{Answer}
 use Rattle.rules.specs.declared.answer.Answer.the-variants.{Exited}
 use Rattle.rules.specs.declared.statement.Statement.the-variants.{Exit}
 use Rattle.fields.specs.Each.{Each, each-at}

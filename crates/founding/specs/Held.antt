@@ -7,7 +7,7 @@ use lib.ListN.{length, getD, drop, take}
 use borrow.Author.Tests.{le-leb, lt-leb}
 use Rattle.rules.specs.Sizes.{heldCount, signalSize}
 use Rattle.rules.specs.Codes.{heldFullCode}
-use Rattle.rules.specs.Image.{recordAt, operands, labelA, labelB}
+use Rattle.rules.specs.Image.{operands, labelA, labelB}
 use Rattle.rules.specs.Statements.{statementOf}
 use Rattle.rules.specs.Machine.{Signal, Job, Machine, job, withHeld}
 use Rattle.rules.specs.Encoding.{signalBytes, machineFrom}

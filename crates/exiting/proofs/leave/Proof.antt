@@ -1,7 +1,5 @@
 use borrow.Author.Needs.{needs}
-use mathlib.Core.Path.{sym, _∙_, subst}
-use Rattle.threads.specs.declared.thread.ThreadState.{ThreadState}
-use Rattle.step_ready.specs.At.{At}
+use mathlib.Core.Path.{sym, _∙_}
 use Rattle.exiting.specs.Leaving.{bare-stepped, left-stepped}
 use Rattle.exiting.proofs.leave.Statement.{statement}
 use Rattle.exiting.proofs.leave.Tie as tie
