@@ -53,11 +53,12 @@ static double time_calls(uint32_t (*call)(void), size_t calls, uint32_t expected
     return taken / (double)calls;
 }
 
-/* So many plain calls as fill a round. */
+/* So many plain calls as fill a round; of images in turn, each the same number of times. */
 static size_t calls_a_round(const struct bench_row *row, uint32_t expected)
 {
-    double ns = time_calls(row->plain_call, 20, expected);
-    return 1 + (size_t)(ROUND_NS / ns);
+    size_t turn = work.images_count == 0 ? 1 : work.images_count;
+    double ns = time_calls(row->plain_call, 20 * turn, expected);
+    return turn * (1 + (size_t)(ROUND_NS / ns / (double)turn));
 }
 
 /* What both engines return; they must leave the same bytes too, and no job may end short of its work. */
@@ -65,8 +66,8 @@ static uint32_t expected_return(const struct bench_row *row)
 {
     row->prepare(row);
     uint32_t expected = row->plain_call();
-    if (expected >= 65536 || row->plex_call() != expected || !bench_same_bytes() || bench_any_trap()) {
-        fprintf(stderr, "bench: %s: the engines differ, or refuse, or a job traps\n", row->name);
+    if (expected >= 65536 || row->plex_call() != expected || !bench_same_bytes() || !bench_expected_traps()) {
+        fprintf(stderr, "bench: %s: the engines differ, or refuse, or a job traps that should not\n", row->name);
         exit(1);
     }
     return expected;

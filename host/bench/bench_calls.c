@@ -3,8 +3,10 @@
 
 #include <string.h>
 
-struct lent work;
-struct altered by_plex, by_plain;
+enum { PAGE = 4096 };
+_Alignas(PAGE) struct lent work;
+_Alignas(PAGE) struct altered by_plex;
+_Alignas(PAGE) struct altered by_plain;
 
 #define IMAGE work.image, work.image_len
 #define SECOND_IMAGE work.second_image, work.image_len
@@ -24,6 +26,26 @@ uint32_t plex_check_call(void)
 uint32_t plain_check_call(void)
 {
     return plain_check(IMAGE, TABLE);
+}
+
+/* Steps on to the image after the one that is returned, and from the last to the first. */
+static const uint8_t *image_in_turn(size_t *next)
+{
+    const uint8_t *image = work.images[*next];
+    *next = *next + 1 < work.images_count ? *next + 1 : 0;
+    return image;
+}
+
+uint32_t plex_check_in_turn_call(void)
+{
+    static size_t next;
+    return plex_check(image_in_turn(&next), work.image_len, TABLE);
+}
+
+uint32_t plain_check_in_turn_call(void)
+{
+    static size_t next;
+    return plain_check(image_in_turn(&next), work.image_len, TABLE);
 }
 
 uint32_t plex_fresh_call(void)
@@ -71,10 +93,10 @@ int bench_same_bytes(void)
     return memcmp(&by_plex, &by_plain, sizeof by_plex) == 0;
 }
 
-int bench_any_trap(void)
+int bench_expected_traps(void)
 {
-    int any = 0;
+    size_t traps = 0;
     for (size_t i = 0; i < work.event_count; i++)
-        any |= by_plain.answers[PLEX_ANSWER_SIZE * i + PLEX_ANSWER_CODE] == PLEX_TRAPPED;
-    return any;
+        traps += by_plain.answers[PLEX_ANSWER_SIZE * i + PLEX_ANSWER_CODE] == PLEX_TRAPPED;
+    return traps == work.trap_count;
 }

@@ -97,9 +97,12 @@ static void fill_record(struct builder *builder, uint8_t *record, uint32_t opcod
         fill_signal(builder, record);
 }
 
-static void fill_image(uint8_t *image, size_t records, uint32_t blocks)
+/* Any number gives a sequence of its own, and any sequence is the same in every run. */
+static void fill_image(uint8_t *image, size_t records, uint32_t blocks, uint32_t number)
 {
-    struct builder builder = {.records = (uint32_t)records, .blocks = blocks, .chance = 88172645463325252u};
+    struct builder builder = {.records = (uint32_t)records,
+                              .blocks = blocks,
+                              .chance = 88172645463325252u + number * UINT64_C(0x9E3779B97F4A7C15)};
     memset(image, 0, PLEX_RECORD_SIZE * records);
     for (uint32_t label = 0; label < records; label++) {
         uint8_t *record = image + PLEX_RECORD_SIZE * label;
@@ -113,12 +116,17 @@ static void fill_image(uint8_t *image, size_t records, uint32_t blocks)
 
 void bench_mixed_image(uint8_t *image, size_t records)
 {
-    fill_image(image, records, records < 16 ? 1 : records < 64 ? 4 : PLEX_BLOCKS);
+    bench_numbered_image(image, records, 0);
+}
+
+void bench_numbered_image(uint8_t *image, size_t records, uint32_t number)
+{
+    fill_image(image, records, records < 16 ? 1 : records < 64 ? 4 : PLEX_BLOCKS, number);
 }
 
 void bench_guest_image(uint8_t *image, size_t records, uint32_t first_block)
 {
-    fill_image(image, records, GUEST_BLOCKS);
+    fill_image(image, records, GUEST_BLOCKS, 0);
     for (size_t label = 0; label < records; label++)
         image[PLEX_RECORD_SIZE * label + PLEX_RECORD_BLOCK] += (uint8_t)first_block;
 }

@@ -11,6 +11,9 @@
  * ASSIGN), with 0 to 25 data operands where an opcode carries data. */
 void bench_mixed_image(uint8_t *image, size_t records);
 
+/* As above: another image for each number, and the one above for 0. */
+void bench_numbered_image(uint8_t *image, size_t records, uint32_t number);
+
 /* Records a multiple of 32 up to 512: as above, in the 8 blocks from the given one on. */
 enum { GUEST_BLOCKS = 8 };
 void bench_guest_image(uint8_t *image, size_t records, uint32_t first_block);

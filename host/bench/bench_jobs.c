@@ -96,23 +96,46 @@ void bench_send_image(uint8_t *image, size_t records, uint8_t blocks, uint8_t va
     }
 }
 
-/* What a job without end is sent. The results go to register 2, DIVIDE's remainder to word 0. */
+/* What a job without end is sent. The results go to register 2, DIVIDE's remainder to word 0 or to a register that
+ * nothing is read from. */
 enum { DECIMALS = 8 };
-enum { P, Q, RESULT, NUMBERS, PACKED = NUMBERS + DECIMALS };
+enum { P, Q, RESULT, NUMBERS, PACKED = NUMBERS + DECIMALS, REMAINDER = PACKED + DECIMALS };
 static const uint16_t loop_values[PLEX_REGISTERS] = {
-    300, 7, 5, /* DIVIDE reads the first two, and DECIMAL ADD the third, as p: it is the sum so far, packed */
+    300, 7, 5, /* ASSIGN and DIVIDE read the first two, and DECIMAL ADD the third, as p: the sum so far, packed */
     0,   7, 40,   305,   1234,   5678,   8096,   9999,   /* PACK, by turns */
     0,   7, 0x40, 0x305, 0x1234, 0x5678, 0x8096, 0x9999, /* UNPACK, and DECIMAL ADD as q, by turns */
 };
 
+const struct bench_loop bench_addition = {
+    {0, PLEX_EXTERNAL, PLEX_ASSIGN, PLEX_ADD, 0, 0, 3, {REGISTER(RESULT), REGISTER(P), REGISTER(Q)}}, 1};
 const struct bench_loop bench_division = {
     {0, PLEX_EXTERNAL, PLEX_DIVIDE, 0, 0, 0, 4, {REGISTER(RESULT), WORD(0), REGISTER(P), REGISTER(Q)}}, 1};
+const struct bench_loop bench_register_division = {
+    {0, PLEX_EXTERNAL, PLEX_DIVIDE, 0, 0, 0, 4, {REGISTER(RESULT), REGISTER(REMAINDER), REGISTER(P), REGISTER(Q)}}, 1};
 const struct bench_loop bench_packing = {
     {0, PLEX_EXTERNAL, PLEX_PACK, 0, 0, 0, 2, {REGISTER(RESULT), REGISTER(NUMBERS)}}, DECIMALS};
 const struct bench_loop bench_unpacking = {
     {0, PLEX_EXTERNAL, PLEX_UNPACK, 0, 0, 0, 2, {REGISTER(RESULT), REGISTER(PACKED)}}, DECIMALS};
 const struct bench_loop bench_decimal_sum = {
     {0, PLEX_EXTERNAL, PLEX_DECIMAL_ADD, 0, 0, 0, 3, {REGISTER(RESULT), REGISTER(RESULT), REGISTER(PACKED)}}, DECIMALS};
+
+void bench_full_image(uint8_t *image, size_t records)
+{
+    bench_send_image(image, records, 1, PLEX_REGISTERS);
+    for (size_t label = 0; label < records; label++) {
+        uint8_t *record = image + PLEX_RECORD_SIZE * label;
+        record[PLEX_RECORD_OPCODE] = PLEX_SEND_BUFFERED;
+        record[PLEX_RECORD_ENTRY] = label == 0 ? PLEX_EXTERNAL : PLEX_BUFFERED;
+        put16(record + PLEX_RECORD_B, get16(record + PLEX_RECORD_A));
+    }
+}
+
+void bench_full_start(uint8_t *events)
+{
+    for (size_t i = 0; i < PLEX_TREES_MAX; i++)
+        put_arrival(events + PLEX_EVENT_SIZE * i, 0, loop_values, PLEX_REGISTERS);
+    bench_loop_events(events + PLEX_EVENT_SIZE * PLEX_TREES_MAX, FULL_START_EVENTS - PLEX_TREES_MAX);
+}
 
 void bench_loop_image(uint8_t *image, size_t records, const struct bench_loop *loop)
 {

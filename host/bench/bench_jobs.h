@@ -29,14 +29,24 @@ struct bench_loop {
 /* 1 record or more, of such a job, which has 25 values. */
 void bench_loop_image(uint8_t *image, size_t records, const struct bench_loop *loop);
 
-/* These do not trap. The division has one last source, and the decimal sum is added to again and again. */
-extern const struct bench_loop bench_division, bench_packing, bench_unpacking, bench_decimal_sum;
+/* These do not trap. The sum and the divisions have one last source; the first division's remainder goes to a word, the
+ * other's to a register. The decimal sum is added to again and again. */
+extern const struct bench_loop bench_addition, bench_division, bench_register_division;
+extern const struct bench_loop bench_packing, bench_unpacking, bench_decimal_sum;
 
 /* For an image of either, whose job has so many values: 2 events that start the job on thread 0, and so many
  * that each do one statement. */
 enum { LOOP_START_EVENTS = 2 };
 void bench_loop_start(uint8_t *events, uint8_t values);
 void bench_loop_events(uint8_t *events, size_t count);
+
+/* 2 records or more: jobs that do nothing but buffered SENDs of 25 values, until their tree is full and the next one
+ * is a trap. From a fresh machine the first events fill 16 trees, each of them by a start, 8 SENDs and a trap. From
+ * then on each 3 steps of thread 0, as bench_loop_events makes them, are a start, a SEND and a trap, which moves a full
+ * tree from the list's begin to its end. */
+void bench_full_image(uint8_t *image, size_t records);
+enum { FULL_START_EVENTS = PLEX_TREES_MAX * (1 + 1 + PLEX_PENDING_MAX + 1), FULL_EVENTS_A_TRAP = 3 };
+void bench_full_start(uint8_t *events);
 
 /* A multiple of 16 records, up to 512: each of 8 blocks sends to the next one's second record. */
 void bench_ring_image(uint8_t *image, size_t records);

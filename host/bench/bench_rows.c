@@ -24,6 +24,24 @@ static void prepare_mixed(const struct bench_row *row)
     bench_mixed_image(work.image, row->records);
 }
 
+static void prepare_images(const struct bench_row *row, uint32_t count)
+{
+    begin(row);
+    work.images_count = count;
+    for (uint32_t i = 0; i < count; i++)
+        bench_numbered_image(work.images[i], row->records, i);
+}
+
+static void prepare_4_images(const struct bench_row *row)
+{
+    prepare_images(row, 4);
+}
+
+static void prepare_64_images(const struct bench_row *row)
+{
+    prepare_images(row, IMAGES_MAX);
+}
+
 static void prepare_exit(const struct bench_row *row)
 {
     begin(row);
@@ -83,14 +101,20 @@ static void prepare_ring(const struct bench_row *row)
     begin_after_events();
 }
 
+/* Given the first events: the row begins with what they leave, and each of its own is a step of thread 0. */
+static void begin_steps(const struct bench_row *row, size_t first_events)
+{
+    work.event_count = first_events;
+    begin_after_events();
+    bench_loop_events(work.events, row->events);
+    work.event_count = row->events;
+}
+
 /* Given the image of a job without end that has so many values: each event does one of its statements. */
 static void begin_loop(const struct bench_row *row, uint8_t values)
 {
     bench_loop_start(work.events, values);
-    work.event_count = LOOP_START_EVENTS;
-    begin_after_events();
-    bench_loop_events(work.events, row->events);
-    work.event_count = row->events;
+    begin_steps(row, LOOP_START_EVENTS);
 }
 
 /* Each event is a direct SEND of so many values, within a block or from one to the other of a group. */
@@ -130,9 +154,19 @@ static void prepare_loop(const struct bench_row *row, const struct bench_loop *l
     begin_loop(row, PLEX_REGISTERS);
 }
 
+static void prepare_additions(const struct bench_row *row)
+{
+    prepare_loop(row, &bench_addition);
+}
+
 static void prepare_divisions(const struct bench_row *row)
 {
     prepare_loop(row, &bench_division);
+}
+
+static void prepare_register_divisions(const struct bench_row *row)
+{
+    prepare_loop(row, &bench_register_division);
 }
 
 static void prepare_packings(const struct bench_row *row)
@@ -150,6 +184,16 @@ static void prepare_decimal_sums(const struct bench_row *row)
     prepare_loop(row, &bench_decimal_sum);
 }
 
+/* As much as a machine can hold, and events that move it about. */
+static void prepare_full(const struct bench_row *row)
+{
+    begin(row);
+    bench_full_image(work.image, row->records);
+    bench_full_start(work.events);
+    begin_steps(row, FULL_START_EVENTS);
+    work.trap_count = row->events / FULL_EVENTS_A_TRAP;
+}
+
 /* Two guests with the opcodes up to EXIT, in blocks of their own. */
 static void prepare_guests(const struct bench_row *row)
 {
@@ -159,6 +203,7 @@ static void prepare_guests(const struct bench_row *row)
 }
 
 #define CHECK prepare_mixed, plex_check_call, plain_check_call
+#define IN_TURN plex_check_in_turn_call, plain_check_in_turn_call
 #define FRESH prepare_mixed, plex_fresh_call, plain_fresh_call
 #define RUN prepare_jobs, plex_run_call, plain_run_call
 #define WALK_RING prepare_ring, plex_walk_call, plain_walk_call
@@ -170,6 +215,8 @@ const struct bench_row bench_rows[] = {
     {"check, 128 records", 128, 0, CHECK_PLOT, CHECK},
     {"check, 512 records", 512, 0, CHECK_PLOT, CHECK},
     {"check, 512 EXIT", 512, 0, NO_PLOT, prepare_exit, plex_check_call, plain_check_call},
+    {"check, 4 images of 512", 512, 0, NO_PLOT, prepare_4_images, IN_TURN},
+    {"check, 64 images of 512", 512, 0, NO_PLOT, prepare_64_images, IN_TURN},
     {"fresh, 1 record", 1, 0, FRESH_PLOT, FRESH},
     {"fresh, 16 records", 16, 0, FRESH_PLOT, FRESH},
     {"fresh, 128 records", 128, 0, FRESH_PLOT, FRESH},
@@ -196,9 +243,13 @@ const struct bench_row bench_rows[] = {
     {"run, SEND of 25 values", 16, 1024, NO_PLOT, prepare_sends_of_25, plex_run_call, plain_run_call},
     {"run, SEND in a group", 16, 1024, NO_PLOT, prepare_sends_in_group, plex_run_call, plain_run_call},
     {"run, new trees", 16, 1024, NO_PLOT, prepare_founders, plex_run_call, plain_run_call},
+    {"run, ASSIGN add", 16, 1024, NO_PLOT, prepare_additions, plex_run_call, plain_run_call},
     {"run, DIVIDE", 16, 1024, NO_PLOT, prepare_divisions, plex_run_call, plain_run_call},
+    {"run, DIVIDE, registers", 16, 1024, NO_PLOT, prepare_register_divisions, plex_run_call, plain_run_call},
     {"run, PACK", 16, 1024, NO_PLOT, prepare_packings, plex_run_call, plain_run_call},
     {"run, UNPACK", 16, 1024, NO_PLOT, prepare_unpackings, plex_run_call, plain_run_call},
     {"run, DECIMAL ADD", 16, 1024, NO_PLOT, prepare_decimal_sums, plex_run_call, plain_run_call},
+    {"run, full machine", 512, 0, NO_PLOT, prepare_full, plex_run_call, plain_run_call},
+    {"run, full machine", 512, 1023, NO_PLOT, prepare_full, plex_run_call, plain_run_call},
 };
 const size_t bench_row_count = sizeof bench_rows / sizeof bench_rows[0];
