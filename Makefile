@@ -23,7 +23,9 @@ build:
 COMMON = $(wildcard host/common/*.c)
 SOURCES_demo = $(wildcard host/demo/*.c) $(COMMON)
 SOURCES_plex = $(wildcard host/command/*.c) $(COMMON)
-SOURCES_bench = $(wildcard host/bench/*.c) host/common/build.c
+ENGINES = $(wildcard host/bench/plain_*.c) $(addprefix host/bench/bench_,calls.c image.c jobs.c rows.c table.c) host/common/build.c
+SOURCES_bench = $(addprefix host/bench/,bench.c bench_figures.c bench_plot.c) $(ENGINES)
+SOURCES_times = $(addprefix host/bench/bench_,place.c times.c) $(ENGINES)
 SOURCES_words = tests/words.c $(COMMON)
 SOURCES_explanations = tests/explanations.c tests/faults.c tests/damage.c $(wildcard host/command/explain*.c) \
     host/bench/bench_image.c $(COMMON)
@@ -55,12 +57,17 @@ build/header++: $(SOURCES_header) $(HEADERS) $(LIBRARY) | build
 build/%: $$(SOURCES_$$*) $(HEADERS) $(LIBRARY) | build
 	$(COMPILE) -o $@ $(SOURCES_$*) $(LIBRARY) $(LDLIBS)
 
+# the program that times the rows, linked with so many bytes before the engines
+TIMES = $(addprefix build/times-,0 16 32 48)
+$(TIMES): build/times-%: $(SOURCES_times) $(HEADERS) $(LIBRARY) | build
+	$(COMPILE) $(FLAGS_bench) -DBENCH_PLACE=$* -o $@ $(SOURCES_times) $(LIBRARY) $(LDLIBS)
+
 demo: build/demo
 	./build/demo
 
-bench: build/bench
+bench: build/bench $(TIMES)
 	mkdir -p build/plots
-	./build/bench build/plots
+	./build/bench build/plots $(TIMES)
 
 # ---- the tests
 
@@ -143,7 +150,7 @@ toolchains:
 	MAKEFLAGS= $(MAKE) --no-print-directory style try sorts compare
 
 hosts:
-	MAKEFLAGS= $(MAKE) --no-print-directory build/bench host command examples papers installed second
+	MAKEFLAGS= $(MAKE) --no-print-directory build/bench build/times-0 host command examples papers installed second
 
 # ---- installation: the places have GNU's names; DESTDIR goes before each of them
 PREFIX ?= /usr/local

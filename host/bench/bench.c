@@ -1,23 +1,17 @@
-/* Times the proved engine against the plain one: the same work, in one run, taken turn about. The
- * times are the best of many rounds; the ratio is the median of the rounds' own ratios, so that a
- * machine that slows down for a while slows down both of its numbers. Run is timed by the event, the
- * other calls by the call. The buffers are in the processor's caches, and nothing is cleared between
- * calls.
+/* Runs programs that time the same rows, with the engines at different places in each of them, several times in turn.
+ * Of each row it prints the medians over all runs, and the range of the ratios; then which rows are above 1.0, and the
+ * figures that the papers have.
  *
- * Use: bench [FOLDER]    a folder for the plots */
-#define _POSIX_C_SOURCE 199309L
+ * Use: bench FOLDER PROGRAM..    a folder for the plots */
+#define _POSIX_C_SOURCE 200809L
 
-#include "bench_calls.h"
+#include "bench_figures.h"
 #include "bench_plot.h"
-#include "bench_rows.h"
 
-#include <inttypes.h>
 #include <stdio.h>
 #include <stdlib.h>
-#include <time.h>
 
-/* A row has so many rounds, or as many as its time allows. */
-enum { ROUNDS = 20000, FEWEST_ROUNDS = 50, ROUND_NS = 20000, ROW_NS = 1000000000, MOST_POINTS = 8 };
+enum { RUNS = 3, PROGRAMS_MAX = 8, SAMPLES_MAX = RUNS * PROGRAMS_MAX, ROWS_MAX = 64, POINTS_MAX = 8 };
 
 static const struct {
     const char *file, *title;
@@ -31,46 +25,38 @@ static const struct {
     [FULL_RUN_PLOT] = {"run-full.svg", "Run with an image of 512 records", EVENTS_AXIS},
 };
 
-static double now_ns(void)
+/* Of a row, what each run of each program said. */
+static struct {
+    double plex_ns[SAMPLES_MAX], plain_ns[SAMPLES_MAX], ratio[SAMPLES_MAX];
+} samples[ROWS_MAX];
+
+static struct bench_result results[ROWS_MAX];
+
+/* Runs the program, which writes a line for each row. Returns 0, or -1 if it failed. */
+static int take_sample(const char *program, size_t sample)
 {
-    struct timespec now;
-    clock_gettime(CLOCK_MONOTONIC, &now);
-    return (double)now.tv_sec * 1e9 + (double)now.tv_nsec;
+    FILE *lines = popen(program, "r");
+    if (lines == NULL)
+        return -1;
+    size_t row = 0;
+    while (row < bench_row_count && fscanf(lines, "%lf %lf %lf", &samples[row].plex_ns[sample],
+                                           &samples[row].plain_ns[sample], &samples[row].ratio[sample]) == 3)
+        row++;
+    return pclose(lines) == 0 && row == bench_row_count ? 0 : -1;
 }
 
-/* Nanoseconds a call, over so many calls; each must return what is expected. */
-static double time_calls(uint32_t (*call)(void), size_t calls, uint32_t expected)
+/* Each program in turn, so that a machine that slows down for a while slows down all of them. */
+static int take_samples(char **programs, size_t count)
 {
-    uint32_t differing = 0;
-    double start = now_ns();
-    for (size_t i = 0; i < calls; i++)
-        differing |= call() ^ expected;
-    double taken = now_ns() - start;
-    if (differing != 0) {
-        fprintf(stderr, "bench: a call did not return %" PRIu32 "\n", expected);
-        exit(1);
+    for (size_t sample = 0; sample < RUNS * count; sample++) {
+        const char *program = programs[sample % count];
+        fprintf(stderr, "run %zu of %zu, %s\n", sample + 1, RUNS * count, program);
+        if (take_sample(program, sample) != 0) {
+            fprintf(stderr, "bench: %s failed\n", program);
+            return -1;
+        }
     }
-    return taken / (double)calls;
-}
-
-/* So many plain calls as fill a round; of images in turn, each the same number of times. */
-static size_t calls_a_round(const struct bench_row *row, uint32_t expected)
-{
-    size_t turn = work.images_count == 0 ? 1 : work.images_count;
-    double ns = time_calls(row->plain_call, 20 * turn, expected);
-    return turn * (1 + (size_t)(ROUND_NS / ns / (double)turn));
-}
-
-/* What both engines return; they must leave the same bytes too, and no job may end short of its work. */
-static uint32_t expected_return(const struct bench_row *row)
-{
-    row->prepare(row);
-    uint32_t expected = row->plain_call();
-    if (expected >= 65536 || row->plex_call() != expected || !bench_same_bytes() || !bench_expected_traps()) {
-        fprintf(stderr, "bench: %s: the engines differ, or refuse, or a job traps that should not\n", row->name);
-        exit(1);
-    }
-    return expected;
+    return 0;
 }
 
 static int by_size(const void *a, const void *b)
@@ -79,39 +65,57 @@ static int by_size(const void *a, const void *b)
     return (x > y) - (x < y);
 }
 
-/* The best times of a row, and the median of its rounds' ratios. */
-static struct bench_point time_row(const struct bench_row *row, double *ratio)
+/* Sorts the values. Of an even number of them, the mean of the two in the middle. */
+static double median(double *values, size_t count)
 {
-    static double ratios[ROUNDS];
-    uint32_t expected = expected_return(row);
-    size_t calls = calls_a_round(row, expected), rounds = 0;
-    double plex_best = 1e300, plain_best = 1e300, begun = now_ns();
-    while (rounds < ROUNDS && (rounds < FEWEST_ROUNDS || now_ns() - begun < ROW_NS)) {
-        double plex_ns = time_calls(row->plex_call, calls, expected);
-        double plain_ns = time_calls(row->plain_call, calls, expected);
-        plex_best = plex_ns < plex_best ? plex_ns : plex_best;
-        plain_best = plain_ns < plain_best ? plain_ns : plain_best;
-        ratios[rounds++] = plex_ns / plain_ns;
+    qsort(values, count, sizeof values[0], by_size);
+    return (values[(count - 1) / 2] + values[count / 2]) / 2;
+}
+
+static void work_out_results(size_t count)
+{
+    for (size_t i = 0; i < bench_row_count; i++) {
+        double ratio = median(samples[i].ratio, count);
+        results[i] = (struct bench_result){median(samples[i].plex_ns, count), median(samples[i].plain_ns, count), ratio,
+                                           samples[i].ratio[0], samples[i].ratio[count - 1]};
     }
-    qsort(ratios, rounds, sizeof ratios[0], by_size);
-    *ratio = ratios[rounds / 2];
-    double units = row->events == 0 ? 1 : (double)row->events;
-    return (struct bench_point){row->events == 0 ? row->records : row->events, plex_best / units, plain_best / units};
 }
 
-static void print_row(const struct bench_row *row, const struct bench_point *best, double ratio)
+static void print_rows(void)
 {
-    printf("%-24s", row->name);
-    if (row->events == 0)
-        printf(" %8s", "");
-    else
-        printf(" %8zu", row->events);
-    printf(" %12.1f %12.1f %12.2f\n", best->plex_ns, best->plain_ns, ratio);
-    fflush(stdout);
+    printf("%-24s %6s %10s %10s %10s  %s\n", "row", "events", "plex ns", "plain ns", "plex/plain", "range");
+    for (size_t i = 0; i < bench_row_count; i++) {
+        const struct bench_result *result = &results[i];
+        printf("%-24s ", bench_rows[i].name);
+        if (bench_rows[i].events == 0)
+            printf("%6s", "");
+        else
+            printf("%6zu", bench_rows[i].events);
+        printf(" %10.1f %10.1f %10.2f  %.2f-%.2f\n", result->plex_ns, result->plain_ns, result->ratio, result->least,
+               result->most);
+    }
+    printf("Run is timed by the event, with all tests that a call begins with; the others by the call.\n");
 }
 
-static int draw(const char *folder, enum bench_plots plot, const struct bench_point *points, size_t count)
+static void print_rows_above(void)
 {
+    size_t above = 0;
+    for (size_t i = 0; i < bench_row_count; i++)
+        if (results[i].ratio > 1)
+            printf("%s%s (%.3f)", above++ == 0 ? "ABOVE 1.0: " : "; ", bench_rows[i].name, results[i].ratio);
+    printf("%s\n", above == 0 ? "No row is above 1.0." : "");
+}
+
+static int draw(const char *folder, enum bench_plots plot)
+{
+    struct bench_point points[POINTS_MAX];
+    size_t count = 0;
+    for (size_t i = 0; i < bench_row_count; i++) {
+        const struct bench_row *row = &bench_rows[i];
+        if (row->plot == plot)
+            points[count++] = (struct bench_point){row->events == 0 ? row->records : row->events, results[i].plex_ns,
+                                                   results[i].plain_ns};
+    }
     char path[4096];
     snprintf(path, sizeof path, "%s/%s", folder, plots[plot].file);
     if (bench_plot(path, plots[plot].title, plots[plot].axis, points, count) == 0)
@@ -122,20 +126,19 @@ static int draw(const char *folder, enum bench_plots plot, const struct bench_po
 
 int main(int argc, char **argv)
 {
-    struct bench_point points[PLOTS + 1][MOST_POINTS];
-    size_t counts[PLOTS + 1] = {0};
-    printf("%-24s %8s %12s %12s %12s\n", "row", "events", "plex ns", "plain ns", "plex/plain");
-    for (size_t i = 0; i < bench_row_count; i++) {
-        const struct bench_row *row = &bench_rows[i];
-        double ratio;
-        struct bench_point best = time_row(row, &ratio);
-        print_row(row, &best, ratio);
-        points[row->plot][counts[row->plot]++] = best;
+    size_t count = argc < 3 ? 0 : (size_t)argc - 2;
+    if (count == 0 || count > PROGRAMS_MAX || bench_row_count > ROWS_MAX) {
+        fprintf(stderr, "use: bench FOLDER PROGRAM..\n");
+        return 2;
     }
-    printf("Run is timed by the event, with all tests that a call begins with; the others by the "
-           "call.\n");
+    if (take_samples(argv + 2, count) != 0)
+        return 1;
+    work_out_results(RUNS * count);
+    print_rows();
+    print_rows_above();
+    bench_print_figures(results);
     int failed = 0;
-    for (enum bench_plots plot = 0; argc > 1 && plot < PLOTS; plot++)
-        failed |= draw(argv[1], plot, points[plot], counts[plot]);
+    for (enum bench_plots plot = 0; plot < PLOTS; plot++)
+        failed |= draw(argv[1], plot);
     return failed;
 }

@@ -31,4 +31,10 @@ struct bench_row {
 extern const struct bench_row bench_rows[];
 extern const size_t bench_row_count;
 
+/* What the runs of a row came to: medians, and the least and the greatest of the ratios. Nanoseconds are of an event,
+ * or of a call. */
+struct bench_result {
+    double plex_ns, plain_ns, ratio, least, most;
+};
+
 #endif
