@@ -17,12 +17,23 @@ static inline uint32_t answer(uint32_t code, uint32_t detail)
     return (uint32_t)code | detail << 8;
 }
 
-/* Registers 0..count-1 hold the values, the others are absent; the values after
- * those are zero. */
-static inline void set_registers(const struct job *job, const uint8_t *values, uint32_t count)
+/* Given what read_data wrote: the values, and zeros behind them. */
+static inline void put_values(uint8_t *values, const uint8_t *data, uint32_t count)
+{
+    if (count > FEW_VALUES) {
+        memcpy(values, data, VALUES_SIZE);
+        return;
+    }
+    memset(values, 0, VALUES_SIZE);
+    for (uint32_t i = 0; i < count; i++)
+        put16(values + 2 * i, get16(data + 2 * i));
+}
+
+/* Given what read_data wrote: registers 0..count-1 hold the values, the others are absent. */
+static inline void set_registers(const struct job *job, const uint8_t *data, uint32_t count)
 {
     put32(job->bytes + PLEX_THREAD_PRESENCE, first_registers(count));
-    memcpy(job->bytes + PLEX_THREAD_VALUES, values, VALUES_SIZE);
+    put_values(job->bytes + PLEX_THREAD_VALUES, data, count);
 }
 
 /* Makes the signal the only one of a new tree at the list's end, on its block's thread; returns whether

@@ -121,7 +121,7 @@ static uint32_t branch(const struct job *job, const uint8_t *record)
  * nobody else holds. */
 static uint32_t send_direct_or_call(const struct job *job, const uint8_t *record)
 {
-    uint8_t data[VALUES_SIZE] = {0};
+    uint8_t data[VALUES_SIZE];
     uint32_t label = get16(record + PLEX_RECORD_A);
     uint32_t block = block_of(job->program, label);
     if (!read_data(job->state, job->bytes, record, data))
@@ -147,12 +147,12 @@ static void put_signal(uint8_t *signal, const uint8_t *record, const uint8_t *da
 {
     put16(signal + PLEX_SIGNAL_LABEL, get16(record + PLEX_RECORD_A));
     signal[PLEX_SIGNAL_COUNT] = record[PLEX_RECORD_COUNT];
-    memcpy(signal + PLEX_SIGNAL_VALUES, data, VALUES_SIZE);
+    put_values(signal + PLEX_SIGNAL_VALUES, data, record[PLEX_RECORD_COUNT]);
 }
 
 static uint32_t send_buffered(const struct job *job, const uint8_t *record)
 {
-    uint8_t data[VALUES_SIZE] = {0};
+    uint8_t data[VALUES_SIZE];
     if (!read_data(job->state, job->bytes, record, data))
         return trap(job, PLEX_ABSENT_REGISTER);
     uint32_t index = first_tree(job->state, job->thread);
@@ -168,7 +168,7 @@ static uint32_t send_buffered(const struct job *job, const uint8_t *record)
 /* SEND JOBTREE: the job holds the signal until it ends. */
 static uint32_t send_tree(const struct job *job, const uint8_t *record)
 {
-    uint8_t data[VALUES_SIZE] = {0};
+    uint8_t data[VALUES_SIZE];
     if (!read_data(job->state, job->bytes, record, data))
         return trap(job, PLEX_ABSENT_REGISTER);
     uint32_t held = job->bytes[PLEX_THREAD_HELD_COUNT];
@@ -182,7 +182,7 @@ static uint32_t send_tree(const struct job *job, const uint8_t *record)
 /* RETURN takes the newest return label and keeps the locks. */
 static uint32_t go_back(const struct job *job, const uint8_t *record)
 {
-    uint8_t data[VALUES_SIZE] = {0};
+    uint8_t data[VALUES_SIZE];
     if (!read_data(job->state, job->bytes, record, data))
         return trap(job, PLEX_ABSENT_REGISTER);
     if (job->bytes[PLEX_THREAD_RETURN_COUNT] == 0)
@@ -199,12 +199,12 @@ static uint32_t go_back(const struct job *job, const uint8_t *record)
 static uint32_t transfer(const struct job *job, const uint8_t *record)
 {
     uint8_t data[VALUES_SIZE];
-    memcpy(data, job->bytes + PLEX_THREAD_VALUES, VALUES_SIZE);
     if (!read_data(job->state, job->bytes, record, data))
         return trap(job, PLEX_ABSENT_REGISTER);
-    uint32_t presence = get32(job->bytes + PLEX_THREAD_PRESENCE);
-    put32(job->bytes + PLEX_THREAD_PRESENCE, presence | first_registers(record[PLEX_RECORD_COUNT]));
-    memcpy(job->bytes + PLEX_THREAD_VALUES, data, VALUES_SIZE);
+    uint32_t presence = get32(job->bytes + PLEX_THREAD_PRESENCE), count = record[PLEX_RECORD_COUNT];
+    put32(job->bytes + PLEX_THREAD_PRESENCE, presence | first_registers(count));
+    for (uint32_t i = 0; i < count; i++)
+        put16(job->bytes + PLEX_THREAD_VALUES + 2 * i, get16(data + 2 * i));
     return move_on(job, get16(record + PLEX_RECORD_A));
 }
 
