@@ -32,6 +32,7 @@ SOURCES_explanations = tests/explanations.c tests/faults.c tests/damage.c $(wild
 SOURCES_plain = $(wildcard tests/plain*.c) tests/damage.c host/bench/bench_image.c host/common/build.c $(wildcard host/bench/plain_*.c)
 SOURCES_lending = tests/lending.c tests/cases.c host/common/build.c
 SOURCES_stack = tests/stack.c tests/cases.c host/common/build.c
+SOURCES_instructions = tests/instructions.c $(ENGINES)
 SOURCES_header = $(wildcard tests/header*.c)
 SOURCES_terminal = tests/terminal.c
 SOURCES_pictures = tests/pictures.c tests/svg.c host/bench/bench_plot.c $(wildcard host/command/waits_*.c)
@@ -100,12 +101,13 @@ map:
 
 # what the library asks of a host and of the system; the demo's output is held to a file
 CASES = $(sort $(basename $(foreach set,base 102 104 105 106 107,$(wildcard crates/trials/data/$(set)/*.image))))
-HOST_TESTS = header header++ words-safe explanations-safe plain-safe lending lending-safe pictures-safe
+HOST_TESTS = header header++ words-safe explanations-safe plain-safe lending lending-safe pictures-safe instructions
 host: $(addprefix build/,$(HOST_TESTS) stack demo-safe)
 	sh tests/progress.sh
 	sh tests/library.sh $(LIBRARY)
+	sh tests/compiled.sh $(LIBRARY)
 	@for program in header header++ words-safe explanations-safe plain-safe "lending $(CASES)" "lending-safe $(CASES)" \
-	    "pictures-safe build/pictures"; do ./build/$$program || exit 1; done
+	    "pictures-safe build/pictures" instructions; do ./build/$$program || exit 1; done
 	@sh tests/stack.sh $(CASES)
 	./build/demo-safe | diff - host/demo/expected.txt
 
