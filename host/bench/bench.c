@@ -100,9 +100,14 @@ static void print_rows(void)
 static void print_rows_above(void)
 {
     size_t above = 0;
-    for (size_t i = 0; i < bench_row_count; i++)
-        if (results[i].ratio > 1)
-            printf("%s%s (%.3f)", above++ == 0 ? "ABOVE 1.0: " : "; ", bench_rows[i].name, results[i].ratio);
+    for (size_t i = 0; i < bench_row_count; i++) {
+        if (results[i].ratio <= 1)
+            continue;
+        printf("%s%s", above++ == 0 ? "ABOVE 1.0: " : "; ", bench_rows[i].name);
+        if (bench_rows[i].events != 0)
+            printf(", %zu events", bench_rows[i].events);
+        printf(" (%.3f)", results[i].ratio);
+    }
     printf("%s\n", above == 0 ? "No row is above 1.0." : "");
 }
 
