@@ -2,12 +2,21 @@
 #include "plain.h"
 #include "plain_job.h"
 
+/* A step or a cut has zero bytes where an arrival has its signal. */
+static inline bool signal_is_zero(const uint8_t *signal)
+{
+    uint64_t seen = eight_bytes(signal + PLEX_SIGNAL_SIZE - 8);
+    for (size_t i = 0; i + 8 <= PLEX_SIGNAL_SIZE; i += 8)
+        seen |= eight_bytes(signal + i);
+    return seen == 0;
+}
+
 static bool event_holds(const struct program *program, const uint8_t *event)
 {
     const uint8_t *signal = event + PLEX_EVENT_SIGNAL;
     uint32_t kind = event[PLEX_EVENT_KIND];
     if (kind == PLEX_STEP || kind == PLEX_CUT)
-        return event[PLEX_EVENT_THREAD] < PLEX_THREADS && words_zero(signal, PLEX_SIGNAL_SIZE);
+        return event[PLEX_EVENT_THREAD] < PLEX_THREADS && signal_is_zero(signal);
     uint32_t label = get16(signal + PLEX_SIGNAL_LABEL);
     uint32_t count = signal[PLEX_SIGNAL_COUNT];
     return kind == PLEX_ARRIVAL && event[PLEX_EVENT_THREAD] == 0 && label < program->records &&
