@@ -43,8 +43,7 @@ static uint32_t start(const struct job *job)
         return answer(PLEX_WAITING, lock);
     put16(job->bytes + PLEX_THREAD_LABEL, label);
     put16(job->bytes + PLEX_THREAD_LOCKS, 1u << lock);
-    put32(job->bytes + PLEX_THREAD_PRESENCE, first_registers(oldest[PLEX_SIGNAL_COUNT]));
-    memcpy(job->bytes + PLEX_THREAD_VALUES, oldest + PLEX_SIGNAL_VALUES, VALUES_SIZE);
+    set_registers(job, oldest + PLEX_SIGNAL_VALUES, oldest[PLEX_SIGNAL_COUNT]);
     uint32_t left = tree[PLEX_TREE_PENDING] - 1u;
     memmove(oldest, oldest + PLEX_SIGNAL_SIZE, PLEX_SIGNAL_SIZE * left);
     memset(oldest + PLEX_SIGNAL_SIZE * left, 0, PLEX_SIGNAL_SIZE);

@@ -1,12 +1,9 @@
 -- What EXIT leaves: the own tree settled, the held signals admitted, the thread cleared.
 use mathlib.Core.Path.{_≡_, refl, sym, ap, _∙_, subst}
-use mathlib.Core.Bool.{true}
 use mathlib.Core.List.{List, []}
-use Prim.Native.Nat.{ℕ}
+use Prim.Native.Nat.{ℕ, _<_}
 use native.Mathlib.Omega.{arith}
-use lib.Dec.{ltb}
 use lib.ListN.{length, getD}
-use borrow.Author.Tests.{ltb-true}
 use Rattle.rules.specs.Machine as law
 use Rattle.rules.specs.Machine.{Signal, Machine, idle, withThread}
 use Rattle.rules.specs.Encoding.{noSignal, machineFrom}
@@ -38,10 +35,10 @@ module _ {image table b : List ℕ} {t : ℕ} {w : ThreadState} {r : List ℕ} (
   counted = held-counted (w .held) (w .signals) (h .thread .tidy .held)
 
   -- the signals that the job holds have entry 2
-  pub held-in : (i : ℕ) {g : Signal} → g ≡ getD gs i noSignal → ltb i (w .held) ≡ true → HeldIn image table g
+  pub held-in : (i : ℕ) {g : Signal} → g ≡ getD gs i noSignal → i < w .held → HeldIn image table g
   held-in i e l =
       let each : Each (HeldIn image table) gs = subst (ThreadIn image table t) (h .runs) (h .ready .sound .threads t) .held in
-      rw e (each-at (HeldIn image table) gs i noSignal each (omega (arith, counted, ltb-true i (w .held) l)))
+      rw e (each-at (HeldIn image table) gs i noSignal each (omega (arith, counted)))
 
   -- those at the four places are all
   pub all-held : {s : Machine} {k : ℕ} {b′ : List ℕ} {x₀ x₁ x₂ x₃ : Signal} → x₀ ≡ getD gs 0 noSignal → x₁ ≡ getD gs 1 noSignal

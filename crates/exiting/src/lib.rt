@@ -13,9 +13,9 @@ use threads::thread::ThreadState;
 use trees::list::append_tree;
 use trees::list::room;
 ghost use mathlib.Core.Path.{_≡_};
-ghost use mathlib.Core.Bool.{true};
 ghost use mathlib.Core.List.{[], _∷_};
-ghost use Prim.Native.Nat.{_≤_};
+ghost use Prim.Native.Nat.{_<_, _≤_};
+ghost use lib.Dec.{ltb};
 ghost use lib.ListN.{length};
 ghost use Rattle.rules.specs.Encoding.{machineFrom};
 ghost use Rattle.rules.specs.Steps.{rulesBy, finished, admitted, lost};
@@ -45,15 +45,15 @@ fn found_tree(image: &[u8], table: &[u8], state: &mut [u8], g: Signal) -> u8
     1
 }
 
-// The same where the signal is held; where it is not, nothing is done.
-fn found_next(image: &[u8], table: &[u8], state: &mut [u8], g: Signal, held: bool) -> u8
-    requires { ⌜ Canonical (now state) × (held ≡ true → Admissible (now image) (now table) (now state) g) ⌝ }
-    ensures { λ n. ⌜ (n ≡ length (lost (rulesBy (now (image .entry)) (now (table .entry))) (only held (signalOf g))
+// The same of the signal at place i, where so many are held; past them nothing is done.
+fn found_next(image: &[u8], table: &[u8], state: &mut [u8], g: Signal, i: usize, count: usize) -> u8
+    requires { ⌜ Canonical (now state) × (i < count → Admissible (now image) (now table) (now state) g) ⌝ }
+    ensures { λ n. ⌜ (n ≡ length (lost (rulesBy (now (image .entry)) (now (table .entry))) (only (ltb i count) (signalOf g))
         (machineFrom (now (state .entry))))) × (n ≤ 1) ⌝ }
-    ensures { λ _. ⌜ Encodes (now (state .exit)) (admitted (rulesBy (now (image .entry)) (now (table .entry))) (only held (signalOf g))
+    ensures { λ _. ⌜ Encodes (now (state .exit)) (admitted (rulesBy (now (image .entry)) (now (table .entry))) (only (ltb i count) (signalOf g))
         (machineFrom (now (state .entry)))) ⌝ }
 {
-    if held {
+    if i < count {
         return found_tree(image, table, state, g);
     }
     0
@@ -81,10 +81,10 @@ fn end_holding(
     let third = w.held_signal(2);
     let fourth = w.held_signal(3);
     settle(image, table, state, t);
-    let a = found_next(image, table, state, first, 0 < count);
-    let b = found_next(image, table, state, second, 1 < count);
-    let c = found_next(image, table, state, third, 2 < count);
-    let d = found_next(image, table, state, fourth, 3 < count);
+    let a = found_next(image, table, state, first, 0, count);
+    let b = found_next(image, table, state, second, 1, count);
+    let c = found_next(image, table, state, third, 2, count);
+    let d = found_next(image, table, state, fourth, 3, count);
     clear_thread(state, t, w);
     a + b + c + d
 }

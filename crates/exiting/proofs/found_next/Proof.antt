@@ -2,6 +2,7 @@ use borrow.Author.Needs.{needs}
 use mathlib.Core.Path.{refl}
 use native.Mathlib.Omega.{arith}
 use mathlib.Core.Bool.{true}
+use borrow.Author.Tests.{lt-ltb, le-ltb}
 use Rattle.rules.specs.Encoding.{machineFrom}
 use Rattle.rules.specs.Steps.{rulesBy, admitted, lost}
 use Rattle.signal_records.specs.Signals.{signalOf}
@@ -18,11 +19,13 @@ returns c =
     let e = c .before .before .found-tree .ensures in
     let few = few-lost (rulesBy (s .args .image .now) (s .args .table .now)) true (signalOf (s .args .g)) (machineFrom
     (s .args .state .now)) in
-    rw (c .before .before .before .before .if1 .taken) ((e .0, omega (arith, few, e .0)), e .1)
+    rw (lt-ltb (s .args .i) (s .args .count) (c .before .before .before .before .if1 .taken)) ((e .0, omega (arith, few, e .0)), e .1)
 
 returns-2 : tie.Need-returns-2
 unfolding admitted lost
-returns-2 c = rw (c .if1 .left) ((refl, omega arith), c .before .before .before .before .pre .0)
+returns-2 c =
+    let s = c .before .before .before .before in
+    rw (le-ltb (s .args .i) (s .args .count) (omega (arith, c .if1 .left))) ((refl, omega arith), s .pre .0)
 
 pub found-next-spec : {M : Type 1} → statement M
 found-next-spec = tie.close (tie.spec found-tree-requires (λ c. search needs) returns returns-2)
