@@ -1,13 +1,13 @@
 -- Which bits of a number are zero.
 use mathlib.Core.Path.{_≡_, refl, ap, _∙_}
-use mathlib.Core.Bool.{Bool, true, false, _&&_}
+use mathlib.Core.Bool.{Bool, true, false}
 use Prim.Native.Nat.{ℕ, _+_, _*_, _-_, _/_, _%_, _^_, _<_}
 use native.Mathlib.Nat.{zero-mul, mod-eq-of-lt, div-eq-of-lt, mod-lt}
 use native.Mathlib.Omega.{arith}
-use lib.Bits.{bitAnd, bitOr, and-zero-r, and-mask, and-high, and-le-l, and-le-r, or-add-and, or-lt}
+use lib.Bits.{bitAnd, and-zero-r, and-mask, and-high}
 use lib.Dec.{eqb, ltb}
 use lib.Pow.{pow-pos, split, shr-mod}
-use borrow.Author.Tests.{eq-eqb, ne-eqb, ltb-true, ltb-false, lt-ltb, le-ltb}
+use borrow.Author.Tests.{eq-eqb, ne-eqb, ltb-true, ltb-false}
 
 -- the j bits from bit k on test that a number of j + k bits is below 2 ^ k, all bits that it is 0
 pub below-power : (j k x : ℕ) → x < 2 ^ (j + k) → eqb (bitAnd x (2 ^ (j + k) - 2 ^ k)) 0 ≡ ltb x (2 ^ k)
@@ -24,12 +24,3 @@ all-bits x h = ap (λ y. eqb y 0) (and-mask x 8 ∙ mod-eq-of-lt h)
 
 pub no-bits : (x : ℕ) → eqb (bitAnd x 0) 0 ≡ true
 no-bits x = rw and-zero-r
-
--- the bits of two numbers together are below a power of two where both numbers are
-pub or-below : (n a b : ℕ) → ltb (bitOr a b) (2 ^ n) ≡ (ltb a (2 ^ n) && ltb b (2 ^ n))
-or-below n a b = go (ltb a (2 ^ n)) (ltb b (2 ^ n)) refl refl
-  where
-    go : (x y : Bool) → ltb a (2 ^ n) ≡ x → ltb b (2 ^ n) ≡ y → ltb (bitOr a b) (2 ^ n) ≡ (x && y)
-    go true true p q = lt-ltb (bitOr a b) (2 ^ n) (or-lt n a b (ltb-true a (2 ^ n) p) (ltb-true b (2 ^ n) q))
-    go true false p q = le-ltb (bitOr a b) (2 ^ n) (omega (arith, ltb-false b (2 ^ n) q, or-add-and a b, and-le-l a b))
-    go false y p q = le-ltb (bitOr a b) (2 ^ n) (omega (arith, ltb-false a (2 ^ n) p, or-add-and a b, and-le-r a b))

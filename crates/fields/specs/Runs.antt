@@ -1,7 +1,7 @@
 -- The laws of tests that are joined, and of tests over runs of numbers.
 use mathlib.Core.Path.{_≡_, refl, sym, ap, _∙_}
 use mathlib.Core.Logic.{⊎-elim}
-use mathlib.Core.Bool.{Bool, true, false, cond, _&&_, _||_, and-assoc, and-true, and-false, or-assoc, or-true, or-false}
+use mathlib.Core.Bool.{Bool, true, false, cond, _&&_, _||_, and-assoc, or-assoc, or-true, or-false}
 use Prim.Native.Nat.{ℕ, zero, suc, _+_, _*_, _-_, _≤_, _<_}
 use native.Mathlib.Nat.{add-zero, zero-add, suc-add, eq-or-lt-of-le}
 use native.Mathlib.Omega.{arith}
@@ -78,45 +78,6 @@ none-bad ok i (suc n) = go (ok i) (none-bad ok (i + 1) n)
         ≡ (t && allFrom ok (i + 1) n)
     go true e = let f : i + suc n ≡ i + 1 + n = omega arith in rw f e
     go false e = ne-eqb i (i + suc n) (λ z. omega arith)
-
-after : (f : ℕ → Bool) (i n : ℕ) → i ≤ firstBad f i n
-unfolding firstBad
-after f i zero = omega arith
-after f i (suc n) = go (f i) (after f (i + 1) n)
-  where
-    go : (b : Bool) → i + 1 ≤ firstBad f (i + 1) n → i ≤ cond b (firstBad f (i + 1) n) i
-    go true h = omega arith
-    go false h = omega arith
-
--- the search for where one of two tests fails, by two searches
-pub both-bad : (f g : ℕ → Bool) (i n : ℕ) → firstBad (λ k. f k && g k) i n ≡ firstBad f i (firstBad g i n - i)
-unfolding firstBad
-both-bad f g i zero = let e : i - i ≡ 0 = omega arith in rw e refl
-both-bad f g i (suc n) = go (g i) refl (both-bad f g (i + 1) n)
-  where
-    go : (b : Bool) → g i ≡ b → firstBad (λ k. f k && g k) (i + 1) n ≡ firstBad f (i + 1) (firstBad g (i + 1) n - (i + 1))
-        → cond (f i && b) (firstBad (λ k. f k && g k) (i + 1) n) i ≡ firstBad f i (cond b (firstBad g (i + 1) n) i - i)
-    go true e h =
-        let m = firstBad g (i + 1) n in
-        let k : m - i ≡ suc (m - (i + 1)) = omega (arith, after g (i + 1) n) in
-        rw (k, and-true (f i), h) refl
-    go false e h = let z : i - i ≡ 0 = omega arith in rw (z, and-false (f i)) refl
-
--- tests that are the same are searched with the same end
-pub bad-same : (f g : ℕ → Bool) (i n : ℕ) → ((k : ℕ) → f k ≡ g k) → firstBad f i n ≡ firstBad g i n
-unfolding firstBad
-bad-same f g i zero h = refl
-bad-same f g i (suc n) h = rw (h i, bad-same f g (i + 1) n h) refl
-
--- before the place where it fails a test holds
-pub good-before : (f : ℕ → Bool) (i n j : ℕ) → i ≤ j → j < firstBad f i n → f j ≡ true
-unfolding firstBad
-good-before f i zero j h l = absurd (omega arith)
-good-before f i (suc n) j h l = go (f i) refl l (good-before f (i + 1) n j)
-  where
-    go : (b : Bool) → f i ≡ b → j < cond b (firstBad f (i + 1) n) i → (i + 1 ≤ j → j < firstBad f (i + 1) n → f j ≡ true) → f j ≡ true
-    go true e k more = ⊎-elim (λ p. rw (← p) e) (λ q. more (omega arith) k) (eq-or-lt-of-le h)
-    go false e k more = absurd (omega arith)
 
 -- a test holds of one of a run's numbers, or of the next
 pub any-more : (f : ℕ → Bool) (i n : ℕ) → anyFrom f i (n + 1) ≡ (anyFrom f i n || f (i + n))

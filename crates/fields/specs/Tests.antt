@@ -91,12 +91,12 @@ module _ (s : List ℕ) (at n : ℕ) where
         let e : k ≡ n = omega arith in
         rw e at (inv .1)
 
-pub sixteen-none : (s : List ℕ) (at : ℕ) {v w : ℕ} → v ≡ num64 (drop at s) → w ≡ num64 (drop (at + 8) s)
+sixteen-none : (s : List ℕ) (at : ℕ) {v w : ℕ} → v ≡ num64 (drop at s) → w ≡ num64 (drop (at + 8) s)
     → eqb (bitOr v w) 0 ≡ isZeros (part s at 16)
 sixteen-none s at {v} {w} e f = or-none v w ∙ rw (eight-none s at e, eight-none s (at + 8) f, zeros-cut s at 8 8) refl
 
 -- two runs that meet or share bytes cover one run
-pub zeros-cover : (s : List ℕ) (at a j r : ℕ) → (isZeros (part s (at + a) (j + r)) && isZeros (part s at (a + j)))
+zeros-cover : (s : List ℕ) (at a j r : ℕ) → (isZeros (part s (at + a) (j + r)) && isZeros (part s at (a + j)))
     ≡ isZeros (part s at (a + (j + r)))
 zeros-cover s at a j r = rw (zeros-cut s at a (j + r), zeros-cut s at a j, zeros-cut s (at + a) j r)
     (go (isZeros (part s at a)) (isZeros (part s (at + a) j)) (isZeros (part s (at + a + j) r)))

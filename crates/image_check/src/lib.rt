@@ -1,6 +1,5 @@
 // The image check: the refusals 1 to 4, lowest number first.
-use bad_records::search::first_bad_operand;
-use bad_records::search::first_bad_outline;
+use bad_records::first_bad_record;
 use block_table::first_bad_row;
 use block_table::rows_ok;
 use image::records::count_labels;
@@ -53,8 +52,7 @@ pub fn record_fault(image: &[u8], n: usize) -> u32
     requires { ⌜ n ≡ labels (now image) ⌝ }
     ensures { λ r. ⌜ r ≡ recordFault (now (image .entry)) ⌝ }
 {
-    let m = first_bad_outline(image, n);
-    let l = first_bad_operand(image, m);
+    let l = first_bad_record(image, n);
     refuse(l == n, BAD_RECORD, l)
 }
 

@@ -1,51 +1,69 @@
--- The places for operands, as the check goes through them: first the bits that must be zero, then the values.
-use mathlib.Core.Path.{_≡_}
-use mathlib.Core.Bool.{Bool, true, cond, _&&_}
+-- The places for operands, tested byte by byte in runs of sixteen: the byte before five places, and their bytes.
+use mathlib.Core.Bool.{Bool, cond}
 use mathlib.Core.List.{List, [], _∷_}
-use Prim.Native.Nat.{ℕ, _+_, _*_, _%_, _-_}
-use lib.Bits.{bitAnd}
-use lib.Dec.{eqb, ltb}
+use Prim.Native.Nat.{ℕ, _+_, _-_, _%_}
+use lib.Bits.{bitAnd, bitOr, bitXor}
+use lib.Dec.{eqb, leb, ltb}
 use lib.ListN.{getD}
-use Rattle.rules.specs.Sizes.{wordCount, registerCount, operandCount, operandsPlace, operandSize}
+use Rattle.rules.specs.Sizes.{operandCount, operandCountPlace}
+use Rattle.rules.specs.Codes.{numberOperandCode, wordOperandCode}
 use Rattle.rules.specs.Bytes.{allFrom}
-use Rattle.rules.specs.Image.{kind, value}
-use Rattle.rules.specs.Check.{operandOk, slotOk}
-
--- the bytes of the places for operands
-abbrev pub placesSize : ℕ
-placesSize = operandSize * operandCount
-
--- a few operands, and the byte after their places
-abbrev pub fewCount : ℕ
-fewCount = 5
-
-abbrev pub fewEnd : ℕ
-fewEnd = operandsPlace + operandSize * fewCount
-
--- the room from the limits of the kinds 0 to 3 up to 65,536
-abbrev pub roomOf : List ℕ
-roomOf = 65536 ∷ 0 ∷ (65536 - registerCount) ∷ (65536 - wordCount) ∷ []
-
--- the bits that are zero in a byte: of a kind in a place that is used those from 4 on, of a value there none, and all in a place that
--- is not used
-abbrev pub markOf : ℕ → ℕ
-markOf j = cond (ltb j placesSize) (cond (eqb (j % operandSize) 0) 252 0) 255
-
-unfoldable pub Marks : List ℕ → Type 0
-Marks m = allFrom (λ j. eqb (getD m j 0) (markOf j)) 0 (2 * placesSize) ≡ true
-
--- byte i of the places of a record with c operands
-unfoldable pub bitsOk : List ℕ → List ℕ → ℕ → ℕ → Bool
-bitsOk m r c i = eqb (bitAnd (getD r (operandsPlace + i) 0) (getD m (placesSize - operandSize * c + i) 0)) 0
-
--- place k: a kind below 4 where it is used, and zero where it is not
-unfoldable pub placeOk : List ℕ → ℕ → ℕ → Bool
-placeOk r c k = cond (ltb k c) (ltb (kind r k) 4) (eqb (kind r k) 0 && eqb (value r k) 0)
-
--- the operand in place k
-unfoldable pub valueOk : List ℕ → ℕ → Bool
-valueOk r k = operandOk (kind r k) (value r k)
+use Rattle.rules.specs.Check.{slotOk}
 
 -- all places for operands of a record
 abbrev pub slotsOk : List ℕ → Bool
 slotsOk r = allFrom (slotOk r) 0 operandCount
+
+-- the bytes of five places, and of a run
+abbrev pub runStep : ℕ
+runStep = 15
+
+abbrev pub runSize : ℕ
+runSize = 16
+
+-- their numbers; all bits of the low bytes of the values, and of the high bytes; the least kind; and the greatest kind, less the least, and
+-- the greatest number of a register in two bytes. The first byte is free
+abbrev pub numbersOf : List ℕ
+numbersOf = 0 ∷ 1 ∷ 2 ∷ 3 ∷ 4 ∷ 5 ∷ 6 ∷ 7 ∷ 8 ∷ 9 ∷ 10 ∷ 11 ∷ 12 ∷ 13 ∷ 14 ∷ 15 ∷ []
+
+abbrev pub lowOf : List ℕ
+lowOf = 0 ∷ 0 ∷ 255 ∷ 0 ∷ 0 ∷ 255 ∷ 0 ∷ 0 ∷ 255 ∷ 0 ∷ 0 ∷ 255 ∷ 0 ∷ 0 ∷ 255 ∷ 0 ∷ []
+
+abbrev pub highOf : List ℕ
+highOf = 0 ∷ 0 ∷ 0 ∷ 255 ∷ 0 ∷ 0 ∷ 255 ∷ 0 ∷ 0 ∷ 255 ∷ 0 ∷ 0 ∷ 255 ∷ 0 ∷ 0 ∷ 255 ∷ []
+
+abbrev pub leastOf : List ℕ
+leastOf = 0 ∷ 1 ∷ 0 ∷ 0 ∷ 1 ∷ 0 ∷ 0 ∷ 1 ∷ 0 ∷ 0 ∷ 1 ∷ 0 ∷ 0 ∷ 1 ∷ 0 ∷ 0 ∷ []
+
+abbrev pub limitOf : List ℕ
+limitOf = 255 ∷ 2 ∷ 24 ∷ 0 ∷ 2 ∷ 24 ∷ 0 ∷ 2 ∷ 24 ∷ 0 ∷ 2 ∷ 24 ∷ 0 ∷ 2 ∷ 24 ∷ 0 ∷ []
+
+-- the bits in which the greatest number of a shared word differs from that of a register
+abbrev pub fewer : ℕ
+fewer = 23
+
+-- the limit of a byte of an operand of this kind
+abbrev pub mostOf : ℕ → ℕ → ℕ
+mostOf k l = cond (eqb k numberOperandCode) 255 l
+
+abbrev pub lessOf : ℕ → ℕ → ℕ
+lessOf k f = cond (eqb k wordOperandCode) f 0
+
+abbrev pub boundOf : ℕ → ℕ → ℕ → ℕ
+boundOf k l f = bitXor (mostOf k l) (lessOf k f)
+
+-- where its place is used a byte, less the least, is up to its limit, round from 0 to 255; and else it is zero
+unfoldable pub byteOk : ℕ → ℕ → ℕ → Bool → Bool
+byteOk x m b used = cond used (leb ((x + (256 - m)) % 256) b) (eqb x 0)
+
+-- byte i of the run at a byte, of a record whose places are used up to another: its kind stands one byte before the low byte of a value,
+-- and two before the high one
+abbrev pub kindAt : List ℕ → ℕ → ℕ → ℕ
+kindAt r at i =
+    bitOr (bitAnd (getD r (operandCountPlace + at + i - 1) 0) (getD lowOf i 0))
+    (bitAnd (getD r (operandCountPlace + at + i - 2) 0) (getD highOf i 0))
+
+unfoldable pub runOk : List ℕ → ℕ → ℕ → ℕ → Bool
+runOk r at end i =
+    byteOk (getD r (operandCountPlace + at + i) 0) (getD leastOf i 0)
+    (boundOf (kindAt r at i) (getD limitOf i 0) (bitAnd fewer (getD lowOf i 0))) (ltb (getD numbersOf i 0 + at) end)

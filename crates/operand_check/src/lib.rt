@@ -1,2 +1,2 @@
-// What the image check tests of the operands of a record.
-pub mod operand_places;
+// The check of the places for operands of a record.
+pub mod runs;

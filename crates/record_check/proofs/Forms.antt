@@ -1,70 +1,229 @@
--- What the opcode of a record asks for, opcode by opcode.
-use mathlib.Core.Path.{_≡_, refl, ap, _∙_}
-use mathlib.Core.Bool.{Bool, true, false, _&&_, and-true, and-false}
+-- What the rules ask of operator, operands and labels is what the line of the opcode asks.
+use mathlib.Core.Path.{_≡_, refl, _∙_}
+use mathlib.Core.Bool.{Bool, true, false, cond, _&&_, and-assoc, false≢true}
 use mathlib.Core.Option.{Option, none, some}
-use mathlib.Core.List.{List, []}
-use Prim.Native.Nat.{ℕ, _≤_, _<_}
+use mathlib.Core.List.{List, [], _∷_}
+use Prim.Native.Nat.{ℕ, _+_, _-_, _%_, _^_, _<_}
+use native.Mathlib.Nat.{zero-div}
 use native.Mathlib.Omega.{arith}
-use lib.Dec.{eqb, ltb}
-use borrow.Author.Tests.{le-leb}
-use Rattle.rules.specs.Sizes.{blockCount, operandCount}
-use Rattle.rules.specs.Image.{opcode, blockField, entry, operator, operands}
-use Rattle.rules.specs.Statements.{operationAt, assignmentOf, others, otherAt, otherOf, statementOf, carried, usage}
+use lib.Dec.{eqb, leb}
+use lib.ListN.{getD, take, drop}
+use borrow.Author.Tests.{eqb-true, eqb-false, leb-true, le-leb, ne-eqb}
+use Rattle.rules.specs.Sizes.{operatorPlace, operandCountPlace}
+use Rattle.rules.specs.Codes.{assignCode, divideCode}
+use Rattle.rules.specs.Bytes.{has, allFrom}
+use Rattle.rules.specs.Image.{opcode, operator, operands, kind}
+use Rattle.rules.specs.Statements.{shape, destinations, forms, operationIn, operationAt, others, otherIn, otherAt}
+use Rattle.rules.specs.Statements.{conditionOf, statementOf, roleA, roleB}
+use Rattle.rules.specs.Check.{assignOk, usageOk, otherOk}
 use Rattle.rules.specs.declared.statement.Operation.{Operation}
+use Rattle.rules.specs.declared.statement.Operation.the-variants.{Copy, Add, Subtract, Multiply, Divide, Pack, Unpack, DecimalAdd}
 use Rattle.rules.specs.declared.statement.Statement.{Statement}
-use Rattle.rules.specs.declared.statement.Statement.the-variants.{Assign}
-use Rattle.rules.specs.Check.{usageOk, otherOk, shapeOk}
-use Rattle.laws.specs.Heads.{few-by}
-use Rattle.decoding.specs.OtherRows.{NoRow, no-row}
-use Rattle.record_check.specs.Forms.{labelsOk, formOk, outlineOk}
+use Rattle.rules.specs.declared.statement.Statement.the-variants.{Skip, If, SendDirect, SendBuffered, Call, Return, Transfer}
+use Rattle.rules.specs.declared.statement.Statement.the-variants.{Exit, SendTree}
+use Rattle.rules.specs.declared.statement.Role.the-variants.{Unused, Inner, Direct, Local, Buffered}
+use Rattle.fields.specs.Each.{Each, each-append}
+use Rattle.fields.specs.Marked.{clear}
+use Rattle.laws.specs.Logic.{and-both}
+use Rattle.record_check.specs.Forms.{bothOk, labelsOk, formOk}
+use Rattle.record_check.specs.Rows.{Asks, Line, line, innerIf, steps, carries, stores, assigns, branches, table, refuses, asksIn}
+use Rattle.record_check.specs.Tests.{summed, secondOk, storesOk}
+use Rattle.record_check.proofs.Sums.{same, plain, chosen}
+use Rattle.record_check.proofs.Lines.{NoLine}
 
--- below n, in the block and of the entry
-pub within : (below same direct : Bool) → (below && same && (below && direct)) ≡ (below && same && direct)
-within true same direct = refl
-within false same direct = refl
+module _ (image r : List ℕ) (bytes : (i : ℕ) → getD r i 0 < 256) where
+  -- operator and operand count are such as are asked for
+  abbrev pub sumOk : Asks → Bool
+  sumOk x =
+      has (summed r) (x .sums) && (clear (operator r) (cond (x .chosen) 248 255) && clear (operands r) (cond (x .chosen) 252 224))
 
-pub no-other : (r : List ℕ) → NoRow (opcode r) others → otherOk r ≡ false
-unfolding otherOk otherAt
-no-other r h = ap (λ (s : Option Statement). usageOk s (operator r) (operands r)) (no-row r (opcode r) others [] h)
+  -- the rules of the opcode are these
+  abbrev pub Holds : Asks → Type 0
+  Holds x = formOk image r
+      ≡ (sumOk x && (storesOk r (x .least) (opcode r) && bothOk image r (x .first) (innerIf (x .second))))
 
-module _ (image r : List ℕ) where
-  abbrev found : Option Operation
-  found = operationAt (opcode r) (operator r)
+  abbrev Fits : Line → Type 0
+  Fits x = opcode r ≡ x .opcode → Holds (x .asks)
 
-  pub too-many : operandCount < operands r → outlineOk image r ≡ false
-  unfolding outlineOk formOk
-  too-many h = go (shapeOk found r) refl
+  abbrev found : ℕ → Option Operation
+  found op = operationIn forms op (operator r)
+
+  -- ---- opcodes that are not of ASSIGN's kind
+
+  no-form : found (opcode r) ≡ none → otherIn others (opcode r) r ≡ none → formOk image r ≡ false
+  unfolding formOk statementOf operationAt otherOk otherAt
+  no-form e f = rw (e, f) refl
+
+  other-form : (s : Statement) → found (opcode r) ≡ none → otherIn others (opcode r) r ≡ some s
+      → formOk image r ≡ (usageOk (some s) (operator r) (operands r) && labelsOk image r s)
+  unfolding formOk statementOf operationAt otherOk otherAt
+  other-form s e f = rw (e, f) refl
+
+  other-fits : (op : ℕ) (s : Statement) (x : Asks) → found op ≡ none → otherIn others op r ≡ some s → eqb op divideCode ≡ false
+      → x .least ≡ 0 → x .first ≡ roleA s → innerIf (x .second) ≡ roleB s
+      → sumOk x ≡ usageOk (some s) (operator r) (operands r) → opcode r ≡ op → Holds x
+  unfolding storesOk
+  other-fits op s x e f d l a b n o = other-form s (rw o e) (rw o f) ∙ rw (o, d, l, a, b, n, le-leb 0 (kind r 0) (omega arith)) refl
+
+  -- ---- opcodes of ASSIGN's kind
+
+  work-form : (k : Operation) → found (opcode r) ≡ some k
+      → formOk image r ≡ (eqb (operands r) (destinations (shape k) + cond (shape k .right) 2 1)
+      && (leb 2 (kind r 0) && cond (shape k .second) (secondOk r) true && bothOk image r Inner Unused))
+  unfolding formOk statementOf operationAt assignOk
+  work-form k e = rw e (simp and-assoc)
+
+  work-fits : (op c : ℕ) (k : Operation) → found op ≡ cond (eqb (operator r) 0) (some k) none → otherIn others op r ≡ none
+      → eqb op divideCode ≡ shape k .second → destinations (shape k) + cond (shape k .right) 2 1 ≡ c
+      → sumOk (stores c) ≡ (eqb (operator r) 0 && eqb (operands r) c) → opcode r ≡ op → Holds (stores c)
+  unfolding storesOk
+  work-fits op c k e f d n s o = rw (s, o, d) (go (eqb (operator r) 0) refl)
     where
-      go : (q : Bool) → shapeOk found r ≡ q
-          → (ltb (blockField r) blockCount && ltb (entry r) 4 && (q && labelsOk image r (statementOf r))) ≡ false
-      go true e = absurd (omega (arith, few-by found r e))
-      go false e = and-false (ltb (blockField r) blockCount && ltb (entry r) 4)
+      go : (t : Bool) → eqb (operator r) 0 ≡ t
+          → formOk image r ≡ (t && eqb (operands r) c
+          && (leb 2 (kind r 0) && cond (shape k .second) (secondOk r) true && bothOk image r Inner Unused))
+      go true p = rw n at (work-form k (rw (o, e, p) refl))
+      go false p = no-form (rw (o, e, p) refl) (rw o f)
 
-  -- where the block and the entry are in range, the rest is what the opcode asks for
-  pub begun : (ltb (blockField r) blockCount && ltb (entry r) 4) ≡ true → outlineOk image r ≡ formOk image r
-  unfolding outlineOk
-  begun e = rw e refl
+  -- ASSIGN: copy has two operands, and each other operator three
+  abbrev assigned : ℕ → ℕ → Bool
+  assigned o c = cond (eqb o 1) (eqb c 2) (cond (eqb o 2) (eqb c 3) (cond (eqb o 3) (eqb c 3) (cond (eqb o 4) (eqb c 3) false)))
 
-  pub not-begun : (ltb (blockField r) blockCount && ltb (entry r) 4) ≡ false → outlineOk image r ≡ false
-  unfolding outlineOk
-  not-begun e = rw e refl
+  few-assigned : (o c : ℕ) → assigned o c ≡ true → (o < 8) × (c < 4)
+  few-assigned o c = go (eqb o 1) (eqb o 2) (eqb o 3) (eqb o 4) refl refl refl refl
+    where
+      go : (s t u v : Bool) → eqb o 1 ≡ s → eqb o 2 ≡ t → eqb o 3 ≡ u → eqb o 4 ≡ v
+          → cond s (eqb c 2) (cond t (eqb c 3) (cond u (eqb c 3) (cond v (eqb c 3) false))) ≡ true → (o < 8) × (c < 4)
+      go true t u v p q w z e = (omega (arith, eqb-true o 1 p), omega (arith, eqb-true c 2 e))
+      go false true u v p q w z e = (omega (arith, eqb-true o 2 q), omega (arith, eqb-true c 3 e))
+      go false false true v p q w z e = (omega (arith, eqb-true o 3 w), omega (arith, eqb-true c 3 e))
+      go false false false true p q w z e = (omega (arith, eqb-true o 4 z), omega (arith, eqb-true c 3 e))
+      go false false false false p q w z e = absurd (false≢true e)
 
-  -- what the opcode asks for, once it is known
-  pub form-assign : (k : Operation) → found ≡ some k
-      → formOk image r ≡ (shapeOk (some k) r && labelsOk image r (Assign (assignmentOf k r)))
-  unfolding formOk statementOf
-  form-assign k e = rw e refl
+  assign-fits : Fits (line assignCode assigns)
+  unfolding storesOk allFrom
+  assign-fits h =
+      rw (chosen (assigns .sums) assigned refl few-assigned (operator r) (operands r) (bytes operatorPlace) (bytes operandCountPlace), h)
+      (go (eqb (operator r) 1) (eqb (operator r) 2) (eqb (operator r) 3) (eqb (operator r) 4) refl refl refl refl)
+    where
+      go : (s t u v : Bool) → eqb (operator r) 1 ≡ s → eqb (operator r) 2 ≡ t → eqb (operator r) 3 ≡ u → eqb (operator r) 4 ≡ v
+          → formOk image r ≡ (cond s (eqb (operands r) 2) (cond t (eqb (operands r) 3) (cond u (eqb (operands r) 3)
+          (cond v (eqb (operands r) 3) false)))
+          && (leb 2 (kind r 0) && true && bothOk image r Inner Unused))
+      go true t u v p q w z = work-form Copy (rw (h, p) refl)
+      go false true u v p q w z = work-form Add (rw (h, p, q) refl)
+      go false false true v p q w z = work-form Subtract (rw (h, p, q, w) refl)
+      go false false false true p q w z = work-form Multiply (rw (h, p, q, w, z) refl)
+      go false false false false p q w z = no-form (rw (h, p, q, w, z) refl) (rw h refl)
 
-  pub form-none : found ≡ none → formOk image r ≡ (otherOk r && labelsOk image r (otherOf r))
-  unfolding formOk statementOf
-  form-none e = rw e refl
+  -- IF: one of two operators, with two operands
+  abbrev compared : ℕ → ℕ → Bool
+  compared o c = leb 1 o && leb o 2 && eqb c 2
 
-  pub form-other : (s : Statement) → otherAt r ≡ some s
-      → (otherOk r && labelsOk image r (otherOf r)) ≡ (usageOk (some s) (operator r) (operands r) && labelsOk image r s)
-  unfolding otherOk
-  form-other s e = rw e refl
+  few-compared : (o c : ℕ) → compared o c ≡ true → (o < 8) × (c < 4)
+  few-compared o c e =
+      let two = and-both (leb 1 o && leb o 2) (eqb c 2) e in
+      (omega (arith, leb-true o 2 (and-both (leb 1 o) (leb o 2) (two .0) .1)), omega (arith, eqb-true c 2 (two .1)))
 
-  -- an opcode with data: no operator, and any count of operands
-  pub form-carried : (s : Statement) → otherAt r ≡ some s → usage s .operators ≡ 0 → usage s .sources ≡ carried → operands r ≤ operandCount
-      → (otherOk r && labelsOk image r (otherOf r)) ≡ (eqb (operator r) 0 && labelsOk image r s)
-  form-carried s e f g h = form-other s e ∙ rw (f, g, le-leb (operands r) operandCount h, and-true) refl
+  compared-sum : sumOk branches ≡ compared (operator r) (operands r)
+  unfolding allFrom
+  compared-sum =
+      chosen (branches .sums) compared refl few-compared (operator r) (operands r) (bytes operatorPlace) (bytes operandCountPlace)
+
+  -- ---- the table
+
+  plainly : (sums : ℕ) (count : ℕ → Bool) → allFrom (λ c. same (has (c % 32) sums && clear c 224) (count c)) 0 256 ≡ true
+      → (has (summed r) sums && (clear (operator r) 255 && clear (operands r) 224)) ≡ (eqb (operator r) 0 && count (operands r))
+  plainly sums count test = plain sums count test (operator r) (operands r) (bytes operatorPlace) (bytes operandCountPlace)
+
+  none-sum : (has (summed r) 1 && (clear (operator r) 255 && clear (operands r) 224)) ≡ (eqb (operator r) 0 && eqb (operands r) 0)
+  unfolding allFrom
+  none-sum = plainly 1 (λ c. eqb c 0) refl
+
+  any-sum : (has (summed r) (2 ^ 26 - 1) && (clear (operator r) 255 && clear (operands r) 224))
+      ≡ (eqb (operator r) 0 && leb (operands r) 25)
+  unfolding allFrom
+  any-sum = plainly (2 ^ 26 - 1) (λ c. leb c 25) refl
+
+  steps-fit : Each Fits (take 4 table)
+  steps-fit = (
+    other-fits 1 Skip (steps Inner) refl refl refl refl refl refl none-sum,
+    (
+      other-fits 3 Skip (steps Inner) refl refl refl refl refl refl none-sum,
+      (
+        assign-fits,
+        (other-fits 4 (If (conditionOf r)) branches refl refl refl refl refl refl compared-sum, tt),
+      ),
+    ),
+  )
+
+  signals-fit : Each Fits (take 7 (drop 4 table))
+  signals-fit = (
+    other-fits 5 SendDirect (carries Direct false) refl refl refl refl refl refl any-sum,
+    (
+      other-fits 6 SendBuffered (carries Buffered true) refl refl refl refl refl refl any-sum,
+      (
+        other-fits 11 SendTree (carries Buffered true) refl refl refl refl refl refl any-sum,
+        (
+          other-fits 7 Call (carries Direct true) refl refl refl refl refl refl any-sum,
+          (
+            other-fits 8 Return (carries Unused false) refl refl refl refl refl refl any-sum,
+            (
+              other-fits 9 Transfer (carries Local false) refl refl refl refl refl refl any-sum,
+              (other-fits 10 Exit (steps Unused) refl refl refl refl refl refl none-sum, tt),
+            ),
+          ),
+        ),
+      ),
+    ),
+  )
+
+  works-fit : Each Fits (drop 11 table)
+  unfolding allFrom
+  works-fit = (
+    work-fits 12 4 Divide refl refl refl refl (plainly 16 (λ c. eqb c 4) refl),
+    (
+      work-fits 13 2 Pack refl refl refl refl (plainly 4 (λ c. eqb c 2) refl),
+      (
+        work-fits 14 2 Unpack refl refl refl refl (plainly 4 (λ c. eqb c 2) refl),
+        (work-fits 15 3 DecimalAdd refl refl refl refl (plainly 8 (λ c. eqb c 3) refl), tt),
+      ),
+    ),
+  )
+
+  all-fit : Each Fits table
+  all-fit =
+      each-append Fits (take 4 table) (drop 4 table) steps-fit
+      (each-append Fits (take 7 (drop 4 table)) (drop 11 table) signals-fit works-fit)
+
+  pub no-opcode : NoLine (opcode r) table → formOk image r ≡ false
+  no-opcode h = no-form (simp (
+    ne-eqb (opcode r) 2 (h .1 .1 .0),
+    ne-eqb (opcode r) 12 (h .1 .1 .1 .1 .1 .1 .1 .1 .1 .1 .1 .0),
+    ne-eqb (opcode r) 13 (h .1 .1 .1 .1 .1 .1 .1 .1 .1 .1 .1 .1 .0),
+    ne-eqb (opcode r) 14 (h .1 .1 .1 .1 .1 .1 .1 .1 .1 .1 .1 .1 .1 .0),
+    ne-eqb (opcode r) 15 (h .1 .1 .1 .1 .1 .1 .1 .1 .1 .1 .1 .1 .1 .1 .0),
+  )) (simp (
+    ne-eqb (opcode r) 1 (h .0),
+    ne-eqb (opcode r) 3 (h .1 .0),
+    ne-eqb (opcode r) 4 (h .1 .1 .1 .0),
+    ne-eqb (opcode r) 5 (h .1 .1 .1 .1 .0),
+    ne-eqb (opcode r) 6 (h .1 .1 .1 .1 .1 .0),
+    ne-eqb (opcode r) 7 (h .1 .1 .1 .1 .1 .1 .1 .0),
+    ne-eqb (opcode r) 8 (h .1 .1 .1 .1 .1 .1 .1 .1 .0),
+    ne-eqb (opcode r) 9 (h .1 .1 .1 .1 .1 .1 .1 .1 .1 .0),
+    ne-eqb (opcode r) 10 (h .1 .1 .1 .1 .1 .1 .1 .1 .1 .1 .0),
+    ne-eqb (opcode r) 11 (h .1 .1 .1 .1 .1 .1 .0),
+  ))
+
+  lookup : (xs : List Line) → Each Fits xs → (NoLine (opcode r) xs → Holds refuses) → Holds (asksIn xs (opcode r))
+  lookup [] e h = h tt
+  lookup (x ∷ xs) e h = go (eqb (opcode r) (x .opcode)) refl (lookup xs (e .1))
+    where
+      go : (t : Bool) → eqb (opcode r) (x .opcode) ≡ t → ((NoLine (opcode r) xs → Holds refuses) → Holds (asksIn xs (opcode r)))
+          → Holds (cond t (x .asks) (asksIn xs (opcode r)))
+      go true q more = e .0 (eqb-true (opcode r) (x .opcode) q)
+      go false q more = more (λ no. h (eqb-false (opcode r) (x .opcode) q, no))
+
+  pub opcode-holds : Holds (asksIn table (opcode r))
+  opcode-holds = lookup table all-fit (λ no. no-opcode no ∙ rw (zero-div (2 ^ summed r)) refl)

@@ -1,1 +1,5 @@
+pub mod Sums
+pub mod Labels
+pub mod Lines
 pub mod Forms
+pub mod Allowed

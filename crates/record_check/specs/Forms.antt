@@ -4,12 +4,11 @@ use mathlib.Core.List.{List}
 use Prim.Native.Nat.{ℕ}
 use lib.Dec.{ltb}
 use Rattle.rules.specs.Sizes.{blockCount}
-use Rattle.rules.specs.Image.{opcode, blockField, entry, operator, labelA, labelB, kind, value}
+use Rattle.rules.specs.Image.{opcode, blockField, entry, operator, labelA, labelB}
 use Rattle.rules.specs.Statements.{operationAt, statementOf, roleA, roleB}
 use Rattle.rules.specs.declared.statement.Statement.{Statement}
 use Rattle.rules.specs.declared.statement.Role.{Role}
-use Rattle.rules.specs.declared.statement.Shape.{Shape}
-use Rattle.rules.specs.Check.{assignOk, shapeOk, labelOk}
+use Rattle.rules.specs.Check.{shapeOk, labelOk}
 
 -- what the opcode asks of the operator, the operands and the labels
 abbrev pub bothOk : List ℕ → List ℕ → Role → Role → Bool
@@ -17,10 +16,6 @@ bothOk image r a b = labelOk image a (blockField r) (labelA r) && labelOk image 
 
 abbrev pub labelsOk : List ℕ → List ℕ → Statement → Bool
 labelsOk image r s = bothOk image r (roleA s) (roleB s)
-
--- of ASSIGN's kind: the count c, and the destinations of the record r
-abbrev pub assignmentOk : Shape → ℕ → List ℕ → Bool
-assignmentOk s c r = assignOk s c (kind r 0) (value r 0) (kind r 1) (value r 1)
 
 unfoldable pub formOk : List ℕ → List ℕ → Bool
 formOk image r = shapeOk (operationAt (opcode r) (operator r)) r && labelsOk image r (statementOf r)

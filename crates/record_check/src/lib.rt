@@ -1,2 +1,3 @@
 // What the image check tests of a record, but for its operands.
-pub mod rule;
+pub mod outline;
+pub mod rows;

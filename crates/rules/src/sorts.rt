@@ -40,12 +40,6 @@ pub fn block_number(b: Block) -> u8
     b.0
 }
 
-pub fn same_block(a: Block, b: Block) -> bool
-    ensures { λ r. ⌜ r ≡ eqb (a .0) (b .0) ⌝ }
-{
-    a.0 == b.0
-}
-
 pub fn thread_of(number: u8) -> Thread
     ensures { λ r. ⌜ r ≡ thread number ⌝ }
 {
