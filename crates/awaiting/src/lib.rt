@@ -1,5 +1,5 @@
 // Whom a thread waits for, asked without carrying its step out.
-use image::records::record_at;
+use image::records::record_of;
 use passage::Passage;
 use passage::call_passage;
 use passage::send_passage;
@@ -79,5 +79,5 @@ pub fn awaited(image: &[u8], table: &[u8], state: &[u8], t: Thread) -> Waits
         return idle_waits(image, table, state, t);
     }
     let label = w.label;
-    running_waits(image, table, state, t, w, record_at(image, label))
+    running_waits(image, table, state, t, w, record_of(image, label))
 }

@@ -2,9 +2,8 @@
 use fields::read::all_zero;
 use fields::read::get8;
 use fields::read::get16;
-use image::records::count_labels;
-use image::records::entry_at;
-use image::records::index_of;
+use image::record_fields::entry_field;
+use image::records::record_at;
 use rules::codes::ARRIVAL;
 use rules::codes::CUT;
 use rules::codes::EXTERNAL;
@@ -21,20 +20,19 @@ ghost use Prim.Native.Nat.{_+_, _*_, _≤_};
 ghost use lib.ListN.{length, drop};
 ghost use Rattle.rules.specs.Sizes.{eventSize};
 ghost use Rattle.rules.specs.Bytes.{firstBad};
-ghost use Rattle.rules.specs.Image.{labels};
 ghost use Rattle.rules.specs.Events.{arrivalOk, turnOk, eventAtOk};
 
 // An arrival has thread zero, a label of entry 3, a count 0 to 25 and zeros in what is unused.
-pub fn arrival_ok(image: &[u8], n: usize, s: &[u8], at: usize) -> bool
-    requires { ⌜ (n ≡ labels (now image)) × (at + eventSize ≤ length (now s)) ⌝ }
+pub fn arrival_ok(image: &[u8], s: &[u8], at: usize) -> bool
+    requires { ⌜ at + eventSize ≤ length (now s) ⌝ }
     ensures { λ r. ⌜ r ≡ arrivalOk (now (image .entry)) (drop at (now (s .entry))) ⌝ }
 {
-    let l = label_of(get16(s, at + EVENT_SIGNAL_PLACE));
-    if n <= index_of(l) {
+    let r = record_at(image, label_of(get16(s, at + EVENT_SIGNAL_PLACE)));
+    if r.len() == 0 {
         return false;
     }
     (s[at + EVENT_THREAD_PLACE] == 0)
-        & (entry_at(image, l) == EXTERNAL)
+        & (entry_field(r) == EXTERNAL)
         & signal_tidy(s, at + EVENT_SIGNAL_PLACE)
 }
 
@@ -48,14 +46,14 @@ pub fn turn_ok(s: &[u8], at: usize) -> bool
 }
 
 // The event at an index breaks no rule.
-pub fn event_ok(image: &[u8], n: usize, events: &[u8], i: usize) -> bool
-    requires { ⌜ (n ≡ labels (now image)) × (eventSize * i + eventSize ≤ length (now events)) ⌝ }
+pub fn event_ok(image: &[u8], events: &[u8], i: usize) -> bool
+    requires { ⌜ eventSize * i + eventSize ≤ length (now events) ⌝ }
     ensures { λ r. ⌜ r ≡ eventAtOk (now (image .entry)) (now (events .entry)) i ⌝ }
 {
     let at = EVENT_SIZE * i;
     let kind = events[at];
     if kind == ARRIVAL {
-        return arrival_ok(image, n, events, at);
+        return arrival_ok(image, events, at);
     }
     ((kind == STEP) | (kind == CUT)) & turn_ok(events, at)
 }
@@ -65,10 +63,9 @@ pub fn first_bad_event(image: &[u8], events: &[u8], m: usize) -> usize
     requires { ⌜ eventSize * m ≤ length (now events) ⌝ }
     ensures { λ r. ⌜ r ≡ firstBad (eventAtOk (now (image .entry)) (now (events .entry))) 0 m ⌝ }
 {
-    let n = count_labels(image);
     let mut i = 0;
     while i < m {
-        if !event_ok(image, n, events, i) {
+        if !event_ok(image, events, i) {
             return i;
         }
         i += 1;

@@ -50,8 +50,8 @@ fn found_next(image: &[u8], table: &[u8], state: &mut [u8], g: Signal, i: usize,
     requires { ⌜ Canonical (now state) × (i < count → Admissible (now image) (now table) (now state) g) ⌝ }
     ensures { λ n. ⌜ (n ≡ length (lost (rulesBy (now (image .entry)) (now (table .entry))) (only (ltb i count) (signalOf g))
         (machineFrom (now (state .entry))))) × (n ≤ 1) ⌝ }
-    ensures { λ _. ⌜ Encodes (now (state .exit)) (admitted (rulesBy (now (image .entry)) (now (table .entry))) (only (ltb i count) (signalOf g))
-        (machineFrom (now (state .entry)))) ⌝ }
+    ensures { λ _. ⌜ Encodes (now (state .exit)) (admitted (rulesBy (now (image .entry)) (now (table .entry)))
+        (only (ltb i count) (signalOf g)) (machineFrom (now (state .entry)))) ⌝ }
 {
     if i < count {
         return found_tree(image, table, state, g);

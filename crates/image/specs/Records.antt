@@ -1,8 +1,9 @@
 -- The laws of the image's records: how many there are, and the bytes of each.
-use mathlib.Core.Path.{_≡_, refl, sym}
+use mathlib.Core.Path.{_≡_, refl, sym, ap, _∙_}
 use mathlib.Core.Bool.{Bool, true, false, cond, _&&_}
 use mathlib.Core.List.{List, [], _∷_}
 use Prim.Native.Nat.{ℕ, zero, suc, _+_, _*_, _-_, _/_, _≤_, _<_}
+use native.Mathlib.Nat.{lt-of-not-le}
 use native.Mathlib.Omega.{arith}
 use lib.Dec.{leb, eqb}
 use lib.ListN.{length, getD, take, drop, length-drop}
@@ -87,3 +88,14 @@ module _ (s : List ℕ) (l : ℕ) (h : l < labels s) where
 
   pub record-byte : (j d : ℕ) → j < recordSize → getD (recordAt s l) j d ≡ getD s (recordSize * l + j) 0
   record-byte j d k = rw (record-part, getD-take, getD-drop) (getD-any s (recordSize * l + j) d 0 (omega (arith, record-fits)))
+
+-- the part at a label that may be none: empty exactly where the image does not have it
+module _ (s : List ℕ) (l : ℕ) {r : List ℕ} (e : r ≡ recordAt s l) where
+  pub none-past : length r ≡ 0 → labels s ≤ l
+  none-past z = omega (arith, lt-of-not-le {n = suc l} {m = labels s} (λ h. omega (arith, length-record s l h, ap length e)))
+
+  pub some-below : (length r ≡ 0 → ⊥) → l < labels s
+  some-below k = lt-of-not-le (λ h. k (ap length (e ∙ no-record s l h)))
+
+  pub some-long : (length r ≡ 0 → ⊥) → length r ≡ recordSize
+  some-long k = ap length e ∙ length-record s l (some-below k)

@@ -1,6 +1,7 @@
 // The fields of a record, each in its sort.
 use fields::read::get16;
 use rules::layout::BLOCK_PLACE;
+use rules::layout::ENTRY_PLACE;
 use rules::layout::LABEL_A_PLACE;
 use rules::layout::LABEL_B_PLACE;
 use rules::layout::OPERAND_COUNT_PLACE;
@@ -12,13 +13,20 @@ ghost use mathlib.Core.Path.{_≡_};
 ghost use lib.ListN.{length};
 ghost use Rattle.rules.specs.Sorts.{label, block};
 ghost use Rattle.rules.specs.Sizes.{recordSize};
-ghost use Rattle.rules.specs.Image.{blockField, labelA, labelB, operands};
+ghost use Rattle.rules.specs.Image.{blockField, entry, labelA, labelB, operands};
 
 pub fn block_field(r: &[u8]) -> Block
     requires { ⌜ length (now r) ≡ recordSize ⌝ }
     ensures { λ b. ⌜ b ≡ block (blockField (now (r .entry))) ⌝ }
 {
     block_of(r[BLOCK_PLACE])
+}
+
+pub fn entry_field(r: &[u8]) -> u8
+    requires { ⌜ length (now r) ≡ recordSize ⌝ }
+    ensures { λ e. ⌜ e ≡ entry (now (r .entry)) ⌝ }
+{
+    r[ENTRY_PLACE]
 }
 
 pub fn label_a(r: &[u8]) -> Label

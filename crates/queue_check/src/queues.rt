@@ -3,8 +3,8 @@ use block_table::thread_at;
 use fields::read::all_zero;
 use fields::read::get8;
 use fields::read::get16;
-use image::records::block_at;
-use image::records::index_of;
+use image::record_fields::block_field;
+use image::records::record_at;
 use rules::layout::PENDING_COUNT_PLACE;
 use rules::layout::SIGNALS_PLACE;
 use rules::layout::THREAD_SIZE;
@@ -24,7 +24,7 @@ ghost use lib.ListN.{length, drop};
 ghost use Rattle.rules.specs.Sizes.{threadCount, treeCount, threadSize, treeSize, wordsSize, stateSize};
 ghost use Rattle.rules.specs.Sorts.{thread};
 ghost use Rattle.rules.specs.Bytes.{chunks};
-ghost use Rattle.rules.specs.Image.{labels, rowAt};
+ghost use Rattle.rules.specs.Image.{rowAt};
 ghost use Rattle.rules.specs.Encoding.{threadFrom, treeFrom};
 ghost use Rattle.rules.specs.Steps.{blockAt};
 ghost use Rattle.rules.specs.WellFormed.{homed};
@@ -45,32 +45,33 @@ pub fn flag_running(state: &[u8], flags: &mut [u8])
 }
 
 // The thread of a label's block; where there is no record, one that nobody has.
-pub fn home(image: &[u8], n: usize, table: &[u8], l: Label) -> Thread
-    requires { ⌜ Passed (now image) (now table) × (n ≡ labels (now image)) ⌝ }
+pub fn home(image: &[u8], table: &[u8], l: Label) -> Thread
+    requires { ⌜ Passed (now image) (now table) ⌝ }
     ensures { λ r. ⌜ r ≡ thread (rowAt (now (table .entry)) (blockAt (now (image .entry)) (l .0)) .thread) ⌝ }
 {
-    if index_of(l) < n {
-        thread_at(table, block_at(image, l))
-    } else {
+    let r = record_at(image, l);
+    if r.len() == 0 {
         thread_of(Thread::COUNT as u8)
+    } else {
+        thread_at(table, block_field(r))
     }
 }
 
 // Whether a tree has a signal pending and belongs to the thread of the first one's block.
-pub fn is_homed(image: &[u8], n: usize, table: &[u8], s: &[u8], at: usize) -> bool
-    requires { ⌜ Passed (now image) (now table) × (n ≡ labels (now image)) × (at + treeSize ≤ length (now s)) ⌝ }
+pub fn is_homed(image: &[u8], table: &[u8], s: &[u8], at: usize) -> bool
+    requires { ⌜ Passed (now image) (now table) × (at + treeSize ≤ length (now s)) ⌝ }
     ensures { λ r. ⌜ r ≡ homed (now (image .entry)) (now (table .entry)) (treeFrom (drop at (now (s .entry)))) ⌝ }
 {
     if s[at + PENDING_COUNT_PLACE] == 0 {
         return false;
     }
-    s[at] == thread_number(home(image, n, table, label_of(get16(s, at + SIGNALS_PLACE))))
+    s[at] == thread_number(home(image, table, label_of(get16(s, at + SIGNALS_PLACE))))
 }
 
 // Every tree is good. A running thread's first tree may stand where it stands; any other has to belong there. At the end no running
 // thread is without a tree.
-pub fn trees_good(image: &[u8], n: usize, table: &[u8], state: &[u8], count: usize) -> bool
-    requires { ⌜ Passed (now image) (now table) × (n ≡ labels (now image)) × (length (now state) ≡ stateSize) × (count ≤ treeCount) ⌝ }
+pub fn trees_good(image: &[u8], table: &[u8], state: &[u8], count: usize) -> bool
+    requires { ⌜ Passed (now image) (now table) × (length (now state) ≡ stateSize) × (count ≤ treeCount) ⌝ }
     ensures { λ r. ⌜ r ≡ treesGood (now (image .entry)) (now (table .entry)) (now (state .entry)) count ⌝ }
 {
     let mut unmet = [0u8; Thread::COUNT];
@@ -78,11 +79,11 @@ pub fn trees_good(image: &[u8], n: usize, table: &[u8], state: &[u8], count: usi
     let mut i = 0;
     while i < count {
         let at = TREES_PLACE + TREE_SIZE * i;
-        if !tree_good(image, n, state, at) {
+        if !tree_good(image, state, at) {
             return false;
         }
         let t = get8(state, at);
-        if !((unmet[t] != 0) | is_homed(image, n, table, state, at)) {
+        if !((unmet[t] != 0) | is_homed(image, table, state, at)) {
             return false;
         }
         unmet[t] = 0;

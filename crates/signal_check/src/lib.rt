@@ -2,8 +2,8 @@
 use fields::read::all_zero;
 use fields::read::get8;
 use fields::read::get16;
-use image::records::entry_at;
-use image::records::index_of;
+use image::record_fields::entry_field;
+use image::records::record_at;
 use rules::codes::BUFFERED;
 use rules::codes::EXTERNAL;
 use rules::layout::SIGNAL_SIZE;
@@ -15,7 +15,6 @@ ghost use mathlib.Core.Path.{_≡_};
 ghost use Prim.Native.Nat.{_+_, _*_, _≤_};
 ghost use lib.ListN.{length, drop};
 ghost use Rattle.rules.specs.Sizes.{signalSize};
-ghost use Rattle.rules.specs.Image.{labels};
 ghost use Rattle.rules.specs.WellFormed.{signalTidy};
 ghost use Rattle.signal_check.specs.Signals.{signalGood, signalsGood};
 
@@ -36,28 +35,21 @@ pub fn signal_tidy(s: &[u8], at: usize) -> bool
 }
 
 // A tidy signal, with a label below n of entry 2, or of entry 3 too where `external`.
-pub fn signal_good(image: &[u8], n: usize, s: &[u8], at: usize, external: bool) -> bool
-    requires { ⌜ (n ≡ labels (now image)) × (at + signalSize ≤ length (now s)) ⌝ }
+pub fn signal_good(image: &[u8], s: &[u8], at: usize, external: bool) -> bool
+    requires { ⌜ at + signalSize ≤ length (now s) ⌝ }
     ensures { λ r. ⌜ r ≡ signalGood (now (image .entry)) external (drop at (now (s .entry))) ⌝ }
 {
-    let l = label_of(get16(s, at));
-    if n <= index_of(l) {
+    let r = record_at(image, label_of(get16(s, at)));
+    if r.len() == 0 {
         return false;
     }
-    let entry = entry_at(image, l);
+    let entry = entry_field(r);
     signal_tidy(s, at) & ((entry == BUFFERED) | (external & (entry == EXTERNAL)))
 }
 
 // Up to `most` such signals behind their count, and zeros in the place of others.
-pub fn signals_good(
-    image: &[u8],
-    n: usize,
-    s: &[u8],
-    at: usize,
-    most: usize,
-    external: bool,
-) -> bool
-    requires { ⌜ (n ≡ labels (now image)) × (at + 1 + signalSize * most ≤ length (now s)) ⌝ }
+pub fn signals_good(image: &[u8], s: &[u8], at: usize, most: usize, external: bool) -> bool
+    requires { ⌜ at + 1 + signalSize * most ≤ length (now s) ⌝ }
     ensures { λ r. ⌜ r ≡ signalsGood (now (image .entry)) external most at (now (s .entry)) ⌝ }
 {
     let count = get8(s, at);
@@ -68,7 +60,7 @@ pub fn signals_good(
     let mut ok = all_zero(s, first + SIGNAL_SIZE * count, SIGNAL_SIZE * (most - count));
     let mut j = 0;
     while j < count {
-        ok = ok & signal_good(image, n, s, first + SIGNAL_SIZE * j, external);
+        ok = ok & signal_good(image, s, first + SIGNAL_SIZE * j, external);
         j += 1;
     }
     ok

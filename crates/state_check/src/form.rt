@@ -1,7 +1,6 @@
 // Whether a lent state is well formed.
 use fields::read::all_zero;
 use fields::read::get8;
-use image::records::count_labels;
 use lock_check::locks::locks_apart;
 use queue_check::queues::trees_good;
 use rules::layout::TREE_COUNT_PLACE;
@@ -24,12 +23,11 @@ pub fn well_formed(image: &[u8], table: &[u8], state: &[u8]) -> bool
     if Tree::COUNT < count {
         return false;
     }
-    let n = count_labels(image);
-    let threads = threads_good(image, n, table, state) & locks_apart(state);
+    let threads = threads_good(image, table, state) & locks_apart(state);
     let unused = all_zero(
         state,
         TREES_PLACE + TREE_SIZE * count,
         TREE_SIZE * (Tree::COUNT - count),
     );
-    threads & unused & trees_good(image, n, table, state, count)
+    threads & unused & trees_good(image, table, state, count)
 }

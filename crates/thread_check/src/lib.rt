@@ -6,8 +6,8 @@ use block_table::thread_at;
 use fields::read::all_zero;
 use fields::read::get8;
 use fields::read::get16;
-use image::records::block_at;
-use image::records::index_of;
+use image::record_fields::block_field;
+use image::records::record_at;
 use lock_sets::held::holds;
 use lock_sets::held::number_held;
 use register_check::running_tidy;
@@ -29,44 +29,44 @@ ghost use Prim.Native.Nat.{_+_, _≤_};
 ghost use lib.ListN.{length, getD, drop};
 ghost use Rattle.rules.specs.Sizes.{threadCount, returnCount, returnCountPlace, threadSize, stateSize};
 ghost use Rattle.rules.specs.Bytes.{allFrom};
-ghost use Rattle.rules.specs.Image.{labels};
 ghost use Rattle.rules.specs.WellFormed.{placeOk};
 ghost use Rattle.laws.specs.Passed.{Passed};
 ghost use Rattle.thread_check.specs.Places.{placesOk, threadGood, threadAtGood};
 
-pub fn place_ok(image: &[u8], n: usize, table: &[u8], t: Thread, locks: u16, l: Label) -> bool
-    requires { ⌜ Passed (now image) (now table) × (n ≡ labels (now image)) ⌝ }
+pub fn place_ok(image: &[u8], table: &[u8], t: Thread, locks: u16, l: Label) -> bool
+    requires { ⌜ Passed (now image) (now table) ⌝ }
     ensures { λ r. ⌜ r ≡ placeOk (now (image .entry)) (now (table .entry)) (t .0) locks (l .0) ⌝ }
 {
-    if n <= index_of(l) {
+    let r = record_at(image, l);
+    if r.len() == 0 {
         return false;
     }
-    let b = block_at(image, l);
+    let b = block_field(r);
     let own = same_thread(thread_at(table, b), t);
     holds(locks, lock_at(table, b)) & ((kind_at(table, b) == CMX) | own)
 }
 
 // The label and the return labels of a thread record.
-pub fn places_ok(image: &[u8], n: usize, table: &[u8], t: Thread, s: &[u8], at: usize) -> bool
-    requires { ⌜ Passed (now image) (now table) × (n ≡ labels (now image)) × (at + threadSize ≤ length (now s))
+pub fn places_ok(image: &[u8], table: &[u8], t: Thread, s: &[u8], at: usize) -> bool
+    requires { ⌜ Passed (now image) (now table) × (at + threadSize ≤ length (now s))
         × (getD (now s) (at + returnCountPlace) 0 ≤ returnCount) ⌝ }
     ensures { λ r. ⌜ r ≡ placesOk (now (image .entry)) (now (table .entry)) (t .0) (drop at (now (s .entry))) ⌝ }
 {
     let locks = get16(s, at + LOCKS_PLACE);
     let returns = get8(s, at + RETURN_COUNT_PLACE);
-    let mut ok = place_ok(image, n, table, t, locks, label_of(get16(s, at)));
+    let mut ok = place_ok(image, table, t, locks, label_of(get16(s, at)));
     let mut k = 0;
     while k < returns {
         let l = label_of(get16(s, at + RETURNS_PLACE + 2 * k));
-        ok = ok & place_ok(image, n, table, t, locks, l);
+        ok = ok & place_ok(image, table, t, locks, l);
         k += 1;
     }
     ok
 }
 
 // A thread record: tidy bytes, and a thread that is well formed. A running thread holds a lock, that of its label's block.
-pub fn thread_good(image: &[u8], n: usize, table: &[u8], t: Thread, s: &[u8], at: usize) -> bool
-    requires { ⌜ Passed (now image) (now table) × (n ≡ labels (now image)) × (at + threadSize ≤ length (now s)) ⌝ }
+pub fn thread_good(image: &[u8], table: &[u8], t: Thread, s: &[u8], at: usize) -> bool
+    requires { ⌜ Passed (now image) (now table) × (at + threadSize ≤ length (now s)) ⌝ }
     ensures { λ r. ⌜ r ≡ threadGood (now (image .entry)) (now (table .entry)) (t .0) (drop at (now (s .entry))) ⌝ }
 {
     if get16(s, at) == Label::IDLE {
@@ -78,12 +78,12 @@ pub fn thread_good(image: &[u8], n: usize, table: &[u8], t: Thread, s: &[u8], at
     if !running_tidy(s, at) {
         return false;
     }
-    places_ok(image, n, table, t, s, at)
-        & signals_good(image, n, s, at + HELD_COUNT_PLACE, Thread::HELD, false)
+    places_ok(image, table, t, s, at)
+        & signals_good(image, s, at + HELD_COUNT_PLACE, Thread::HELD, false)
 }
 
-pub fn threads_good(image: &[u8], n: usize, table: &[u8], state: &[u8]) -> bool
-    requires { ⌜ Passed (now image) (now table) × (n ≡ labels (now image)) × (length (now state) ≡ stateSize) ⌝ }
+pub fn threads_good(image: &[u8], table: &[u8], state: &[u8]) -> bool
+    requires { ⌜ Passed (now image) (now table) × (length (now state) ≡ stateSize) ⌝ }
     ensures { λ r. ⌜ r ≡ allFrom (threadAtGood (now (image .entry)) (now (table .entry)) (now (state .entry))) 0 threadCount ⌝ }
 {
     let mut ok = true;
@@ -92,7 +92,6 @@ pub fn threads_good(image: &[u8], n: usize, table: &[u8], state: &[u8]) -> bool
         ok = ok
             & thread_good(
                 image,
-                n,
                 table,
                 thread_of(t as u8),
                 state,

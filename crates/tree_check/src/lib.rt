@@ -8,14 +8,13 @@ ghost use mathlib.Core.Path.{_≡_};
 ghost use Prim.Native.Nat.{_+_, _≤_};
 ghost use lib.ListN.{length, drop};
 ghost use Rattle.rules.specs.Sizes.{treeSize};
-ghost use Rattle.rules.specs.Image.{labels};
 ghost use Rattle.tree_check.specs.Trees.{treeGood};
 
 // A tree record: tidy bytes, and a tree that is well formed.
-pub fn tree_good(image: &[u8], n: usize, s: &[u8], at: usize) -> bool
-    requires { ⌜ (n ≡ labels (now image)) × (at + treeSize ≤ length (now s)) ⌝ }
+pub fn tree_good(image: &[u8], s: &[u8], at: usize) -> bool
+    requires { ⌜ at + treeSize ≤ length (now s) ⌝ }
     ensures { λ r. ⌜ r ≡ treeGood (now (image .entry)) (drop at (now (s .entry))) ⌝ }
 {
     (get8(s, at) < Thread::COUNT)
-        & signals_good(image, n, s, at + PENDING_COUNT_PLACE, Tree::PENDING, true)
+        & signals_good(image, s, at + PENDING_COUNT_PLACE, Tree::PENDING, true)
 }

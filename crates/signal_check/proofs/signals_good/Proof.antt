@@ -8,10 +8,10 @@ use Rattle.signal_check.proofs.signals_good.Statement.{statement}
 use Rattle.signal_check.proofs.signals_good.Tie as tie
 
 abbrev Inv-loop : tie.InvT-loop
-Inv-loop image n s at most external count first ok₀ j₀ ok j = Tested ok₀ (signalAtGood image external at s) count j ok
+Inv-loop image s at most external count first ok₀ j₀ ok j = Tested ok₀ (signalAtGood image external at s) count j ok
 
 abbrev μ-loop : tie.MeasureT-loop
-μ-loop image n s at most external count first ok₀ j₀ ok j = count - j
+μ-loop image s at most external count first ok₀ j₀ ok j = count - j
 
 returns : tie.Need-returns Inv-loop μ-loop
 returns c =

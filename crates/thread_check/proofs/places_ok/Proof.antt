@@ -9,20 +9,16 @@ use Rattle.thread_check.proofs.places_ok.Statement.{statement}
 use Rattle.thread_check.proofs.places_ok.Tie as tie
 
 abbrev Inv-loop : tie.InvT-loop
-Inv-loop image n table t s at locks returns ok₀ k₀ ok k = Tested ok₀ (returnOk image table (t .0) (drop at s)) returns k ok
+Inv-loop image table t s at locks returns ok₀ k₀ ok k = Tested ok₀ (returnOk image table (t .0) (drop at s)) returns k ok
 
 abbrev μ-loop : tie.MeasureT-loop
-μ-loop image n table t s at locks returns ok₀ k₀ ok k = returns - k
+μ-loop image table t s at locks returns ok₀ k₀ ok k = returns - k
 
 label-of-requires : tie.Need-label-of-requires Inv-loop μ-loop
 label-of-requires c κs = tt
 
 place-ok-requires : tie.Need-place-ok-requires Inv-loop μ-loop
-place-ok-requires c κs = (
-  c .before .before .before .before .before .before .before .pre .0,
-  c .before .before .before .before .before
-      .before .before .pre .1,
-)
+place-ok-requires c κs = c .before .before .before .before .before .before .before .pre .0
 
 loop-holds : tie.Need-loop-holds Inv-loop μ-loop
 loop-holds c =
@@ -34,10 +30,7 @@ label-of-requires-2 : tie.Need-label-of-requires-2 Inv-loop μ-loop
 label-of-requires-2 c κs = tt
 
 place-ok-requires-2 : tie.Need-place-ok-requires-2 Inv-loop μ-loop
-place-ok-requires-2 c κs = (
-  c .before .before .before .before .before .before .before .before .before .before .before .before .pre .0,
-  c .before .before .before .before .before .before .before .before .before .before .before .before .pre .1,
-)
+place-ok-requires-2 c κs = c .before .before .before .before .before .before .before .before .before .before .before .before .pre .0
 
 loop-again : tie.Need-loop-again Inv-loop μ-loop
 loop-again c =

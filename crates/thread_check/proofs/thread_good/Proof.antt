@@ -33,7 +33,7 @@ places-ok-requires : tie.Need-places-ok-requires
 places-ok-requires c κs =
     let a = c .before .before .before .before .before .before .before .before .before .before .args in
     let p = c .before .before .before .before .before .before .before .before .before .before .pre in
-    (p .0, p .1, p .2, few-returns (now (a .s)) (a .at) (sym (c .before .running-tidy .ensures) ∙ not-false _ (c .if3 .left)))
+    (p .0, p .1, few-returns (now (a .s)) (a .at) (sym (c .before .running-tidy .ensures) ∙ not-false _ (c .if3 .left)))
 
 returns-4 : tie.Need-returns-4
 returns-4 c =

@@ -10,10 +10,10 @@ use Rattle.thread_check.proofs.threads_good.Statement.{statement}
 use Rattle.thread_check.proofs.threads_good.Tie as tie
 
 abbrev Inv-loop : tie.InvT-loop
-Inv-loop image n table state ok₀ t₀ ok t = Tested true (threadAtGood image table state) threadCount t ok
+Inv-loop image table state ok₀ t₀ ok t = Tested true (threadAtGood image table state) threadCount t ok
 
 abbrev μ-loop : tie.MeasureT-loop
-μ-loop image n table state ok₀ t₀ ok t = threadCount - t
+μ-loop image table state ok₀ t₀ ok t = threadCount - t
 
 loop-holds : tie.Need-loop-holds Inv-loop μ-loop
 loop-holds c =
@@ -24,12 +24,7 @@ thread-of-requires : tie.Need-thread-of-requires Inv-loop μ-loop
 thread-of-requires c κs = tt
 
 thread-good-requires : tie.Need-thread-good-requires Inv-loop μ-loop
-thread-good-requires c κs = (
-  c .before .before .before .before .before .before .pre .0,
-  c .before .before .before .before .before .before
-      .pre .1,
-  omega arith,
-)
+thread-good-requires c κs = (c .before .before .before .before .before .before .pre .0, omega arith)
 
 loop-again : tie.Need-loop-again Inv-loop μ-loop
 loop-again c =

@@ -15,10 +15,10 @@ use Rattle.queue_check.proofs.queues.trees_good.Statement.{statement}
 use Rattle.queue_check.proofs.queues.trees_good.Tie as tie
 
 abbrev Inv-loop : tie.InvT-loop
-Inv-loop image n table state count unmet₀ i₀ unmet i = Passing image table state count unmet i
+Inv-loop image table state count unmet₀ i₀ unmet i = Passing image table state count unmet i
 
 abbrev μ-loop : tie.MeasureT-loop
-μ-loop image n table state count unmet₀ i₀ unmet i = count - i
+μ-loop image table state count unmet₀ i₀ unmet i = count - i
 
 slice-aggregate-flag-running : tie.Need-slice-aggregate-flag-running Inv-loop μ-loop
 slice-aggregate-flag-running c = search needs
@@ -52,11 +52,7 @@ array-read-if2 c =
     )
 
 is-homed-requires : tie.Need-is-homed-requires Inv-loop μ-loop
-is-homed-requires c κs = (
-  c .before .before .before .before .before .before .before .before .before .before .before .pre .0,
-  c .before .before .before .before .before .before .before .before .before .before .before .pre .1,
-  omega arith,
-)
+is-homed-requires c κs = (c .before .before .before .before .before .before .before .before .before .before .before .pre .0, omega arith)
 
 returns-2 : tie.Need-returns-2 Inv-loop μ-loop
 returns-2 c =

@@ -15,23 +15,17 @@ returns c =
 
 threads-good-requires : tie.Need-threads-good-requires
 threads-good-requires c κs =
-    let a = c .before .before .before .before .before .before .args in
-    let p = c .before .before .before .before .before .before .pre in
-    (passed (now (a .image)) (now (a .table)) [] (p .0) .0, c .count-labels .ensures, p .1)
+    let s = c .before .before .before .before .before in
+    (passed (now (s .args .image)) (now (s .args .table)) [] (s .pre .0) .0, s .pre .1)
 
 trees-good-requires : tie.Need-trees-good-requires
 trees-good-requires c κs =
-    let a = c .before .before .before .before .before .before .before .before .before .args in
-    let p = c .before .before .before .before .before .before .before .before .before .pre in (
-      passed (now (a .image)) (now (a .table)) [] (p .0) .0,
-      c .before .before .before .count-labels .ensures,
-      p .1,
-      c .before .before .before .before .if1 .left,
-    )
+    let s = c .before .before .before .before .before .before .before .before in
+    (passed (now (s .args .image)) (now (s .args .table)) [] (s .pre .0) .0, s .pre .1, c .before .before .before .if1 .left)
 
 returns-2 : tie.Need-returns-2
 returns-2 c =
-    let a = c .before .before .before .before .before .before .before .before .before .before .args in
+    let a = c .before .before .before .before .before .before .before .before .before .args in
     simp (
       c .trees-good .ensures,
       c .before .all-zero .ensures,
@@ -39,8 +33,8 @@ returns-2 c =
       c .before .before .before
           .threads-good .ensures,
     )
-    (sym (state-few (now (a .image)) (now (a .table)) (now (a .state)) (c .before .before .before .before .before .before .get8 .result)
-    (c .before .before .before .before .before .before .get8 .ensures .0) (c .before .before .before .before .before .if1 .left)))
+    (sym (state-few (now (a .image)) (now (a .table)) (now (a .state)) (c .before .before .before .before .before .get8 .result)
+    (c .before .before .before .before .before .get8 .ensures .0) (c .before .before .before .before .if1 .left)))
 
 pub well-formed-spec : {M : Type 1} → statement M
 well-formed-spec =
@@ -48,7 +42,6 @@ well-formed-spec =
     (tie.spec
     (λ c κs. search needs)
     returns
-    (λ c κs. search needs)
     threads-good-requires
     (λ c κs. search needs)
     (λ c. search needs)
