@@ -19,7 +19,8 @@ use Rattle.fields.specs.Put as bytes
 use Rattle.encoding.specs.Encoded.{Canonical, Encodes}
 use Rattle.threads.specs.Held.{no-signals}
 use Rattle.threads.specs.Threads.{Running, idleThread, idle-thread}
-use Rattle.threads.specs.Records.{threadPlace, rawThread, rawBytes, same-signals}
+use Rattle.threads.specs.Records.{threadPlace, rawThread, rawBytes}
+use Rattle.threads.specs.Same.{same-signals}
 use Rattle.threads.specs.declared.thread.ThreadState.{ThreadState}
 use Rattle.thread_records.specs.Stores.{HeldThere}
 use Rattle.thread_records.specs.Records.{Busy, thread-written}

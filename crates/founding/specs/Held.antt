@@ -22,7 +22,8 @@ use Rattle.encoding.specs.Sized.{SizedSignal}
 use Rattle.encoding.specs.Slots.{returnsIn, presentIn, registersIn, signalsIn}
 use Rattle.threads.specs.Held.{held-counted, held-pushed, same-held}
 use Rattle.threads.specs.Threads.{Running, Runs, jobOf, returnsOf, registersOf, signalsOf, runs-fields}
-use Rattle.threads.specs.Records.{threadPlace, rawThread, rawBytes, same-returns, same-registers}
+use Rattle.threads.specs.Records.{threadPlace, rawThread, rawBytes}
+use Rattle.threads.specs.Same.{same-returns, same-registers}
 use Rattle.threads.specs.declared.thread.ThreadState.{ThreadState}
 use Rattle.signal_records.specs.Signals.{TidySignal}
 use Rattle.operands.specs.Readings.{Given}

@@ -26,7 +26,8 @@ use Rattle.encoding.specs.Slots.{registersIn}
 use Rattle.step_laws.specs.Statements.{unread}
 use Rattle.image.specs.Records.{labels-small, length-record}
 use Rattle.threads.specs.Threads.{jobOf, returnsOf, Running, idle-says, runs-says}
-use Rattle.threads.specs.Records.{rawThread, returns-counted}
+use Rattle.threads.specs.Records.{rawThread}
+use Rattle.threads.specs.Same.{returns-counted}
 use Rattle.threads.specs.declared.thread.ThreadState.{ThreadState}
 use Rattle.thread_records.specs.Records.{Busy}
 use Rattle.operands.specs.Legal.{Below, Readable, label-below}

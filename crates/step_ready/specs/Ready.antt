@@ -18,8 +18,8 @@ use Rattle.encoding.specs.Encoded.{Encodes, Canonical, encoded-machine, encoded
 use Rattle.soundness.specs.Sound.{Sound}
 use Rattle.soundness.specs.StaysWellFormed.{Accepted, sound-react}
 use Rattle.threads.specs.Threads.{Says, Running, Runs, jobOf, keeping, returnsOf, registersOf, withJob, runs-fields, runs-itself, says-runs}
-use Rattle.threads.specs.Records.{threadPlace, rawThread, rawBytes, same-thread, same-returns, same-signals, set-registers}
-use Rattle.threads.specs.Records.{returns-counted}
+use Rattle.threads.specs.Records.{threadPlace, rawThread, rawBytes}
+use Rattle.threads.specs.Same.{same-thread, same-returns, same-signals, set-registers, returns-counted}
 use Rattle.threads.specs.declared.thread.ThreadState.{ThreadState}
 use Rattle.thread_records.specs.Stores.{HeadThere, HeldThere}
 use Rattle.thread_records.specs.Records.{thread-read, thread-written}

@@ -5,3 +5,4 @@ pub mod Held
 pub mod Threads
 pub mod Filling
 pub mod Records
+pub mod Same

@@ -1,13 +1,12 @@
 -- The bytes of a thread's state: written they are those of the thread that it says, and read they say the thread that they are of.
 use mathlib.Core.Path.{_≡_, refl, sym, ap, _∙_}
 use mathlib.Core.Bool.{Bool, true, false, cond, _&&_}
-use mathlib.Core.Option.{Option, some}
 use mathlib.Core.List.{List, [], _∷_, _++_, map, append-assoc}
 use Prim.Native.Nat.{ℕ, zero, suc, _+_, _*_, _-_, _≤_, _<_}
 use native.Mathlib.Nat.{add-zero}
 use native.Mathlib.Omega.{arith}
 use lib.Dec.{eqb}
-use lib.ListN.{length, getD, set, take, drop, replicate, length-append, length-drop, length-replicate, getD-replicate, take-append-drop}
+use lib.ListN.{length, getD, take, drop, replicate, length-append, length-drop, length-replicate, getD-replicate, take-append-drop}
 use lib.Seq.{drop-at, drop-drop, ext-getD, getD-drop, getD-take, length-take-le, take-all, take-at}
 use borrow.Author.Tests.{eqb-true, eqb-false}
 use Rattle.rules.specs.Sorts.{label}
@@ -15,7 +14,7 @@ use Rattle.rules.specs.Sizes.{returnCount, registerCount, heldCount, threadSize
 use Rattle.rules.specs.Sizes.{returnsPlace, presencePlace, registersPlace, heldCountPlace, heldPlace, heldSize, idleLabel}
 use Rattle.rules.specs.Bytes.{num16, num32, part, isZeros, blocks, pad, chunks}
 use Rattle.rules.specs.Machine as law
-use Rattle.rules.specs.Machine.{Job, heldOf, idle, running}
+use Rattle.rules.specs.Machine.{heldOf, idle, running}
 use Rattle.rules.specs.Encoding.{noSignal, signalBytes, signalsBytes, valueOr0, presence, threadRaw, threadBytes, threadFrom, jobFrom}
 use Rattle.rules.specs.WellFormed.{absentZero, runningTidy, signalsTidy, threadTidy}
 use Rattle.fields.specs.Blocks.{pad-full, pad-split}
@@ -28,8 +27,8 @@ use Rattle.encoding.specs.Registers.{length-registers, presence-forth, values-f
 use Rattle.encoding.specs.Threads.{RunningRead, running-read, thread-back, thread-tidy, held-behind, held-sized}
 use Rattle.threads.specs.Returns.{TidyReturns}
 use Rattle.threads.specs.Registers.{none-registers, none-tidy}
-use Rattle.threads.specs.Held.{TidyHeld, no-signals, held-of, same-held}
-use Rattle.threads.specs.Threads.{stateOf, jobOf, returnsOf, registersOf, signalsOf, Tidy, Says, Runs, runs-fields}
+use Rattle.threads.specs.Held.{TidyHeld, no-signals, held-of}
+use Rattle.threads.specs.Threads.{stateOf, jobOf, registersOf, signalsOf, Tidy, Says}
 use Rattle.threads.specs.declared.thread.ThreadState.{ThreadState}
 
 -- where the record of a thread stands in a state
@@ -56,16 +55,16 @@ rawThread b = record {
 -- ---- written
 
 -- what is in use, filled up with zeros, is the whole
-padded : (n k : ℕ) (l : List ℕ) → length l ≡ n → k ≤ n → drop k l ≡ replicate (n - k) 0 → pad 0 n (take k l) ≡ pad 0 n l
+pub padded : (n k : ℕ) (l : List ℕ) → length l ≡ n → k ≤ n → drop k l ≡ replicate (n - k) 0 → pad 0 n (take k l) ≡ pad 0 n l
 padded n k l e h z =
     let t : length (take k l) ≡ k = length-take-le k l (omega arith) in
     pad-split 0 n (take k l) (omega arith) ∙ rw (t, ← z) (take-append-drop k l) ∙ sym (pad-full 0 n l e)
 
 module _ (w : ThreadState) (z : Tidy w) where
-  present-is : presence (registersOf w) ≡ w .present
+  pub present-is : presence (registersOf w) ≡ w .present
   present-is = presence-forth (w .present) (w .registers) 0 registerCount (omega (arith, z .registers .within)) ∙ omega arith
 
-  values-are : map valueOr0 (registersOf w) ≡ w .registers
+  pub values-are : map valueOr0 (registersOf w) ≡ w .registers
   values-are =
       values-forth (w .present) (w .registers) 0 registerCount (omega (arith, z .registers .sized))
       (λ i l h. z .registers .absent i (omega arith))
@@ -103,63 +102,6 @@ module _ (w : ThreadState) (z : Tidy w) where
       go : (b : Bool) → eqb (w .label .0) idleLabel ≡ b → threadBytes (cond b idle (running (w .locks) (jobOf w))) ≡ rawBytes w
       go true e = idle-bytes (eqb-true (w .label .0) idleLabel e)
       go false e = running-bytes
-
--- ---- the slots of a tidy thread are what its job says
-
-values-set : (l : List (Option ℕ)) (k v : ℕ) → map valueOr0 (set l k (some v)) ≡ set (map valueOr0 l) k v
-values-set [] k v = refl
-values-set (x ∷ l) zero v = refl
-values-set (x ∷ l) (suc k) v = ap (λ q. valueOr0 x ∷ q) (values-set l k v)
-
-module _ (w w′ : ThreadState) (z : Tidy w) (z′ : Tidy w′) where
-  pub same-returns : returnsOf w′ ≡ returnsOf w → w′ .returns ≡ w .returns
-  same-returns e =
-      let f = padded returnCount (w .depth) (w .returns) (z .returns .sized) (z .returns .within) (z .returns .unused)
-      ∙ pad-full 0 returnCount (w .returns) (z .returns .sized) in
-      let f′ = padded returnCount (w′ .depth) (w′ .returns) (z′ .returns .sized) (z′ .returns .within) (z′ .returns .unused)
-      ∙ pad-full 0 returnCount (w′ .returns) (z′ .returns .sized) in
-      sym f′ ∙ ap (pad 0 returnCount) e ∙ f
-
-  pub same-registers : registersOf w′ ≡ registersOf w → (w′ .present ≡ w .present) × (w′ .registers ≡ w .registers)
-  same-registers e = (
-    sym (present-is w′ z′) ∙ ap presence e ∙ present-is w z,
-    sym (values-are w′ z′) ∙ ap (map valueOr0) e ∙ values-are w z,
-  )
-
-  pub same-signals : signalsOf w′ ≡ signalsOf w → (w′ .held ≡ w .held) × (w′ .signals ≡ w .signals)
-  same-signals e =
-      let f : w′ .held ∷ w′ .signals ≡ w .held ∷ w .signals = same-held (z′ .held) (z .held) e in
-      (ap (λ l. getD l 0 0) f, ap (drop 1) f)
-
-  pub set-registers : (k v : ℕ) → registersOf w′ ≡ set (registersOf w) k (some v) → w′ .registers ≡ set (w .registers) k v
-  set-registers k v e = sym (values-are w′ z′) ∙ ap (map valueOr0) e ∙ values-set (registersOf w) k v
-      ∙ ap (λ l. set l k v) (values-are w z)
-
--- as many return labels as are counted
-pub returns-counted : (w : ThreadState) → Tidy w → length (returnsOf w) ≡ w .depth
-returns-counted w z = length-take-le (w .depth) (w .returns) (omega (arith, z .returns .sized, z .returns .within))
-
--- two threads that run the same job with the same locks are the same
-pub same-thread : {w w′ : ThreadState} {locks : ℕ} {j : Job} → Runs w locks j → Runs w′ locks j → w′ ≡ w
-same-thread {w} {w′} r r′ =
-    let f = runs-fields r in
-    let f′ = runs-fields r′ in
-    let z = r .running .tidy in
-    let z′ = r′ .running .tidy in
-    let job : jobOf w′ ≡ jobOf w = f′ .1 ∙ sym (f .1) in
-    let depth : w′ .depth ≡ w .depth = sym (returns-counted w′ z′) ∙ ap (λ (q : Job). length (q .returns)) job ∙ returns-counted w z in
-    let registers = same-registers w w′ z z′ (ap (λ (q : Job). q .registers) job) in
-    let signals = same-signals w w′ z z′ (ap (λ (q : Job). q .held) job) in
-    λ i. record {
-      label = label (ap (λ (q : Job). q .label) job i);
-      locks = (f′ .0 ∙ sym (f .0)) i;
-      depth = depth i;
-      returns = same-returns w w′ z z′ (ap (λ (q : Job). q .returns) job) i;
-      present = registers .0 i;
-      registers = registers .1 i;
-      held = signals .0 i;
-      signals = signals .1 i;
-    }
 
 -- ---- read
 
