@@ -37,7 +37,7 @@ static const struct {
     /* An arm an operation: none goes through the others' tests. */
     {"run, PACK", 119, 0},
     /* The passage into a block is compiled into the step, and the lock that the job has is not searched for. */
-    {"run, SEND of 0 values", 126, 0},
+    {"run, SEND of 0 values", 123, 0},
     /* The kind of an operand is tested once, where it is read. */
     {"run, SEND of 25 values", 595, 0},
     /* SEND JOBTREE writes the one new signal; an end stores constants, and clears signals only where some are held. */

@@ -90,7 +90,9 @@ fn passage_to(
     if holds(own, lock) {
         return Passage::Go(lock);
     }
-    let holder = other_holder(state, lock, t);
+    // The state is lent anew, so that only a thread that asks others writes it down for the call.
+    let others = &state[0..];
+    let holder = other_holder(others, lock, t);
     if holder < Thread::COUNT {
         return Passage::Wait(lock, thread_of(holder as u8));
     }

@@ -1,11 +1,12 @@
 use mathlib.Core.Path.{_≡_, refl, sym, _∙_}
 use mathlib.Core.Bool.{true, false}
-use mathlib.Core.List.{[]}
-use Prim.Native.Nat.{ℕ, _≤_, _<_}
+use mathlib.Core.List.{List, []}
+use Prim.Native.Nat.{ℕ, _-_, _≤_, _<_}
 use borrow.Author.Needs.{needs}
 use native.Mathlib.Omega.{arith}
 use borrow.Author.Tests.{ne-eqb, lt-ltb, le-ltb}
-use lib.ListN.{length}
+use lib.ListN.{length, take}
+use lib.Seq.{take-all}
 use Rattle.rules.specs.Sizes.{threadCount, blockCount, lockCount, tableSize}
 use Rattle.rules.specs.Image.{Row, rowAt}
 use Rattle.rules.specs.Machine.{Machine}
@@ -61,12 +62,17 @@ own c =
     (l .lock-at .result .0) (s .pre .1 .sized .threads) (s .pre .3) (sym (c .before .holds .ensures) ∙ c .if3 .taken)) in
     omega (arith, e)
 
+-- the state lent anew is all of it
+all-of : (b : List ℕ) → take (length b - 0) b ≡ b
+all-of b = take-all (length b - 0) b (omega arith)
+
 -- who else holds it
 finds : (c : tie.After-other-holder)
-    → c .other-holder .result ≡ other (c .before .before .before .before .before .before .before .before .before .before .before)
+    → c .other-holder .result ≡ other (c .before .before .before .before .before .before .before .before .before .before .before .before)
 finds c =
-    let l = c .before .before .before .before .before in
-    rw (l .lock-at .ensures, l .before .block-at .ensures) at (c .other-holder .ensures)
+    let l = c .before .before .before .before .before .before in
+    let s = l .before .before .before .before .before .before in
+    rw (l .lock-at .ensures, l .before .block-at .ensures, all-of (s .args .state .now)) at (c .other-holder .ensures)
 
 returns : tie.Need-returns
 unfolding passageTo
@@ -99,28 +105,29 @@ returns-3 c =
 
 other-holder-requires : tie.Need-other-holder-requires
 other-holder-requires c κs =
-    let l = c .before .before .before .before in
-    (l .before .before .before .before .before .before .pre .1, lock-small l)
+    let l = c .before .before .before .before .before in
+    let s = l .before .before .before .before .before .before in
+    (rw (all-of (s .args .state .now)) (s .pre .1), lock-small l)
 
 returns-4 : tie.Need-returns-4
 returns-4 c =
     let o = c .before .before in
-    let l = o .before .before .before .before .before in
+    let l = o .before .before .before .before .before .before in
     let s = l .before .before .before .before .before .before in
     let f = finds o in
     rw (c .thread-of .ensures, f, l .lock-at .ensures, l .before .block-at .ensures)
     (sym (passage-on (machine s) (row s) (s .args .t .0) (s .args .earlier) (l .before .before .if1 .left) false true
-    (not-alien (o .before .before .before)) (lt-ltb _ threadCount (rw f at (c .before .if4 .taken)))))
+    (not-alien (o .before .before .before .before)) (lt-ltb _ threadCount (rw f at (c .before .if4 .taken)))))
 
 returns-5 : tie.Need-returns-5
 returns-5 c =
     let o = c .before in
-    let l = o .before .before .before .before .before in
+    let l = o .before .before .before .before .before .before in
     let s = l .before .before .before .before .before .before in
     let free : threadCount ≤ other s = omega (arith, finds o, c .if4 .left) in
     rw (l .lock-at .ensures, l .before .block-at .ensures)
     (sym (passage-on (machine s) (row s) (s .args .t .0) (s .args .earlier) (l .before .before .if1 .left) false false
-    (not-alien (o .before .before .before)) (le-ltb _ threadCount free)))
+    (not-alien (o .before .before .before .before)) (le-ltb _ threadCount free)))
 
 pub passage-to-spec : {M : Type 1} → statement M
 passage-to-spec =
@@ -133,6 +140,9 @@ passage-to-spec =
     returns-2
     holds-requires
     returns-3
+    (λ c. omega arith)
+    (λ c. omega arith)
+    (λ c. omega arith)
     other-holder-requires
     (λ c. omega arith)
     (λ c κs. search needs)
