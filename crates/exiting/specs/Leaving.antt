@@ -14,7 +14,9 @@ use Rattle.rules.specs.declared.statement.Statement.the-variants.{Exit}
 use Rattle.fields.specs.Each.{Each, each-at}
 use Rattle.laws.specs.Admitted.{admitted-threads, admitted-thread, lost-thread}
 use Rattle.soundness.specs.Sound.{HeldIn, ThreadIn}
-use Rattle.encoding.specs.Encoded.{Encodes, encoded-machine}
+use Rattle.encoding.specs.Encoded.{Canonical, Encodes, encoded-machine, encoded-canonical}
+use Rattle.signal_records.specs.Signals.{signalOf, TidySignal}
+use Rattle.signal_records.specs.declared.Signal as Value
 use Rattle.threads.specs.Held.{held-counted, no-signals}
 use Rattle.threads.specs.Threads.{signalsOf, jobOf}
 use Rattle.threads.specs.declared.thread.ThreadState.{ThreadState}
@@ -22,7 +24,7 @@ use Rattle.step_laws.specs.Statements.{leaves}
 use Rattle.step_ready.specs.Ready.{Recorded, Stepped, Ended, done, still-recorded}
 use Rattle.step_ready.specs.At.{At, tree, statement-here}
 use Rattle.ending.specs.Home.{settled}
-use Rattle.exiting.specs.Admitting.{Through, places, four-places}
+use Rattle.exiting.specs.Admitting.{Admissible, Through, places, four-places}
 
 module _ {image table b : List ℕ} {t : ℕ} {w : ThreadState} {r : List ℕ} (h : At image table b t w r) where
   abbrev m : Machine
@@ -35,10 +37,17 @@ module _ {image table b : List ℕ} {t : ℕ} {w : ThreadState} {r : List ℕ} (
   counted = held-counted (w .held) (w .signals) (h .thread .tidy .held)
 
   -- the signals that the job holds have entry 2
-  pub held-in : (i : ℕ) {g : Signal} → g ≡ getD gs i noSignal → i < w .held → HeldIn image table g
+  held-in : (i : ℕ) {g : Signal} → g ≡ getD gs i noSignal → i < w .held → HeldIn image table g
   held-in i e l =
       let each : Each (HeldIn image table) gs = subst (ThreadIn image table t) (h .runs) (h .ready .sound .threads t) .held in
       rw e (each-at (HeldIn image table) gs i noSignal each (omega (arith, counted)))
+
+  -- so the one at a place can be admitted to every state that is a machine's
+  pub admissible : {b′ : List ℕ} {s : Machine} (i : ℕ) {v : Value.Signal} → Encodes b′ s
+      → (signalOf v ≡ getD gs i noSignal) × TidySignal v → Canonical b′ × (i < w .held → Admissible image table b′ v)
+  admissible {b′} {s} i k (e, z) =
+      let c = encoded-canonical b′ s k in
+      (c, λ l. record { checked = h .ready .checked; canonical = c; entry = held-in i e l; tidy = z })
 
   -- those at the four places are all
   pub all-held : {s : Machine} {k : ℕ} {b′ : List ℕ} {x₀ x₁ x₂ x₃ : Signal} → x₀ ≡ getD gs 0 noSignal → x₁ ≡ getD gs 1 noSignal

@@ -10,7 +10,7 @@ use Rattle.threads.specs.Threads.{signalsOf}
 use Rattle.step_ready.specs.At.{at-busy}
 use Rattle.ending.specs.Home.{settled}
 use Rattle.exiting.specs.Admitting.{Through, through-none, through-more}
-use Rattle.exiting.specs.Leaving.{held-in, all-held, still-runs, left, lost-there}
+use Rattle.exiting.specs.Leaving.{admissible, all-held, still-runs, left, lost-there}
 use Rattle.exiting.proofs.end_holding.Statement.{statement}
 use Rattle.exiting.proofs.end_holding.Tie as tie
 
@@ -20,36 +20,30 @@ settle-requires c κs = let h = c .before .before .before .before .before .befor
 
 found-next-requires : tie.Need-found-next-requires
 found-next-requires c κs =
-    let h = c .before .before .before .before .before .before .before .before .before .before .before .before .before .pre in
-    let k = encoded-canonical _ _ (c .before .before .before .settle .ensures) in
-    let g = c .before .before .before .before .before .before .before .before .held-signal .ensures in
-    (k, λ l. record { checked = h .ready .checked; canonical = k; entry = held-in h 0 (g .0) l; tidy = g .1 })
+    admissible (c .before .before .before .before .before .before .before .before .before .before .before .before .before .pre) 0 (c
+    .before .before .before .settle .ensures)
+    (c .before .before .before .before .before .before .before .before .held-signal .ensures)
 
 found-next-requires-2 : tie.Need-found-next-requires-2
 found-next-requires-2 c κs =
-    let h = c .before .before .before .before .before .before .before .before .before .before .before .before .before .before .before
-    .before .before .pre in
-    let k = encoded-canonical _ _ (c .before .before .before .found-next .ensures .1) in
-    let g = c .before .before .before .before .before .before .before .before .before .before .before .held-signal2 .ensures in
-    (k, λ l. record { checked = h .ready .checked; canonical = k; entry = held-in h 1 (g .0) l; tidy = g .1 })
+    admissible (c .before .before .before .before .before .before .before .before .before .before .before .before .before .before
+    .before .before .before .pre) 1 (c .before .before .before .found-next .ensures .1)
+    (c .before .before .before .before .before .before .before .before .before .before .before .held-signal2 .ensures)
 
 found-next-requires-3 : tie.Need-found-next-requires-3
 found-next-requires-3 c κs =
-    let h = c .before .before .before .before .before .before .before .before .before .before .before .before .before .before .before
-    .before .before .before .before .before .before .pre in
-    let k = encoded-canonical _ _ (c .before .before .before .found-next2 .ensures .1) in
-    let g = c .before .before .before .before .before .before .before .before .before .before .before .before .before .before
-    .held-signal3 .ensures in
-    (k, λ l. record { checked = h .ready .checked; canonical = k; entry = held-in h 2 (g .0) l; tidy = g .1 })
+    admissible (c .before .before .before .before .before .before .before .before .before .before .before .before .before .before
+    .before .before .before .before .before .before .before .pre) 2 (c .before .before .before .found-next2 .ensures .1)
+    (c .before .before .before .before .before .before .before .before .before .before .before .before .before .before .held-signal3
+    .ensures)
 
 found-next-requires-4 : tie.Need-found-next-requires-4
 found-next-requires-4 c κs =
-    let h = c .before .before .before .before .before .before .before .before .before .before .before .before .before .before .before
-    .before .before .before .before .before .before .before .before .before .before .pre in
-    let k = encoded-canonical _ _ (c .before .before .before .found-next3 .ensures .1) in
-    let g = c .before .before .before .before .before .before .before .before .before .before .before .before .before .before .before
-    .before .before .held-signal4 .ensures in
-    (k, λ l. record { checked = h .ready .checked; canonical = k; entry = held-in h 3 (g .0) l; tidy = g .1 })
+    admissible (c .before .before .before .before .before .before .before .before .before .before .before .before .before .before
+    .before .before .before .before .before .before .before .before .before .before .before .pre) 3 (c .before .before .before
+    .found-next3 .ensures .1)
+    (c .before .before .before .before .before .before .before .before .before .before .before .before .before .before .before .before
+    .before .held-signal4 .ensures)
 
 abbrev start : tie.After-found-next4 → tie.Start
 start c = c .before .before .before .before .before .before .before .before .before .before .before .before .before .before .before .before
