@@ -17,14 +17,10 @@ static inline uint32_t answer(uint32_t code, uint32_t detail)
     return (uint32_t)code | detail << 8;
 }
 
-/* So many values are few. */
-enum { FEW_VALUES = 4 };
-
-/* Values with zeros behind them. Few are stored one by one: a copy of all the bytes would wait until the stores of two
- * bytes that it reads are done. With many that wait is shorter than so many stores, and for none there is no wait. */
+/* Given what read_data wrote: the values, and zeros behind them. */
 static inline void put_values(uint8_t *values, const uint8_t *data, uint32_t count)
 {
-    if (count == 0 || count > FEW_VALUES) {
+    if (count > FEW_VALUES) {
         memcpy(values, data, VALUES_SIZE);
         return;
     }
@@ -33,12 +29,11 @@ static inline void put_values(uint8_t *values, const uint8_t *data, uint32_t cou
         put16(values + 2 * i, get16(data + 2 * i));
 }
 
-/* Registers 0..count-1 hold the values, the others are absent; the values after
- * those are zero. */
-static inline void set_registers(const struct job *job, const uint8_t *values, uint32_t count)
+/* Given what read_data wrote: registers 0..count-1 hold the values, the others are absent. */
+static inline void set_registers(const struct job *job, const uint8_t *data, uint32_t count)
 {
     put32(job->bytes + PLEX_THREAD_PRESENCE, first_registers(count));
-    put_values(job->bytes + PLEX_THREAD_VALUES, values, count);
+    put_values(job->bytes + PLEX_THREAD_VALUES, data, count);
 }
 
 /* Makes the signal the only one of a new tree at the list's end, on its block's thread; returns whether

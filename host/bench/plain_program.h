@@ -29,6 +29,15 @@ static inline uint64_t eight_bytes(const uint8_t *at)
     return bytes;
 }
 
+/* Given 8 bytes or more, and a length that is known when it is compiled; the last eight may overlap those before. */
+static inline bool words_zero(const uint8_t *at, size_t len)
+{
+    uint64_t seen = eight_bytes(at + len - 8);
+    for (size_t i = 0; i + 8 <= len; i += 8)
+        seen |= eight_bytes(at + i);
+    return seen == 0;
+}
+
 /* As many zero bytes as any part of a state that must be zero. */
 extern const uint8_t plain_zeros[PLEX_TREES_MAX * PLEX_TREE_SIZE];
 

@@ -2,21 +2,12 @@
 #include "plain.h"
 #include "plain_job.h"
 
-/* A step or a cut has zero bytes where an arrival has its signal. */
-static inline bool signal_is_zero(const uint8_t *signal)
-{
-    uint64_t seen = eight_bytes(signal + PLEX_SIGNAL_SIZE - 8);
-    for (size_t i = 0; i + 8 <= PLEX_SIGNAL_SIZE; i += 8)
-        seen |= eight_bytes(signal + i);
-    return seen == 0;
-}
-
 static bool event_holds(const struct program *program, const uint8_t *event)
 {
     const uint8_t *signal = event + PLEX_EVENT_SIGNAL;
     uint32_t kind = event[PLEX_EVENT_KIND];
     if (kind == PLEX_STEP || kind == PLEX_CUT)
-        return event[PLEX_EVENT_THREAD] < PLEX_THREADS && signal_is_zero(signal);
+        return event[PLEX_EVENT_THREAD] < PLEX_THREADS && words_zero(signal, PLEX_SIGNAL_SIZE);
     uint32_t label = get16(signal + PLEX_SIGNAL_LABEL);
     uint32_t count = signal[PLEX_SIGNAL_COUNT];
     return kind == PLEX_ARRIVAL && event[PLEX_EVENT_THREAD] == 0 && label < program->records &&
@@ -43,7 +34,8 @@ static uint32_t start(const struct job *job)
         return answer(PLEX_WAITING, lock);
     put16(job->bytes + PLEX_THREAD_LABEL, label);
     put16(job->bytes + PLEX_THREAD_LOCKS, 1u << lock);
-    set_registers(job, oldest + PLEX_SIGNAL_VALUES, oldest[PLEX_SIGNAL_COUNT]);
+    put32(job->bytes + PLEX_THREAD_PRESENCE, first_registers(oldest[PLEX_SIGNAL_COUNT]));
+    memcpy(job->bytes + PLEX_THREAD_VALUES, oldest + PLEX_SIGNAL_VALUES, VALUES_SIZE);
     uint32_t left = tree[PLEX_TREE_PENDING] - 1u;
     memmove(oldest, oldest + PLEX_SIGNAL_SIZE, PLEX_SIGNAL_SIZE * left);
     memset(oldest + PLEX_SIGNAL_SIZE * left, 0, PLEX_SIGNAL_SIZE);

@@ -60,7 +60,7 @@ static bool thread_well_formed(const struct program *program, const uint8_t *sta
 {
     const uint8_t *bytes = thread_at(state, thread);
     if (get16(bytes + PLEX_THREAD_LABEL) == PLEX_IDLE)
-        return all_zero(bytes + PLEX_THREAD_LOCKS, PLEX_THREAD_SIZE - PLEX_THREAD_LOCKS);
+        return words_zero(bytes + PLEX_THREAD_LOCKS, PLEX_THREAD_SIZE - PLEX_THREAD_LOCKS);
     uint32_t returns = bytes[PLEX_THREAD_RETURN_COUNT];
     return returns <= PLEX_RETURNS_MAX &&
            all_zero(bytes + PLEX_THREAD_RETURNS + 2 * returns, 2 * (PLEX_RETURNS_MAX - returns)) &&

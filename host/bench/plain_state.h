@@ -47,13 +47,19 @@ static inline uint32_t operand_value(const uint8_t *state, const uint8_t *thread
     return get16(thread_bytes + PLEX_THREAD_VALUES + 2 * value);
 }
 
-/* Writes the record's data values to the front of data, and returns whether no
+/* So many data values are few. Few are stored one by one: a copy of all the bytes would wait until the stores of two
+ * bytes, which it reads, are done. With many that wait is shorter than so many stores. */
+enum { FEW_VALUES = 4 };
+
+/* Writes the record's data values to the front of data, and if they are many zeros behind them; returns whether no
  * absent register was read. */
 static inline bool read_data(const uint8_t *state, const uint8_t *thread_bytes, const uint8_t *record, uint8_t *data)
 {
     const uint8_t *operand = record + PLEX_RECORD_OPERANDS;
     uint32_t count = record[PLEX_RECORD_COUNT], block = record[PLEX_RECORD_BLOCK];
     uint32_t registers_read = 0;
+    if (count > FEW_VALUES)
+        memset(data, 0, VALUES_SIZE);
     for (uint32_t i = 0; i < count; i++, operand += PLEX_OPERAND_SIZE)
         put16(data + 2 * i, operand_value(state, thread_bytes, block, operand, &registers_read));
     return (registers_read & ~get32(thread_bytes + PLEX_THREAD_PRESENCE)) == 0;

@@ -121,7 +121,7 @@ static uint32_t branch(const struct job *job, const uint8_t *record)
  * nobody else holds. */
 static uint32_t send_direct_or_call(const struct job *job, const uint8_t *record)
 {
-    uint8_t data[VALUES_SIZE] = {0};
+    uint8_t data[VALUES_SIZE];
     uint32_t label = get16(record + PLEX_RECORD_A);
     uint32_t block = block_of(job->program, label);
     if (!read_data(job->state, job->bytes, record, data))
@@ -152,7 +152,7 @@ static void put_signal(uint8_t *signal, const uint8_t *record, const uint8_t *da
 
 static uint32_t send_buffered(const struct job *job, const uint8_t *record)
 {
-    uint8_t data[VALUES_SIZE] = {0};
+    uint8_t data[VALUES_SIZE];
     if (!read_data(job->state, job->bytes, record, data))
         return trap(job, PLEX_ABSENT_REGISTER);
     uint32_t index = first_tree(job->state, job->thread);
@@ -168,7 +168,7 @@ static uint32_t send_buffered(const struct job *job, const uint8_t *record)
 /* SEND JOBTREE: the job holds the signal until it ends. */
 static uint32_t send_tree(const struct job *job, const uint8_t *record)
 {
-    uint8_t data[VALUES_SIZE] = {0};
+    uint8_t data[VALUES_SIZE];
     if (!read_data(job->state, job->bytes, record, data))
         return trap(job, PLEX_ABSENT_REGISTER);
     uint32_t held = job->bytes[PLEX_THREAD_HELD_COUNT];
@@ -182,7 +182,7 @@ static uint32_t send_tree(const struct job *job, const uint8_t *record)
 /* RETURN takes the newest return label and keeps the locks. */
 static uint32_t go_back(const struct job *job, const uint8_t *record)
 {
-    uint8_t data[VALUES_SIZE] = {0};
+    uint8_t data[VALUES_SIZE];
     if (!read_data(job->state, job->bytes, record, data))
         return trap(job, PLEX_ABSENT_REGISTER);
     if (job->bytes[PLEX_THREAD_RETURN_COUNT] == 0)
