@@ -33,7 +33,7 @@ use Rattle.step_ready.specs.At.{At, tree}
 use Rattle.passage.specs.Enters.{Passes, Enters}
 use Rattle.starting.specs.Starting.{FirstOf, start-waiting, start-running}
 use Rattle.passage.specs.declared.Passage.{Passage}
-use Rattle.passage.specs.declared.Passage.the-variants.{Trap, Wait, Go}
+use Rattle.passage.specs.declared.Passage.the-variants.{Trap, Wait, Go, Own}
 use Rattle.starting.specs.declared.First.{First}
 use Rattle.starting.specs.declared.First.the-variants as found
 use Rattle.awaiting.specs.declared.Waits.{Waits}
@@ -60,6 +60,7 @@ abbrev pub passageWaits : Passage → Waits
 passageWaits (Trap k) = Nobody
 passageWaits (Wait l u) = For u
 passageWaits (Go l) = Nobody
+passageWaits Own = Nobody
 
 pub waits-passage : {image table b : List ℕ} {t : ℕ} {w : ThreadState} {r returns vs : List ℕ} {p : Passage}
     → Enters image table b t w r returns vs p → passageWaits p ≡ awaitedBy image table b t
@@ -69,6 +70,7 @@ waits-passage {image} {table} {b} {t} {w} {p = p} e = case _ p (e .passes)
     case k (Trap x) h = by-answer _ _ _ h
     case k (Wait l u) h = ap For (h .1) ∙ by-answer _ _ _ (h .0)
     case k (Go l) h = by-answer _ _ _ (h .1)
+    case k Own h = by-answer _ _ _ h
 
 -- ---- any other statement asks for no lock
 

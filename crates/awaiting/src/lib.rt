@@ -34,6 +34,7 @@ fn passage_waits(p: Passage) -> Waits
         Passage::Trap(_) => Waits::Nobody,
         Passage::Wait(_, u) => Waits::For(u),
         Passage::Go(_) => Waits::Nobody,
+        Passage::Own => Waits::Nobody,
     }
 }
 

@@ -1,5 +1,5 @@
 -- A direct SEND and a CALL carried out, by their passage.
-use mathlib.Core.Path.{_≡_, refl, subst}
+use mathlib.Core.Path.{_≡_, refl, sym, subst}
 use mathlib.Core.List.{List, [], _∷_, _++_}
 use Prim.Native.Nat.{ℕ, _<_, _≤_}
 use native.Mathlib.Omega.{arith}
@@ -13,13 +13,16 @@ use Rattle.rules.specs.declared.sorts.Lock.{Lock}
 use Rattle.rules.specs.declared.sorts.Thread.{Thread}
 use Rattle.rules.specs.declared.answer.Answer.{Answer}
 use Rattle.rules.specs.declared.answer.Answer.the-variants.{Waiting, Moved, Trapped}
+use Rattle.fields.specs.Put.{put}
 use Rattle.encoding.specs.Encoded.{Canonical, Encodes}
 use Rattle.threads.specs.Threads.{Running, Runs, returnsOf, ZerosAfter, keeping}
+use Rattle.threads.specs.Records.{threadPlace, rawBytes}
 use Rattle.threads.specs.declared.thread.ThreadState.{ThreadState}
-use Rattle.step_ready.specs.Ready.{Stepped, Ended, done}
+use Rattle.step_ready.specs.Ready.{Stepped, Ended, done, thread-stepped}
 use Rattle.step_ready.specs.At.{At, small, depth-is}
 use Rattle.passage.specs.declared.Passage.{Passage}
-use Rattle.passage.specs.declared.Passage.the-variants.{Trap, Wait, Go}
+use Rattle.passage.specs.declared.Passage.the-variants.{Trap, Wait, Go, Own}
+use Rattle.passage.specs.Passages.{Goes}
 use Rattle.passage.specs.Enters.{Passes, Enters}
 use Rattle.holding.specs.Holding.{holding, holding-as}
 
@@ -46,13 +49,13 @@ module _ {image table b : List ℕ} {t : ℕ} {w : ThreadState} {r returns vs : 
   pub wait-stepped : (l : Lock) (u : Thread) → p ≡ Wait l u → Stepped image table b t b (Waiting l)
   wait-stepped l u f = done (machineFrom b) (Waiting l) (passes-as (Wait l u) f .0) refl (h .ready .canonical)
 
-  pub can-enter : (l : Lock) → p ≡ Go l → labelA r < labels image → CanEnter w r vs
-  can-enter l f k = record {
+  pub can-enter : (q : Passage) → p ≡ q → Goes q → labelA r < labels image → CanEnter w r vs
+  can-enter q f g k = record {
     thread = h .thread;
     long = h .readable .long;
     few = h .readable .few;
     label = small h _ k;
-    zeros = e .zeros l f;
+    zeros = e .zeros (subst Goes (sym f) g);
   }
 
   -- the lock that the thread takes, once it is changed to x, is one of the 16
@@ -64,7 +67,14 @@ module _ {image table b : List ℕ} {t : ℕ} {w : ThreadState} {r returns vs : 
       → Stepped image table b t b′ Moved
   go-stepped l f m z = done _ Moved (passes-as (Go l) f .1) refl (holding-as (machineFrom b) t l m z)
 
+  -- a thread that has the lock is written with the locks that it has
+  pub own-stepped : p ≡ Own → {x : ThreadState} {b′ : List ℕ}
+      → Runs x (w .locks) (keeping w (job (labelA r) returns (fill (take (operands r) vs)))) → b′ ≡ put b (threadPlace t) (rawBytes x)
+      → Stepped image table b t b′ Moved
+  own-stepped f m z = thread-stepped (h .ready) t Moved (h .inside) (passes-as Own f) m z
+
 -- a CALL has room for its return label
 pub call-room : {image table b : List ℕ} {t : ℕ} {w : ThreadState} {r vs : List ℕ} {p : Passage} → At image table b t w r
-    → Enters image table b t w r (returnsOf w ++ labelB r ∷ []) vs p → (l : Lock) → p ≡ Go l → w .depth < returnCount
-call-room h e l f = let k = e .room l f in omega (arith, simp length-append at k, depth-is h)
+    → Enters image table b t w r (returnsOf w ++ labelB r ∷ []) vs p → (q : Passage) → p ≡ q → Goes q
+    → w .depth < returnCount
+call-room h e q f g = let k = e .room (subst Goes (sym f) g) in omega (arith, simp length-append at k, depth-is h)

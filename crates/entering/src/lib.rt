@@ -9,6 +9,8 @@ use passage::call_passage;
 use passage::send_passage;
 use rules::answer::Answer;
 use rules::sorts::Thread;
+use thread_records::read_thread;
+use thread_records::write_thread;
 use threads::thread::ThreadState;
 ghost use mathlib.Core.Path.{_≡_};
 ghost use mathlib.Core.List.{[], _∷_, _++_};
@@ -20,7 +22,7 @@ ghost use Rattle.rules.specs.Machine.{fill, job};
 ghost use Rattle.rules.specs.Statements.{statementOf};
 ghost use Rattle.rules.specs.declared.statement.Statement.the-variants.{SendDirect, Call};
 ghost use Rattle.threads.specs.Threads.{Runs, returnsOf, keeping};
-ghost use Rattle.step_ready.specs.Ready.{Stepped};
+ghost use Rattle.step_ready.specs.Ready.{Stepped, threadIn};
 ghost use Rattle.step_ready.specs.At.{At};
 ghost use Rattle.passage.specs.Enters.{Enters};
 ghost use Rattle.entering.specs.Entering.{CanEnter};
@@ -68,6 +70,10 @@ fn send_by(
             write_holding(state, t, sent(w, r, values), lock);
             Answer::Moved
         }
+        Passage::Own => {
+            write_thread(state, t, sent(w, r, values));
+            Answer::Moved
+        }
     }
 }
 
@@ -93,37 +99,29 @@ fn call_by(
             write_holding(state, t, called(w, r, values), lock);
             Answer::Moved
         }
+        Passage::Own => {
+            write_thread(state, t, called(w, r, values));
+            Answer::Moved
+        }
     }
 }
 
-pub fn send_direct(
-    image: &[u8],
-    table: &[u8],
-    state: &mut [u8],
-    t: Thread,
-    w: ThreadState,
-    r: &[u8],
-) -> Answer
-    requires { ⌜ At (now image) (now table) (now state) (t .0) w (now r) × (statementOf (now r) ≡ SendDirect) ⌝ }
+pub fn send_direct(image: &[u8], table: &[u8], state: &mut [u8], t: Thread, r: &[u8]) -> Answer
+    requires { ⌜ At (now image) (now table) (now state) (t .0) (threadIn (now state) (t .0)) (now r) × (statementOf (now r) ≡ SendDirect) ⌝ }
     ensures { λ a. ⌜ Stepped (now (image .entry)) (now (table .entry)) (now (state .entry)) (t .0) (now (state .exit)) a ⌝ }
 {
     let mut values = [0u16; Thread::REGISTERS];
+    let w = read_thread(state, t);
     let p = send_passage(image, table, state, t, w, r, &mut values);
     send_by(image, table, state, t, w, r, values, p)
 }
 
-pub fn call(
-    image: &[u8],
-    table: &[u8],
-    state: &mut [u8],
-    t: Thread,
-    w: ThreadState,
-    r: &[u8],
-) -> Answer
-    requires { ⌜ At (now image) (now table) (now state) (t .0) w (now r) × (statementOf (now r) ≡ Call) ⌝ }
+pub fn call(image: &[u8], table: &[u8], state: &mut [u8], t: Thread, r: &[u8]) -> Answer
+    requires { ⌜ At (now image) (now table) (now state) (t .0) (threadIn (now state) (t .0)) (now r) × (statementOf (now r) ≡ Call) ⌝ }
     ensures { λ a. ⌜ Stepped (now (image .entry)) (now (table .entry)) (now (state .entry)) (t .0) (now (state .exit)) a ⌝ }
 {
     let mut values = [0u16; Thread::REGISTERS];
+    let w = read_thread(state, t);
     let p = call_passage(image, table, state, t, w, r, &mut values);
     call_by(image, table, state, t, w, r, values, p)
 }

@@ -1,5 +1,5 @@
 -- What a direct SEND and a CALL come to, by their passage.
-use mathlib.Core.Path.{_≡_, refl, sym, ap, _∙_}
+use mathlib.Core.Path.{_≡_, refl, sym, ap, _∙_, subst}
 use mathlib.Core.Bool.{Bool, true, false, cond}
 use mathlib.Core.Option.{some}
 use mathlib.Core.List.{List, [], _∷_, _++_}
@@ -9,7 +9,7 @@ use native.Mathlib.Omega.{arith}
 use lib.Bits.{bitOr}
 use lib.Dec.{eqb, leb, ltb}
 use lib.ListN.{length, take, set, replicate, length-append}
-use borrow.Author.Tests.{ne-eqb}
+use borrow.Author.Tests.{ne-eqb, le-ltb}
 use Rattle.rules.specs.Sorts.{lock, thread}
 use Rattle.rules.specs.Sizes.{lockCount, threadCount, returnCount, operandCount}
 use Rattle.rules.specs.Codes.{returnsFullCode, foreignFdBlockCode}
@@ -23,23 +23,23 @@ use Rattle.rules.specs.Encoding.{machineFrom}
 use Rattle.rules.specs.Events.{step}
 use Rattle.rules.specs.Steps.{Reply, rulesBy, blockAt, alien, held, finished, react}
 use Rattle.rules.specs.Walk.{holder}
-use Rattle.rules.specs.declared.sorts.Lock.{Lock}
 use Rattle.rules.specs.declared.answer.Answer.the-variants.{Waiting, Moved, Trapped}
 use Rattle.rules.specs.declared.statement.Statement.the-variants.{SendDirect, Call}
 use Rattle.laws.specs.Passed.{passed}
+use Rattle.laws.specs.Sets.{has-again}
 use Rattle.soundness.specs.Destinations.{lock-below}
 use Rattle.step_laws.specs.Events.{reply}
 use Rattle.step_laws.specs.Statements.{unread, send-alien, send-waits, send-enters, call-deep, call-alien, call-waits, call-enters}
 use Rattle.threads.specs.Threads.{returnsOf, ZerosAfter, withJob, jobOf, keeping}
 use Rattle.threads.specs.declared.thread.ThreadState.{ThreadState}
-use Rattle.state.specs.Locks.{Alone, held-by-other}
+use Rattle.state.specs.Locks.{Alone, held-by-other, nobody-else}
 use Rattle.operands.specs.Readings.{Reads}
 use Rattle.operands.specs.Cells.{cellsOf}
 use Rattle.operands.specs.Gathered.{zeros-stay}
 use Rattle.step_ready.specs.At.{At, tree, label-A, depth-is}
-use Rattle.passage.specs.Passages.{callTrap, otherHolder, byLock, passageTo, go-clear, call-clear}
+use Rattle.passage.specs.Passages.{callTrap, otherHolder, byLock, passageTo, Goes, go-clear, call-clear}
 use Rattle.passage.specs.declared.Passage.{Passage}
-use Rattle.passage.specs.declared.Passage.the-variants.{Trap, Wait, Go}
+use Rattle.passage.specs.declared.Passage.the-variants.{Trap, Wait, Go, Own}
 
 -- what the reply to a step of thread t is, by its passage: the thread goes in with the job k
 abbrev pub Passes : List ℕ → List ℕ → Machine → ℕ → ℕ → Job → Passage → Type 0
@@ -48,12 +48,13 @@ Passes image table s t locks k (Wait l u) =
     (react (rulesBy image table) s (step t) ≡ reply s (Waiting l)) × (u ≡ thread (holder (l .0) (set (s .threads) t idle)))
 Passes image table s t locks k (Go l) =
     (l .0 < lockCount) × (react (rulesBy image table) s (step t) ≡ reply (withJob s t (bitOr locks (2 ^ l .0)) k) Moved)
+Passes image table s t locks k Own = react (rulesBy image table) s (step t) ≡ reply (withJob s t locks k) Moved
 
 -- the passage of the statement in the record r, with the return labels and the values with which the thread goes in
 pub record Enters (image table b : List ℕ) (t : ℕ) (w : ThreadState) (r returns vs : List ℕ) (p : Passage) : Type 0 where
   pub passes : Passes image table (machineFrom b) t (w .locks) (keeping w (job (labelA r) returns (fill (take (operands r) vs)))) p
-  pub zeros : (l : Lock) → p ≡ Go l → ZerosAfter (operands r) vs
-  pub room : (l : Lock) → p ≡ Go l → length returns ≤ returnCount
+  pub zeros : Goes p → ZerosAfter (operands r) vs
+  pub room : Goes p → length returns ≤ returnCount
 
 module _ (image table : List ℕ) (s : Machine) (t locks : ℕ) (k : Job) (row : Row) where
   abbrev stepped : Reply
@@ -64,30 +65,38 @@ module _ (image table : List ℕ) (s : Machine) (t locks : ℕ) (k : Job) (row :
 
   -- an earlier test made a trap
   trapped-before : (x : ℕ) → (x ≡ 0 → ⊥) → stepped ≡ reply (finished (rulesBy image table) t s) (Trapped x)
-      → Passes image table s t locks k (passageTo s row t x)
+      → Passes image table s t locks k (passageTo s row t locks x)
   unfolding passageTo
   trapped-before x n e = rw (ne-eqb x 0 n) e
 
   -- none did
-  none-before : length (s .threads) ≡ threadCount → row .lock < lockCount
+  none-before : length (s .threads) ≡ threadCount → Alone s t locks → row .lock < lockCount
       → (alien row t ≡ true → stepped ≡ reply (finished (rulesBy image table) t s) (Trapped foreignFdBlockCode))
       → (alien row t ≡ false → taken ≡ true → stepped ≡ reply s (Waiting (lock (row .lock))))
       → (alien row t ≡ false → taken ≡ false → stepped ≡ reply (withJob s t (bitOr locks (2 ^ row .lock)) k) Moved)
-      → Passes image table s t locks k (passageTo s row t 0)
+      → Passes image table s t locks k (passageTo s row t locks 0)
   unfolding passageTo
-  none-before sized inside f g h = case (alien row t) (ltb (otherHolder s row t) threadCount) refl (held-by-other s sized (row .lock) t)
+  none-before sized alone inside f g h =
+      case (alien row t) (has (row .lock) locks) (ltb (otherHolder s row t) threadCount) refl refl (held-by-other s sized (row .lock) t)
     where
-      case : (a b : Bool) → alien row t ≡ a → taken ≡ b
+      -- nobody else holds a lock that the thread has
+      free : has (row .lock) locks ≡ true → taken ≡ false
+      free o = held-by-other s sized (row .lock) t
+          ∙ le-ltb (otherHolder s row t) threadCount (omega (arith, nobody-else s t locks (row .lock) sized alone o))
+
+      case : (a o b : Bool) → alien row t ≡ a → has (row .lock) locks ≡ o → taken ≡ b
           → Passes image table s t locks k
-          (cond a (Trap foreignFdBlockCode) (byLock b (lock (row .lock)) (otherHolder s row t)))
-      case true b e q = f e
-      case false true e q = (g e q, refl)
-      case false false e q = (inside, h e q)
+          (cond a (Trap foreignFdBlockCode) (byLock o b (lock (row .lock)) (otherHolder s row t)))
+      case true o b e p q = f e
+      case false true b e p q =
+          subst (λ (x : ℕ). stepped ≡ reply (withJob s t x k) Moved) (has-again (row .lock) locks p) (h e (free p))
+      case false false true e p q = (g e q, refl)
+      case false false false e p q = (inside, h e q)
 
 -- the record at the label of a running thread, and the data that it reads
 module _ (image table b : List ℕ) (t : ℕ) (w : ThreadState) (p : List Signal)
     (runs : threadAt (machineFrom b) t ≡ running (w .locks) (jobOf w)) (own : first t (machineFrom b .trees) ≡ some p)
-    (sized : length (machineFrom b .threads) ≡ threadCount) where
+    (sized : length (machineFrom b .threads) ≡ threadCount) (alone : Alone (machineFrom b) t (w .locks)) where
   abbrev r : List ℕ
   r = recordAt image (w .label .0)
 
@@ -98,15 +107,15 @@ module _ (image table b : List ℕ) (t : ℕ) (w : ThreadState) (p : List Signal
       (inside : into .lock < lockCount) where
     send-by : statementOf r ≡ SendDirect
         → Passes image table (machineFrom b) t (w .locks) (keeping w (job (labelA r) (returnsOf w) (fill (take n vs))))
-        (passageTo (machineFrom b) into t x)
+        (passageTo (machineFrom b) into t (w .locks) x)
     unfolding machineFrom
     send-by e = case (ℕ-discrete x 0)
       where
         case : Dec (x ≡ 0) → Passes image table (machineFrom b) t (w .locks) (keeping w (job (labelA r) (returnsOf w) (fill (take n vs))))
-            (passageTo (machineFrom b) into t x)
+            (passageTo (machineFrom b) into t (w .locks) x)
         case (yes z) =
             rw z (none-before image table (machineFrom b) t (w .locks) (keeping w (job (labelA r) (returnsOf w) (fill (take n vs)))) into
-            sized inside
+            sized alone inside
             (send-alien image table (machineFrom b) t (w .locks) (jobOf w) p runs own (take n vs) e (g .values z))
             (send-waits image table (machineFrom b) t (w .locks) (jobOf w) p runs own (take n vs) e (g .values z))
             (send-enters image table (machineFrom b) t (w .locks) (jobOf w) p runs own (take n vs) e (g .values z)))
@@ -115,18 +124,18 @@ module _ (image table b : List ℕ) (t : ℕ) (w : ThreadState) (p : List Signal
 
     call-by : length (returnsOf w) ≡ w .depth → statementOf r ≡ Call
         → Passes image table (machineFrom b) t (w .locks) (keeping w (job (labelA r) (returnsOf w ++ labelB r ∷ []) (fill (take n vs))))
-        (passageTo (machineFrom b) into t (callTrap x (w .depth)))
+        (passageTo (machineFrom b) into t (w .locks) (callTrap x (w .depth)))
     unfolding machineFrom callTrap
     call-by deep e = case (ℕ-discrete x 0) (leb returnCount (w .depth)) refl
       where
         case : Dec (x ≡ 0) → (f : Bool) → leb returnCount (w .depth) ≡ f
             → Passes image table (machineFrom b) t (w .locks) (keeping w (job (labelA r) (returnsOf w ++ labelB r ∷ []) (fill (take n vs))))
-            (passageTo (machineFrom b) into t (cond (eqb x 0) (cond (leb returnCount (w .depth)) returnsFullCode 0) x))
+            (passageTo (machineFrom b) into t (w .locks) (cond (eqb x 0) (cond (leb returnCount (w .depth)) returnsFullCode 0) x))
         case (yes z) true f =
             rw (z, f) (trapped-before image table (machineFrom b) t (w .locks) _ into returnsFullCode (λ q. omega arith)
             (call-deep image table (machineFrom b) t (w .locks) (jobOf w) p runs own (take n vs) e (g .values z) (rw deep f)))
         case (yes z) false f =
-            rw (z, f) (none-before image table (machineFrom b) t (w .locks) _ into sized inside
+            rw (z, f) (none-before image table (machineFrom b) t (w .locks) _ into sized alone inside
             (call-alien image table (machineFrom b) t (w .locks) (jobOf w) p runs own (take n vs) e (g .values z) (rw deep f))
             (call-waits image table (machineFrom b) t (w .locks) (jobOf w) p runs own (take n vs) e (g .values z) (rw deep f))
             (call-enters image table (machineFrom b) t (w .locks) (jobOf w) p runs own (take n vs) e (g .values z) (rw deep f)))
@@ -155,37 +164,37 @@ module _ {image table b : List ℕ} {t : ℕ} {w : ThreadState} {r : List ℕ} (
 
   module _ {x : ℕ} {vs : List ℕ} (g : Reads (readAll (cellsOf b w r) (dataOf r)) x (operands r) (replicate operandCount 0) vs)
       (q : Passage) where
-    pub send-enters-as : statementOf r ≡ SendDirect → q ≡ passageTo (machineFrom b) (rowAt table (blockAt image (labelA r))) t x
+    pub send-enters-as : statementOf r ≡ SendDirect → q ≡ passageTo (machineFrom b) (rowAt table (blockAt image (labelA r))) t (w .locks) x
         → Enters image table b t w r (returnsOf w) vs q
     send-enters-as e f = record {
       passes = rw f (go r (h .here) g e (lock-inside r (send-below e)));
-      zeros = λ l z. zeros-stay g (go-clear _ _ _ _ l (sym f ∙ z));
-      room = λ l z. omega (arith, depth-is h, h .thread .tidy .returns .within);
+      zeros = λ z. zeros-stay g (go-clear _ _ _ _ _ (subst Goes f z));
+      room = λ z. omega (arith, depth-is h, h .thread .tidy .returns .within);
     }
       where
         go : (q : List ℕ) → q ≡ recordAt image (w .label .0)
             → Reads (readAll (cellsOf b w q) (dataOf q)) x (operands q) (replicate operandCount 0) vs → statementOf q ≡ SendDirect
             → rowAt table (blockAt image (labelA q)) .lock < lockCount
             → Passes image table (machineFrom b) t (w .locks) (keeping w (job (labelA q) (returnsOf w) (fill (take (operands q) vs))))
-            (passageTo (machineFrom b) (rowAt table (blockAt image (labelA q))) t x)
-        go q i = rw i (λ g e l. send-by image table b t w (tree h .0) (h .runs) (tree h .1) eight g l e)
+            (passageTo (machineFrom b) (rowAt table (blockAt image (labelA q))) t (w .locks) x)
+        go q i = rw i (λ g e l. send-by image table b t w (tree h .0) (h .runs) (tree h .1) eight alone g l e)
 
     pub call-enters-as : statementOf r ≡ Call
-        → q ≡ passageTo (machineFrom b) (rowAt table (blockAt image (labelA r))) t (callTrap x (w .depth))
+        → q ≡ passageTo (machineFrom b) (rowAt table (blockAt image (labelA r))) t (w .locks) (callTrap x (w .depth))
         → Enters image table b t w r (returnsOf w ++ labelB r ∷ []) vs q
     call-enters-as e f = record {
       passes = rw f (go r (h .here) g e (lock-inside r (call-below e)));
-      zeros = λ l z. zeros-stay g (clear l z .0);
-      room = λ l z. simp length-append (omega (arith, clear l z .1, depth-is h));
+      zeros = λ z. zeros-stay g (clear z .0);
+      room = λ z. simp length-append (omega (arith, clear z .1, depth-is h));
     }
       where
-        clear : (l : Lock) → q ≡ Go l → (x ≡ 0) × (w .depth < returnCount)
-        clear l z = call-clear x (w .depth) (go-clear _ _ _ _ l (sym f ∙ z))
+        clear : Goes q → (x ≡ 0) × (w .depth < returnCount)
+        clear z = call-clear x (w .depth) (go-clear _ _ _ _ _ (subst Goes f z))
 
         go : (q : List ℕ) → q ≡ recordAt image (w .label .0)
             → Reads (readAll (cellsOf b w q) (dataOf q)) x (operands q) (replicate operandCount 0) vs → statementOf q ≡ Call
             → rowAt table (blockAt image (labelA q)) .lock < lockCount
             → Passes image table (machineFrom b) t (w .locks) (keeping w (job (labelA q) (returnsOf w ++ labelB q ∷ []) (fill (take
             (operands q) vs))))
-            (passageTo (machineFrom b) (rowAt table (blockAt image (labelA q))) t (callTrap x (w .depth)))
-        go q i = rw i (λ g e l. call-by image table b t w (tree h .0) (h .runs) (tree h .1) eight g l (depth-is h) e)
+            (passageTo (machineFrom b) (rowAt table (blockAt image (labelA q))) t (w .locks) (callTrap x (w .depth)))
+        go q i = rw i (λ g e l. call-by image table b t w (tree h .0) (h .runs) (tree h .1) eight alone g l (depth-is h) e)

@@ -30,16 +30,16 @@ ghost use Rattle.rules.specs.Encoding.{machineFrom};
 ghost use Rattle.rules.specs.Steps.{alien, blockAt};
 ghost use Rattle.encoding.specs.Encoded.{Canonical};
 ghost use Rattle.threads.specs.Threads.{returnsOf};
-ghost use Rattle.state.specs.Locks.{Alone};
 ghost use Rattle.step_ready.specs.At.{At};
 ghost use Rattle.passage.specs.Passages.{passageTo, callTrap};
 ghost use Rattle.passage.specs.Enters.{Enters};
 
-// A trap with its reason, a lock with the other thread that holds it, or a lock that the step takes.
+// A trap with its reason, a lock with the other thread that holds it, a lock that the step takes, or one that the thread has.
 pub enum Passage {
     Trap(u8),
     Wait(Lock, Thread),
     Go(Lock),
+    Own,
 }
 
 // The reason of the trap that a CALL makes before its block is looked at; 0 where it makes none.
@@ -74,10 +74,9 @@ fn passage_to(
     to: Label,
     earlier: u8,
 ) -> Passage
-    requires { ⌜ Checked (now image) (now table) × Canonical (now state) × (to .0 < labels (now image))
-        × Alone (machineFrom (now state)) (t .0) own ⌝ }
+    requires { ⌜ Checked (now image) (now table) × Canonical (now state) × (to .0 < labels (now image)) ⌝ }
     ensures { λ p. ⌜ p ≡ passageTo (machineFrom (now (state .entry)))
-        (rowAt (now (table .entry)) (blockAt (now (image .entry)) (to .0))) (t .0) earlier ⌝ }
+        (rowAt (now (table .entry)) (blockAt (now (image .entry)) (to .0))) (t .0) own earlier ⌝ }
 {
     if earlier != 0 {
         return Passage::Trap(earlier);
@@ -88,7 +87,7 @@ fn passage_to(
         return Passage::Trap(FOREIGN_FD_BLOCK);
     }
     if holds(own, lock) {
-        return Passage::Go(lock);
+        return Passage::Own;
     }
     // The state is lent anew, so that only a thread that asks others writes it down for the call.
     let others = &state[0..];

@@ -8,13 +8,13 @@ use borrow.Author.Tests.{ne-eqb, lt-ltb, le-ltb}
 use lib.ListN.{length, take}
 use lib.Seq.{take-all}
 use Rattle.rules.specs.Sizes.{threadCount, blockCount, lockCount, tableSize}
+use Rattle.rules.specs.Bytes.{has}
 use Rattle.rules.specs.Image.{Row, rowAt}
 use Rattle.rules.specs.Machine.{Machine}
 use Rattle.rules.specs.Encoding.{machineFrom}
 use Rattle.rules.specs.Steps.{blockAt, alien}
 use Rattle.laws.specs.Passed.{passed}
 use Rattle.soundness.specs.Destinations.{block-below, lock-below}
-use Rattle.state.specs.Locks.{nobody-else}
 use Rattle.passage.specs.Passages.{otherHolder, passageTo, passage-on}
 use Rattle.passage.proofs.passage_to.Statement.{statement}
 use Rattle.passage.proofs.passage_to.Tie as tie
@@ -52,15 +52,13 @@ not-alien : (c : tie.Else2)
     (c .before .before .before .before .before .before .before .before .args .t .0) ≡ false
 not-alien c = rw (c .before .before .before .block-at .ensures) at (sym (c .before .is-alien .ensures) ∙ c .if2 .left)
 
--- nobody else holds a lock that the thread has
-own : (c : tie.Then3)
-    → threadCount ≤ other (c .before .before .before .before .before .before .before .before .before .before)
-own c =
+-- past the test of the thread's own locks
+not-own : (c : tie.Else3)
+    → has (row (c .before .before .before .before .before .before .before .before .before .before) .lock)
+    (c .before .before .before .before .before .before .before .before .before .before .args .own) ≡ false
+not-own c =
     let l = c .before .before .before .before in
-    let s = l .before .before .before .before .before .before in
-    let e = rw (l .lock-at .ensures, l .before .block-at .ensures) at (nobody-else (machine s) (s .args .t .0) (s .args .own)
-    (l .lock-at .result .0) (s .pre .1 .sized .threads) (s .pre .3) (sym (c .before .holds .ensures) ∙ c .if3 .taken)) in
-    omega (arith, e)
+    rw (l .lock-at .ensures, l .before .block-at .ensures) at (sym (c .before .holds .ensures) ∙ c .if3 .left)
 
 -- the state lent anew is all of it
 all-of : (b : List ℕ) → take (length b - 0) b ≡ b
@@ -90,7 +88,7 @@ returns-2 c =
     let s = l .before .before .before .before .before .before in
     let e : alien (row s) (s .args .t .0) ≡ true =
     rw (l .before .block-at .ensures) at (sym (c .before .is-alien .ensures) ∙ c .if2 .taken) in
-    sym (passage-on (machine s) (row s) (s .args .t .0) (s .args .earlier) (l .before .before .if1 .left) true _ e refl)
+    sym (passage-on (machine s) (row s) (s .args .t .0) (s .args .own) (s .args .earlier) (l .before .before .if1 .left) true _ _ e refl refl)
 
 holds-requires : tie.Need-holds-requires
 holds-requires c κs = lock-small (c .before .before)
@@ -99,9 +97,10 @@ returns-3 : tie.Need-returns-3
 returns-3 c =
     let l = c .before .before .before .before in
     let s = l .before .before .before .before .before .before in
-    rw (l .lock-at .ensures, l .before .block-at .ensures)
-    (sym (passage-on (machine s) (row s) (s .args .t .0) (s .args .earlier) (l .before .before .if1 .left) false false
-    (not-alien (c .before .before)) (le-ltb _ threadCount (own c))))
+    let o : has (row s .lock) (s .args .own) ≡ true =
+    rw (l .lock-at .ensures, l .before .block-at .ensures) at (sym (c .before .holds .ensures) ∙ c .if3 .taken) in
+    sym (passage-on (machine s) (row s) (s .args .t .0) (s .args .own) (s .args .earlier) (l .before .before .if1 .left) false true _
+    (not-alien (c .before .before)) o refl)
 
 other-holder-requires : tie.Need-other-holder-requires
 other-holder-requires c κs =
@@ -116,8 +115,8 @@ returns-4 c =
     let s = l .before .before .before .before .before .before in
     let f = finds o in
     rw (c .thread-of .ensures, f, l .lock-at .ensures, l .before .block-at .ensures)
-    (sym (passage-on (machine s) (row s) (s .args .t .0) (s .args .earlier) (l .before .before .if1 .left) false true
-    (not-alien (o .before .before .before .before)) (lt-ltb _ threadCount (rw f at (c .before .if4 .taken)))))
+    (sym (passage-on (machine s) (row s) (s .args .t .0) (s .args .own) (s .args .earlier) (l .before .before .if1 .left) false false true
+    (not-alien (o .before .before .before .before)) (not-own (o .before .before)) (lt-ltb _ threadCount (rw f at (c .before .if4 .taken)))))
 
 returns-5 : tie.Need-returns-5
 returns-5 c =
@@ -126,8 +125,8 @@ returns-5 c =
     let s = l .before .before .before .before .before .before in
     let free : threadCount ≤ other s = omega (arith, finds o, c .if4 .left) in
     rw (l .lock-at .ensures, l .before .block-at .ensures)
-    (sym (passage-on (machine s) (row s) (s .args .t .0) (s .args .earlier) (l .before .before .if1 .left) false false
-    (not-alien (o .before .before .before .before)) (le-ltb _ threadCount free)))
+    (sym (passage-on (machine s) (row s) (s .args .t .0) (s .args .own) (s .args .earlier) (l .before .before .if1 .left) false false false
+    (not-alien (o .before .before .before .before)) (not-own (o .before .before)) (le-ltb _ threadCount free)))
 
 pub passage-to-spec : {M : Type 1} → statement M
 passage-to-spec =

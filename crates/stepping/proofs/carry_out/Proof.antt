@@ -23,32 +23,26 @@ branch-requires c κs = (
 )
 
 send-direct-requires : tie.Need-send-direct-requires
-send-direct-requires c κs = (
-  rw (c .read-thread4 .ensures) (c .before .before .before .before .before .before .before .before .before .before .pre),
-  sym (c .before .before .before .before .before .statement-of .ensures) ∙ c .before .before .before .enum-told2 .given .1,
-)
+send-direct-requires c κs = (c .before .before .before .before .before .before .before .before .pre, sym (c .before .before .before .statement-of .ensures) ∙ c .before .enum-told2 .given .1)
 
 send-buffered-requires : tie.Need-send-buffered-requires
 send-buffered-requires c κs = (
-  rw (c .read-thread5 .ensures) (c .before .before .before .before .before .before .before .before .before .before .pre),
+  rw (c .read-thread4 .ensures) (c .before .before .before .before .before .before .before .before .before .before .pre),
   sym (c .before .before .before .before .before .statement-of .ensures) ∙ c .before .before .before .enum-told3 .given .1,
 )
 
 call-requires : tie.Need-call-requires
-call-requires c κs = (
-  rw (c .read-thread6 .ensures) (c .before .before .before .before .before .before .before .before .before .before .pre),
-  sym (c .before .before .before .before .before .statement-of .ensures) ∙ c .before .before .before .enum-told4 .given .1,
-)
+call-requires c κs = (c .before .before .before .before .before .before .before .before .pre, sym (c .before .before .before .statement-of .ensures) ∙ c .before .enum-told4 .given .1)
 
 give-back-requires : tie.Need-give-back-requires
 give-back-requires c κs = (
-  rw (c .read-thread7 .ensures) (c .before .before .before .before .before .before .before .before .before .before .pre),
+  rw (c .read-thread5 .ensures) (c .before .before .before .before .before .before .before .before .before .before .pre),
   sym (c .before .before .before .before .before .statement-of .ensures) ∙ c .before .before .before .enum-told5 .given .1,
 )
 
 transfer-requires : tie.Need-transfer-requires
 transfer-requires c κs = (
-  rw (c .read-thread8 .ensures) (c .before .before .before .before .before .before .before .before .before .before .pre),
+  rw (c .read-thread6 .ensures) (c .before .before .before .before .before .before .before .before .before .before .pre),
   sym (c .before .before .before .before .before .statement-of .ensures) ∙ c .before .before .before .enum-told6 .given .1,
 )
 
@@ -60,7 +54,7 @@ leave-requires c κs = (
 
 send-tree-requires : tie.Need-send-tree-requires
 send-tree-requires c κs = (
-  rw (c .read-thread9 .ensures) (c .before .before .before .before .before .before .before .before .before .before .pre),
+  rw (c .read-thread7 .ensures) (c .before .before .before .before .before .before .before .before .before .before .pre),
   sym (c .before .before .before .before .before .statement-of .ensures) ∙ c .before .before .before .enum-told8 .given .1,
 )
 
@@ -79,13 +73,11 @@ carry-out-spec =
     (λ c κs. search needs)
     branch-requires
     (λ c. search needs)
-    (λ c κs. search needs)
     send-direct-requires
     (λ c. search needs)
     (λ c κs. search needs)
     send-buffered-requires
     (λ c. search needs)
-    (λ c κs. search needs)
     call-requires
     (λ c. search needs)
     (λ c κs. search needs)
