@@ -208,37 +208,38 @@ static uint32_t transfer(const struct job *job, const uint8_t *record)
     return move_on(job, get16(record + PLEX_RECORD_A));
 }
 
+static uint32_t skip(const struct job *job, const uint8_t *record)
+{
+    return move_on(job, get16(record + PLEX_RECORD_A));
+}
+
+static uint32_t leave(const struct job *job, const uint8_t *record)
+{
+    (void)record;
+    return plain_leave(job);
+}
+
+/* What each opcode does. */
+static uint32_t (*const statements[])(const struct job *job, const uint8_t *record) = {
+    [PLEX_SKIP] = skip,
+    [PLEX_ASSIGN] = assign,
+    [PLEX_GOTO] = skip,
+    [PLEX_IF] = branch,
+    [PLEX_SEND_DIRECT] = send_direct_or_call,
+    [PLEX_SEND_BUFFERED] = send_buffered,
+    [PLEX_CALL] = send_direct_or_call,
+    [PLEX_RETURN] = go_back,
+    [PLEX_TRANSFER] = transfer,
+    [PLEX_EXIT] = leave,
+    [PLEX_SEND_TREE] = send_tree,
+    [PLEX_DIVIDE] = divide,
+    [PLEX_PACK] = pack,
+    [PLEX_UNPACK] = unpack,
+    [PLEX_DECIMAL_ADD] = add_decimals,
+};
+
 uint32_t plain_step(const struct job *job)
 {
-    uint32_t label = get16(job->bytes + PLEX_THREAD_LABEL);
-    const uint8_t *record = record_at(job->program->image, label);
-    switch (record[PLEX_RECORD_OPCODE]) {
-    case PLEX_ASSIGN:
-        return assign(job, record);
-    case PLEX_IF:
-        return branch(job, record);
-    case PLEX_SEND_DIRECT:
-    case PLEX_CALL:
-        return send_direct_or_call(job, record);
-    case PLEX_SEND_BUFFERED:
-        return send_buffered(job, record);
-    case PLEX_RETURN:
-        return go_back(job, record);
-    case PLEX_TRANSFER:
-        return transfer(job, record);
-    case PLEX_EXIT:
-        return plain_leave(job);
-    case PLEX_SEND_TREE:
-        return send_tree(job, record);
-    case PLEX_DIVIDE:
-        return divide(job, record);
-    case PLEX_PACK:
-        return pack(job, record);
-    case PLEX_UNPACK:
-        return unpack(job, record);
-    case PLEX_DECIMAL_ADD:
-        return add_decimals(job, record);
-    default:
-        return move_on(job, get16(record + PLEX_RECORD_A));
-    }
+    const uint8_t *record = record_at(job->program->image, get16(job->bytes + PLEX_THREAD_LABEL));
+    return statements[record[PLEX_RECORD_OPCODE]](job, record);
 }
