@@ -1,6 +1,6 @@
 -- The laws of tests over runs of bytes and of numbers, one turn of a loop at a time.
 use mathlib.Core.Path.{_≡_, refl, sym, ap, _∙_}
-use mathlib.Core.Bool.{Bool, true, false, cond, _&&_, not, and-assoc, and-true, and-false}
+use mathlib.Core.Bool.{Bool, true, false, cond, _&&_, not, and-assoc, and-comm, and-true, and-false}
 use mathlib.Core.List.{List, [], _∷_, _++_}
 use Prim.Native.Nat.{ℕ, zero, suc, _+_, _*_, _-_, _/_, _%_, _≤_, _<_}
 use native.Mathlib.Omega.{arith}
@@ -162,6 +162,35 @@ halved-all s at n half set k l e h inv =
     let begun : n - 16 + j ≡ half + half = omega arith in
     let there : at + (n - 16) ≡ at + n - 16 = omega arith in
     inv .2 ∙ rw (done, both) refl ∙ rw (whole, last, begun, there) at (zeros-cover s at (n - 16) j (16 - j))
+
+zeros-of-none : (s : List ℕ) (at : ℕ) → isZeros (part s at 0) ≡ true
+unfolding isZeros part
+zeros-of-none s at = refl
+
+-- two runs of which the second begins within the first or where it ends, and ends no earlier: one run
+zeros-joined : (s : List ℕ) (at m there n all : ℕ) → at ≤ there → there ≤ at + m → at + m ≤ there + n → at + all ≡ there + n
+    → (isZeros (part s at m) && isZeros (part s there n)) ≡ isZeros (part s at all)
+zeros-joined s at m there n all h l k e =
+    let a : ℕ = there - at in
+    let j : ℕ = m - a in
+    let place : at + a ≡ there = omega arith in
+    let first : a + j ≡ m = omega arith in
+    let second : j + (n - j) ≡ n = omega arith in
+    let whole : a + n ≡ all = omega arith in
+    and-comm (isZeros (part s at m)) (isZeros (part s there n)) ∙ rw (second, place, first, whole) at (zeros-cover s at a j (n - j))
+
+-- the first few bytes, a middle that begins among them or where they end, and the last 32, which begin in the middle or where it ends; an
+-- empty middle leaves the first and the last to meet
+pub many-all : (s : List ℕ) (at n few start middle : ℕ) → 32 ≤ n → few ≤ 32 → at ≤ start → start ≤ at + few → middle % 32 ≡ 0
+    → start + middle ≤ at + n → at + n ≤ start + middle + 32
+    → (isZeros (part s at few) && isZeros (part s start middle) && isZeros (part s (at + n - 32) 32)) ≡ isZeros (part s at n)
+many-all s at n few start zero l m h k e f g =
+    rw (zeros-of-none s start, and-true)
+    (zeros-joined s at few (at + n - 32) 32 n (omega arith) (omega arith) (omega arith) (omega arith))
+many-all s at n few start (suc j) l m h k e f g =
+    let to : ℕ = start + suc j - at in
+    rw (zeros-joined s at few start (suc j) to h k (omega arith) (omega arith))
+    (zeros-joined s at to (at + n - 32) 32 n (omega arith) (omega arith) (omega arith) (omega arith))
 
 pub zeros-are : (l : List ℕ) → isZeros l ≡ true → l ≡ replicate (length l) 0
 unfolding isZeros

@@ -102,3 +102,17 @@ pub fn all_zero(s: &[u8], at: usize, n: usize) -> bool
     }
     set == 0
 }
+
+// The same of many bytes, those in the middle from a place on that is a multiple of sixteen: in bytes that begin at such an address no
+// sixteen of them lie on two lines of the processor's cache.
+pub fn many_zero(s: &[u8], at: usize, n: usize) -> bool
+    requires { ⌜ at + n ≤ length (now s) ⌝ }
+    ensures { λ r. ⌜ r ≡ isZeros (part (now (s .entry)) at n) ⌝ }
+{
+    if n < 32 {
+        return all_zero(s, at, n);
+    }
+    let start = (at + 15) / 16 * 16;
+    let middle = (at + n - start) / 32 * 32;
+    all_zero(s, at, 16) & all_zero(s, start, middle) & all_zero(s, at + n - 32, 32)
+}

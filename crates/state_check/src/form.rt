@@ -1,6 +1,6 @@
 // Whether a lent state is well formed.
-use fields::read::all_zero;
 use fields::read::get8;
+use fields::read::many_zero;
 use lock_check::locks::locks_apart;
 use queue_check::queues::trees_good;
 use rules::layout::TREE_COUNT_PLACE;
@@ -24,7 +24,7 @@ pub fn well_formed(image: &[u8], table: &[u8], state: &[u8]) -> bool
         return false;
     }
     let threads = threads_good(image, table, state) & locks_apart(state);
-    let unused = all_zero(
+    let unused = many_zero(
         state,
         TREES_PLACE + TREE_SIZE * count,
         TREE_SIZE * (Tree::COUNT - count),

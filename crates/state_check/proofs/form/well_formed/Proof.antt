@@ -28,7 +28,7 @@ returns-2 c =
     let a = c .before .before .before .before .before .before .before .before .before .args in
     simp (
       c .trees-good .ensures,
-      c .before .all-zero .ensures,
+      c .before .many-zero .ensures,
       c .before .before .locks-apart .ensures,
       c .before .before .before
           .threads-good .ensures,
