@@ -2,12 +2,13 @@
 use mathlib.Core.Path.{_≡_, refl, _∙_}
 use mathlib.Core.Bool.{Bool, true, false, cond, _&&_, _||_, and-assoc, and-false}
 use mathlib.Core.List.{List}
-use Prim.Native.Nat.{ℕ, _+_, _*_, _-_, _≤_}
+use Prim.Native.Nat.{ℕ, _+_, _*_, _-_, _/_, _%_, _≤_}
 use native.Mathlib.Nat.{add-zero}
 use native.Mathlib.Omega.{arith}
 use lib.Dec.{eqb, leb, ltb}
 use lib.ListN.{getD, drop}
 use lib.Seq.{drop-drop, getD-drop}
+use borrow.Author.Tests.{eqb-true}
 use Rattle.rules.specs.Sizes.{threadCount, registerCount, signalSize, eventThreadPlace, eventSignalPlace, eventSize}
 use Rattle.rules.specs.Codes.{externalCode, arrivalCode, stepCode, cutCode}
 use Rattle.rules.specs.Bytes.{num16, part, isZeros}
@@ -47,8 +48,32 @@ turn-kinds c = case (eqb c stepCode) refl
     case true e = e
     case false e = refl
 
-module _ (image s : List ℕ) (i : ℕ) where
-  pub event-at : eventAtOk image s i ≡ cond (eqb (getD s (eventSize * i) 0) arrivalCode) (arrivalOk image (drop (eventSize * i) s))
-      ((eqb (getD s (eventSize * i) 0) stepCode || eqb (getD s (eventSize * i) 0) cutCode) && turnOk (drop (eventSize * i) s))
-  unfolding eventAtOk eventOk
-  event-at = rw (getD-drop (eventSize * i) s 0 0, add-zero, turn-kinds (getD s (eventSize * i) 0))
+-- a turn is no arrival: its kind can be asked for first
+by-kind : (k : ℕ) (t a : Bool) → cond (eqb k arrivalCode) a ((eqb k stepCode || eqb k cutCode) && t)
+    ≡ cond (eqb k stepCode || eqb k cutCode) t (eqb k arrivalCode && a)
+by-kind k t a = case (eqb k arrivalCode) refl
+  where
+    other : (d : Bool) → (d && t) ≡ cond d t false
+    other true = refl
+    other false = refl
+
+    case : (d : Bool) → eqb k arrivalCode ≡ d → cond d a ((eqb k stepCode || eqb k cutCode) && t)
+        ≡ cond (eqb k stepCode || eqb k cutCode) t (d && a)
+    case true e = let f : k ≡ arrivalCode = eqb-true k arrivalCode e in rw f refl
+    case false e = other (eqb k stepCode || eqb k cutCode)
+
+module _ (image s : List ℕ) (at : ℕ) where
+  -- an event by its kind: a turn's, an arrival's, or none
+  pub event-at : eventOk image (drop at s) ≡ cond (eqb (getD s at 0) stepCode || eqb (getD s at 0) cutCode) (turnOk (drop at s))
+      (eqb (getD s at 0) arrivalCode && arrivalOk image (drop at s))
+  unfolding eventOk
+  event-at =
+      rw (getD-drop at s 0 0, add-zero, turn-kinds (getD s at 0))
+      (by-kind (getD s at 0) (turnOk (drop at s)) (arrivalOk image (drop at s)))
+
+  -- at a place that is a whole number of events from the first
+  pub event-here : at % eventSize ≡ 0 → eventOk image (drop at s) ≡ eventAtOk image s (at / eventSize)
+  unfolding eventAtOk
+  event-here h =
+      let e : eventSize * (at / eventSize) ≡ at = omega arith in
+      rw e

@@ -20,7 +20,7 @@ ghost use Prim.Native.Nat.{_+_, _*_, _≤_};
 ghost use lib.ListN.{length, drop};
 ghost use Rattle.rules.specs.Sizes.{eventSize};
 ghost use Rattle.rules.specs.Bytes.{firstBad};
-ghost use Rattle.rules.specs.Events.{arrivalOk, turnOk, eventAtOk};
+ghost use Rattle.rules.specs.Events.{arrivalOk, turnOk, eventOk, eventAtOk};
 
 // An arrival has thread zero, a label of entry 3, a count 0 to 25 and zeros in what is unused.
 pub fn arrival_ok(image: &[u8], s: &[u8], at: usize) -> bool
@@ -45,30 +45,30 @@ pub fn turn_ok(s: &[u8], at: usize) -> bool
         & all_zero(s, at + EVENT_SIGNAL_PLACE, SIGNAL_SIZE)
 }
 
-// The event at an index breaks no rule.
-pub fn event_ok(image: &[u8], events: &[u8], i: usize) -> bool
-    requires { ⌜ eventSize * i + eventSize ≤ length (now events) ⌝ }
-    ensures { λ r. ⌜ r ≡ eventAtOk (now (image .entry)) (now (events .entry)) i ⌝ }
+// The event at a place breaks no rule.
+pub fn event_ok(image: &[u8], events: &[u8], at: usize) -> bool
+    requires { ⌜ at + eventSize ≤ length (now events) ⌝ }
+    ensures { λ r. ⌜ r ≡ eventOk (now (image .entry)) (drop at (now (events .entry))) ⌝ }
 {
-    let at = EVENT_SIZE * i;
     let kind = events[at];
-    if kind == ARRIVAL {
-        return arrival_ok(image, events, at);
+    if (kind == STEP) | (kind == CUT) {
+        return turn_ok(events, at);
     }
-    ((kind == STEP) | (kind == CUT)) & turn_ok(events, at)
+    (kind == ARRIVAL) & arrival_ok(image, events, at)
 }
 
-// The first of m events that breaks a rule, or m.
+// The first of m events that breaks a rule, or m. The loop goes by their places.
 pub fn first_bad_event(image: &[u8], events: &[u8], m: usize) -> usize
     requires { ⌜ eventSize * m ≤ length (now events) ⌝ }
     ensures { λ r. ⌜ r ≡ firstBad (eventAtOk (now (image .entry)) (now (events .entry))) 0 m ⌝ }
 {
-    let mut i = 0;
-    while i < m {
-        if !event_ok(image, events, i) {
-            return i;
+    let end = EVENT_SIZE * m;
+    let mut at = 0;
+    while at < end {
+        if !event_ok(image, events, at) {
+            return at / EVENT_SIZE;
         }
-        i += 1;
+        at += EVENT_SIZE;
     }
-    i
+    m
 }

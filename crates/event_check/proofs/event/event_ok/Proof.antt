@@ -1,6 +1,5 @@
 use mathlib.Core.Path.{sym, _∙_}
 use borrow.Author.Needs.{needs}
-use borrow.Author.Tests.{eq-eqb, ne-eqb}
 use denote.Ref.{now}
 use Rattle.event_check.specs.Places.{event-at}
 use Rattle.event_check.proofs.event.event_ok.Statement.{statement}
@@ -9,18 +8,17 @@ use Rattle.event_check.proofs.event.event_ok.Tie as tie
 returns : tie.Need-returns
 returns c =
     let a = c .before .before .before .before .before .args in
-    c .arrival-ok .ensures ∙ sym (event-at (now (a .image)) (now (a .events)) (a .i) ∙ rw (eq-eqb _ _ (c .before .if1 .taken)))
+    c .turn-ok .ensures ∙ sym (event-at (now (a .image)) (now (a .events)) (a .at) ∙ rw (c .before .if1 .taken))
 
 returns-2 : tie.Need-returns-2
 returns-2 c =
     let a = c .before .before .before .before .before .args in
-    rw (c .turn-ok .ensures) (sym (event-at (now (a .image)) (now (a .events)) (a .i) ∙ rw (ne-eqb _ _ (c .before .if1 .left))))
+    rw (c .arrival-ok .ensures) (sym (event-at (now (a .image)) (now (a .events)) (a .at) ∙ rw (c .before .if1 .left)))
 
 pub event-ok-spec : {M : Type 1} → statement M
 event-ok-spec =
     tie.close
     (tie.spec
-    (λ c. search needs)
     (λ c. search needs)
     (λ c κs. search needs)
     returns
