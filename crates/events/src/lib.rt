@@ -26,12 +26,12 @@ pub fn event(image: &[u8], table: &[u8], state: &mut [u8], events: &[u8], i: usi
 {
     let at = EVENT_SIZE * i;
     let kind = events[at + EVENT_KIND_PLACE];
-    if kind == ARRIVAL {
-        return arrive(image, table, state, events, i);
-    }
     let t = thread_of(events[at + EVENT_THREAD_PLACE]);
     if kind == STEP {
         return step(image, table, state, t);
+    }
+    if kind == ARRIVAL {
+        return arrive(image, table, state, events, i);
     }
     let w: ThreadState = read_thread(state, t);
     cut_job(image, table, state, t, w)

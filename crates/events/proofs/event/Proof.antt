@@ -1,5 +1,6 @@
 use mathlib.Core.Path.{_≡_, sym, ap, _∙_, subst}
 use Prim.Native.Nat.{_*_}
+use native.Mathlib.Omega.{arith}
 use borrow.Author.Needs.{needs}
 use lib.ListN.{getD, drop}
 use Rattle.rules.specs.Sizes.{eventSize}
@@ -10,54 +11,54 @@ use Rattle.events.specs.Kinds.{kind-place, turn-thread, step-is, cut-is}
 use Rattle.events.proofs.event.Statement.{statement}
 use Rattle.events.proofs.event.Tie as tie
 
-arrive-requires : tie.Need-arrive-requires
-arrive-requires c κs =
-    let s = c .before .before .before .before .before .before .before in
-    let k : getD (s .args .events .now) (eventSize * s .args .i) 0 ≡ arrivalCode = sym (kind-place (s .pre .1)) ∙ c .before .if1 .taken in
-    (s .pre .0, s .pre .1, k)
-
 step-requires : tie.Need-step-requires
 step-requires c κs =
-    let s = c .before .before .before .before .before .before .before .before .before .before in
-    let k : getD (s .args .events .now) (eventSize * s .args .i) 0 ≡ arrivalCode
-    → ⊥ = λ e. c .before .before .before .before .if1 .left (kind-place (s .pre .1) ∙ e) in
-    (s .pre .0, rw (c .before .before .thread-of .ensures) (turn-thread (s .pre .1) k))
+    let s = c .before .before .before .before .before .before .before .before .before in
+    let k : getD (s .args .events .now) (eventSize * s .args .i) 0 ≡ stepCode = sym (kind-place (s .pre .1)) ∙ c .before .if1 .taken in
+    (s .pre .0, rw (c .before .before .thread-of .ensures) (turn-thread (s .pre .1) (λ e. omega arith)))
 
-returns-2 : tie.Need-returns-2
-returns-2 c =
-    let s = c .before .before .before .before .before .before .before .before .before .before .before .before .before in
+returns : tie.Need-returns
+returns c =
+    let s = c .before .before .before .before .before .before .before .before .before .before .before .before in
     let k : getD (s .args .events .now) (eventSize * s .args .i) 0 ≡ stepCode = sym (kind-place (s .pre .1))
-    ∙ c .before .before .before .before .if2 .taken in
+    ∙ c .before .before .before .before .if1 .taken in
     let e : step (c .before .before .before .before .before .thread-of .result .0) ≡ eventFrom
     (drop (eventSize * s .args .i) (s .args .events .now)) =
     ap (λ t. step (t .0)) (c .before .before .before .before .before .thread-of .ensures) ∙ sym (step-is (s .pre .1) k) in
     subst (λ (x : Event). Done (replyTo (s .args .image .now) (s .args .table .now) (s .args .state .now) x)
     (c .before .before .step .last .1 .1 .0) (c .before .before .step .result)) e (c .before .before .step .ensures)
 
+arrive-requires : tie.Need-arrive-requires
+arrive-requires c κs =
+    let s = c .before .before .before .before .before .before .before .before .before .before in
+    let k : getD (s .args .events .now) (eventSize * s .args .i) 0 ≡ arrivalCode = sym (kind-place (s .pre .1)) ∙ c .before .if2 .taken in
+    (s .pre .0, s .pre .1, k)
+
 read-thread-requires : tie.Need-read-thread-requires
 read-thread-requires c κs =
     let s = c .before .before .before .before .before .before .before .before .before .before in
     let k : getD (s .args .events .now) (eventSize * s .args .i) 0 ≡ arrivalCode
-    → ⊥ = λ e. c .before .before .before .before .if1 .left (kind-place (s .pre .1) ∙ e) in
-    (s .pre .0 .canonical .long, rw (c .before .before .thread-of .ensures) (turn-thread (s .pre .1) k))
+    → ⊥ = λ e. c .before .if2 .left (kind-place (s .pre .1) ∙ e) in
+    (s .pre .0 .canonical .long, rw (c .before .before .before .thread-of .ensures) (turn-thread (s .pre .1) k))
 
 cut-job-requires : tie.Need-cut-job-requires
 cut-job-requires c κs =
     let s = c .before .before .before .before .before .before .before .before .before .before .before .before in
     let k : getD (s .args .events .now) (eventSize * s .args .i) 0 ≡ arrivalCode
-    → ⊥ = λ e. c .before .before .before .before .before .before .if1 .left (kind-place (s .pre .1) ∙ e) in
-    (s .pre .0, rw (c .before .before .before .before .thread-of .ensures) (turn-thread (s .pre .1) k), c .before .read-thread .ensures)
+    → ⊥ = λ e. c .before .before .before .if2 .left (kind-place (s .pre .1) ∙ e) in
+    let t = c .before .before .before .before .before .thread-of in
+    (s .pre .0, rw (t .ensures) (turn-thread (s .pre .1) k), c .before .read-thread .ensures)
 
 returns-3 : tie.Need-returns-3
 returns-3 c =
     let s = c .before .before .before .before .before .before .before .before .before .before .before .before .before .before .before in
     let k : getD (s .args .events .now) (eventSize * s .args .i) 0 ≡ arrivalCode
-    → ⊥ = λ e. c .before .before .before .before .before .before .before .before .before .if1 .left (kind-place (s .pre .1) ∙ e) in
-    let m : getD (s .args .events .now) (eventSize * s .args .i) 0 ≡ stepCode
     → ⊥ = λ e. c .before .before .before .before .before .before .if2 .left (kind-place (s .pre .1) ∙ e) in
-    let e : cut (c .before .before .before .before .before .before .before .thread-of .result .0) ≡ eventFrom
+    let m : getD (s .args .events .now) (eventSize * s .args .i) 0 ≡ stepCode
+    → ⊥ = λ e. c .before .before .before .before .before .before .before .if1 .left (kind-place (s .pre .1) ∙ e) in
+    let e : cut (c .before .before .before .before .before .before .before .before .thread-of .result .0) ≡ eventFrom
     (drop (eventSize * s .args .i) (s .args .events .now)) =
-    ap (λ t. cut (t .0)) (c .before .before .before .before .before .before .before .thread-of .ensures)
+    ap (λ t. cut (t .0)) (c .before .before .before .before .before .before .before .before .thread-of .ensures)
     ∙ sym (cut-is (s .pre .1) k m) in
     subst (λ (x : Event). Done (replyTo (s .args .image .now) (s .args .table .now) (s .args .state .now) x)
     (c .before .before .cut-job .last .1 .1 .0) (c .before .before .cut-job .result)) e (c .before .before .cut-job .ensures)
@@ -69,15 +70,15 @@ event-spec =
     (λ c. search needs)
     (λ c. search needs)
     (λ c. search needs)
-    arrive-requires
-    (λ c. search needs)
-    (λ c. search needs)
     (λ c. search needs)
     (λ c. search needs)
     (λ c κs. search needs)
     step-requires
     (λ c. search needs)
-    returns-2
+    returns
+    arrive-requires
+    (λ c. search needs)
+    (λ c. search needs)
     read-thread-requires
     cut-job-requires
     (λ c. search needs)
