@@ -107,7 +107,8 @@ fn call_by(
 }
 
 pub fn send_direct(image: &[u8], table: &[u8], state: &mut [u8], t: Thread, r: &[u8]) -> Answer
-    requires { ⌜ At (now image) (now table) (now state) (t .0) (threadIn (now state) (t .0)) (now r) × (statementOf (now r) ≡ SendDirect) ⌝ }
+    requires { ⌜ At (now image) (now table) (now state) (t .0) (threadIn (now state) (t .0)) (now r)
+        × (statementOf (now r) ≡ SendDirect) ⌝ }
     ensures { λ a. ⌜ Stepped (now (image .entry)) (now (table .entry)) (now (state .entry)) (t .0) (now (state .exit)) a ⌝ }
 {
     let mut values = [0u16; Thread::REGISTERS];
@@ -117,7 +118,8 @@ pub fn send_direct(image: &[u8], table: &[u8], state: &mut [u8], t: Thread, r: &
 }
 
 pub fn call(image: &[u8], table: &[u8], state: &mut [u8], t: Thread, r: &[u8]) -> Answer
-    requires { ⌜ At (now image) (now table) (now state) (t .0) (threadIn (now state) (t .0)) (now r) × (statementOf (now r) ≡ Call) ⌝ }
+    requires { ⌜ At (now image) (now table) (now state) (t .0) (threadIn (now state) (t .0)) (now r)
+        × (statementOf (now r) ≡ Call) ⌝ }
     ensures { λ a. ⌜ Stepped (now (image .entry)) (now (table .entry)) (now (state .entry)) (t .0) (now (state .exit)) a ⌝ }
 {
     let mut values = [0u16; Thread::REGISTERS];

@@ -48,7 +48,8 @@ returns-3 c =
 returns-4 : tie.Need-returns-4
 returns-4 c =
     let k = c .before .before .before .before .before .before .before .before .before .before .before .pre in
-    own-stepped (k .0) (k .2) (c .before .before .before .before .before .enum-told .given .1) (c .before .before .before .called2 .ensures) (c .before .before .write-thread .ensures)
+    let given = c .before .before .before .before .before .enum-told .given .1 in
+    own-stepped (k .0) (k .2) given (c .before .before .before .called2 .ensures) (c .before .before .write-thread .ensures)
 
 pub call-by-spec : {M : Type 1} → statement M
 call-by-spec =

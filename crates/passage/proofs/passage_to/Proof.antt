@@ -88,7 +88,8 @@ returns-2 c =
     let s = l .before .before .before .before .before .before in
     let e : alien (row s) (s .args .t .0) ≡ true =
     rw (l .before .block-at .ensures) at (sym (c .before .is-alien .ensures) ∙ c .if2 .taken) in
-    sym (passage-on (machine s) (row s) (s .args .t .0) (s .args .own) (s .args .earlier) (l .before .before .if1 .left) true _ _ e refl refl)
+    sym (passage-on (machine s) (row s) (s .args .t .0) (s .args .own) (s .args .earlier) (l .before .before .if1 .left) true _ _ e refl
+    refl)
 
 holds-requires : tie.Need-holds-requires
 holds-requires c κs = lock-small (c .before .before)

@@ -23,7 +23,10 @@ branch-requires c κs = (
 )
 
 send-direct-requires : tie.Need-send-direct-requires
-send-direct-requires c κs = (c .before .before .before .before .before .before .before .before .pre, sym (c .before .before .before .statement-of .ensures) ∙ c .before .enum-told2 .given .1)
+send-direct-requires c κs = (
+  c .before .before .before .before .before .before .before .before .pre,
+  sym (c .before .before .before .statement-of .ensures) ∙ c .before .enum-told2 .given .1,
+)
 
 send-buffered-requires : tie.Need-send-buffered-requires
 send-buffered-requires c κs = (
@@ -32,7 +35,10 @@ send-buffered-requires c κs = (
 )
 
 call-requires : tie.Need-call-requires
-call-requires c κs = (c .before .before .before .before .before .before .before .before .pre, sym (c .before .before .before .statement-of .ensures) ∙ c .before .enum-told4 .given .1)
+call-requires c κs = (
+  c .before .before .before .before .before .before .before .before .pre,
+  sym (c .before .before .before .statement-of .ensures) ∙ c .before .enum-told4 .given .1,
+)
 
 give-back-requires : tie.Need-give-back-requires
 give-back-requires c κs = (
