@@ -23,30 +23,33 @@ enum { TRAP_FLAG = 0x100 };
  */
 enum { FIRST_EVENTS = 16, LATER_EVENTS = 48 };
 
-/* Rows of the benchmark: Run with 1,024 events is counted by the event, the check by the record. */
+/* Rows of the benchmark: Run with 1,024 events is counted by the event, the check and the walk by the record. */
 static const struct {
     const char *row;
     double instructions, calls;
 } limits[] = {
     /* Every function of a step is compiled into Run; registers are read where they stand; of the signals held, which
      * are part of the thread's value, no byte is copied. */
-    {"run, ASSIGN add", 116, 0},
+    {"run, ASSIGN add", 107, 0},
     /* The kind of a destination is tested once, and the second value stored without the record's head. */
-    {"run, DIVIDE", 120, 0},
-    {"run, DIVIDE, registers", 121, 0},
+    {"run, DIVIDE", 112, 0},
+    {"run, DIVIDE, registers", 112, 0},
     /* An arm an operation: none goes through the others' tests. */
-    {"run, PACK", 119, 0},
-    /* The passage into a block is compiled into the step, and the lock that the job has is not searched for. */
-    {"run, SEND of 0 values", 123, 0},
+    {"run, PACK", 113, 0},
+    /* The passage into a block is compiled into the step, and the lock that the job has is neither searched for nor
+     * stored. */
+    {"run, SEND of 0 values", 117, 0},
     /* The kind of an operand is tested once, where it is read. */
-    {"run, SEND of 25 values", 595, 0},
+    {"run, SEND of 25 values", 565, 0},
     /* SEND JOBTREE writes the one new signal; an end stores constants, and clears signals only where some are held. */
-    {"run, new trees", 128, 0.35},
+    {"run, new trees", 124, 0.35},
     /* What an opcode allows is looked up, and the places for operands are tested 16 bytes at a time. */
     {"check, 512 records", 120, 0},
     {"check, 512 EXIT", 61, 0},
     /* Nothing is laid out before the first record. */
     {"check, 1 record", 210, 0},
+    /* The zeros of an idle machine's state are tested 16 bytes at a time. */
+    {"walk, nobody waits", 256, 0},
 };
 
 /* Where the program's own code begins and ends; the C library's lies elsewhere. */
@@ -77,7 +80,7 @@ static void count_call(const struct bench_row *row, size_t events)
     __writeeflags(__readeflags() | TRAP_FLAG);
     uint32_t result = row->plex_call();
     __writeeflags(__readeflags() & ~(unsigned long long)TRAP_FLAG);
-    if (result != 0 || counted.instructions == 0) {
+    if (result >= 65536 || counted.instructions == 0) {
         fprintf(stderr, "instructions: %s: the call was refused, or its instructions could not be counted\n",
                 row->name);
         exit(2);
