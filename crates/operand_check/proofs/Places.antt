@@ -221,13 +221,20 @@ module _ (r : List ℕ) (bytes : (i : ℕ) → getD r i 0 < 256) (c : ℕ) (is :
   unfolding allFrom
   first-run = next 0
 
-  -- where the first run is good the others decide
-  pub other-runs : allFrom (slotOk r) 0 5 ≡ true
-      → (allFrom (run 1) 0 runSize && allFrom (run 2) 0 runSize && allFrom (run 3) 0 runSize && allFrom (run 4) 0 runSize)
+  -- of six operands and more every byte of the first run is used
+  pub whole-run : 5 < c → allFrom (runOk r 0 runSize) 0 runSize ≡ allFrom (slotOk r) 0 5
+  unfolding runOk
+  whole-run h =
+      all-same (runOk r 0 runSize) (run 0) 0 runSize (λ i p l.
+      let e = number-at i (omega arith) in
+      rw (lt-ltb (getD numbersOf i 0 + 0) runSize (omega arith), lt-ltb (getD numbersOf i 0 + 0) (1 + 3 * c) (omega arith)) refl)
+      ∙ first-run
+
+  -- the first five places and the other runs
+  pub other-runs : (allFrom (slotOk r) 0 5
+      && (allFrom (run 1) 0 runSize && allFrom (run 2) 0 runSize && allFrom (run 3) 0 runSize && allFrom (run 4) 0 runSize))
       ≡ allFrom (slotOk r) 0 operandCount
-  other-runs e =
-      let second : allFrom (run 1) 0 runSize ≡ allFrom (slotOk r) 0 10 = rw e at (next 1) in
-      rw (second, next 2, next 3) (next 4)
+  other-runs = rw (← and-assoc, ← and-assoc, ← and-assoc, next 1, next 2, next 3) (next 4)
 
 -- ---- places that are not used
 

@@ -11,7 +11,7 @@ use rules::layout::RECORD_SIZE;
 use rules::limits::Image;
 ghost use mathlib.Core.Path.{_≡_};
 ghost use mathlib.Core.Bool.{_&&_};
-ghost use Prim.Native.Nat.{_+_, _*_, _≤_};
+ghost use Prim.Native.Nat.{_+_, _*_, _<_, _≤_};
 ghost use lib.Dec.{eqb, leb};
 ghost use lib.ListN.{length};
 ghost use Rattle.rules.specs.Sizes.{operandCount, recordSize};
@@ -139,25 +139,51 @@ fn wrong_rest(
         | wrong_run(r, numbers, low, high, least, limit, 4 * RUN_STEP, end)
 }
 
-// Each of c places has an operand, and the rest are zero.
-pub fn runs_ok(r: &[u8], c: u8) -> bool
-    requires { ⌜ (length (now r) ≡ recordSize) × (c ≡ operands (now r)) × (c ≤ operandCount) ⌝ }
+// Where the places of so many operands end, counted from the byte before them. The remainder tells the compiler that this is below 128: it
+// then compares bytes as numbers with a sign, which takes one instruction and not two.
+fn end_of(c: u8) -> u8
+    requires { ⌜ c ≤ operandCount ⌝ }
+    ensures { λ z. ⌜ z ≡ 1 + 3 * c ⌝ }
+{
+    1 + PLACE_SIZE * (c % 32)
+}
+
+// No operand: every place is zero.
+pub fn none_ok(r: &[u8]) -> bool
+    requires { ⌜ (length (now r) ≡ recordSize) × (operands (now r) ≡ 0) ⌝ }
     ensures { λ z. ⌜ z ≡ slotsOk (now (r .entry)) ⌝ }
 {
-    if c == 0 {
-        return all_zero(r, OPERANDS_PLACE, PLACES_SIZE);
-    }
+    all_zero(r, OPERANDS_PLACE, PLACES_SIZE)
+}
+
+// Up to five operands: they are in the first run, and the places behind it are zero.
+pub fn few_ok(r: &[u8], c: u8) -> bool
+    requires { ⌜ (length (now r) ≡ recordSize) × (c ≡ operands (now r)) × (c ≤ 5) ⌝ }
+    ensures { λ z. ⌜ z ≡ slotsOk (now (r .entry)) ⌝ }
+{
     let numbers = NUMBERS;
     let low = LOW;
     let high = HIGH;
     let least = LEAST;
     let limit = LIMIT;
-    let end = 1 + PLACE_SIZE * c;
+    let end = end_of(c);
     if wrong_run(r, &numbers, &low, &high, &least, &limit, 0, end) != 0 {
         return false;
     }
-    if c <= RUN_PLACES {
-        return all_zero(r, REST_PLACE, REST_SIZE);
-    }
-    wrong_rest(r, &numbers, &low, &high, &least, &limit, end) == 0
+    all_zero(r, REST_PLACE, REST_SIZE)
+}
+
+// More operands: the first run is used to its end, which is known beforehand.
+pub fn many_ok(r: &[u8], c: u8) -> bool
+    requires { ⌜ (length (now r) ≡ recordSize) × (c ≡ operands (now r)) × (5 < c) × (c ≤ operandCount) ⌝ }
+    ensures { λ z. ⌜ z ≡ slotsOk (now (r .entry)) ⌝ }
+{
+    let numbers = NUMBERS;
+    let low = LOW;
+    let high = HIGH;
+    let least = LEAST;
+    let limit = LIMIT;
+    let end = end_of(c);
+    let first = wrong_run(r, &numbers, &low, &high, &least, &limit, 0, RUN_STEP + 1);
+    first | wrong_rest(r, &numbers, &low, &high, &least, &limit, end) == 0
 }

@@ -7,10 +7,11 @@ use native.Mathlib.Nat.{add-zero}
 use native.Mathlib.Omega.{arith}
 use lib.ListN.{length, getD, drop}
 use lib.Seq.{getD-drop}
-use Rattle.rules.specs.Sizes.{blockCount, blockPlace, entryPlace, labelAPlace, labelBPlace, recordSize}
+use Rattle.rules.specs.Sizes.{blockCount, blockPlace, entryPlace, operatorPlace, labelAPlace, labelBPlace, operandCountPlace}
+use Rattle.rules.specs.Sizes.{recordSize, operandCount}
 use Rattle.rules.specs.Codes.{decimalAddCode}
 use Rattle.rules.specs.Bytes.{has, allFrom, every, num16}
-use Rattle.rules.specs.Image.{labels, recordAt, opcode, blockField, entry, labelA, labelB}
+use Rattle.rules.specs.Image.{labels, recordAt, opcode, blockField, entry, operands, labelA, labelB}
 use Rattle.rules.specs.Check.{labelOk}
 use Rattle.rules.specs.declared.statement.Role.{Role}
 use Rattle.rules.specs.declared.statement.Role.the-variants.{Unused, Inner, Direct, Local, Buffered}
@@ -18,13 +19,16 @@ use Rattle.fields.specs.Bits.{below-power}
 use Rattle.fields.specs.Each.{each-or}
 use Rattle.fields.specs.Marked.{clear, eight, eight-of, eight-clear}
 use Rattle.fields.specs.Numbers.{num64}
+use Rattle.fields.specs.Runs.{all-at}
 use Rattle.image.specs.Records.{getD-any}
+use Rattle.laws.specs.Logic.{and-both}
 use Rattle.record_check.specs.Forms.{formOk, outlineOk}
 use Rattle.record_check.specs.Rows.{Asks, innerIf, table, asksIn, zeroBits, givenBits, entryFor, marks, mark, rowFor, rowOf}
-use Rattle.record_check.specs.Tests.{summed, agrees, storesOk, allows}
+use Rattle.record_check.specs.Tests.{summed, agrees, storesOk, Stores, allows}
 use Rattle.record_check.proofs.Lines.{no-greater}
 use Rattle.record_check.proofs.Labels.{label-bits, far-label}
-use Rattle.record_check.proofs.Forms.{Holds, no-opcode, opcode-holds}
+use Rattle.record_check.proofs.Forms.{sumOk, Holds, no-opcode, opcode-holds}
+use Rattle.record_check.proofs.Counts.{opcode-counted}
 
 -- the tests in the order of the code, and by rules: the sum t; bytes 1 to 8; the records at A and B; the destinations
 arranged : (t b e o a₀ a₁ b₀ b₁ c a b′ s : Bool)
@@ -42,6 +46,12 @@ arranged true true true true true true true true false a b′ s = refl
 arranged true true true true true true true true true false b′ s = simp and-false
 arranged true true true true true true true true true true false s = simp and-false
 arranged true true true true true true true true true true true s = sym (and-true s)
+
+last : (t b a b′ s : Bool) → (t && (b && (a && b′)) && s) ≡ (t && (b && (a && (b′ && s))))
+last false b a b′ s = refl
+last true false a b′ s = refl
+last true true false b′ s = refl
+last true true true b′ s = refl
 
 zeros-short : (a : Role) → zeroBits a < 256
 zeros-short Unused = omega arith
@@ -106,13 +116,26 @@ module _ (image r : List ℕ) (size : length r ≡ recordSize) (some : 0 < label
         bare : clear (num64 (drop blockPlace r)) (eight (mark x) blockPlace) ≡ allFrom byte blockPlace 8
         bare = rw (eight-of r blockPlace) (eight-clear (λ i. getD r i 0) (mark x) bytes (mark-short x) blockPlace)
 
-        allowed : Holds image r bytes x → allows image r (rowFor x) ≡ outlineOk image r
+        -- the sum and the bytes of operator and operand count are as they are asked for
+        counted : allows image r (rowFor x) ≡ true → sumOk image r bytes x ≡ true
+        unfolding allows
+        counted e =
+            let sum = and-both (has (summed r) (x .sums)) _ e in
+            let zeros = sym bare ∙ and-both (clear (num64 (drop blockPlace r)) (eight (mark x) blockPlace)) _ (sum .1) .0 in
+            rw (
+              sum .0,
+              all-at byte blockPlace 8 operatorPlace zeros (omega arith) (omega arith),
+              all-at byte blockPlace 8 operandCountPlace zeros (omega arith) (omega arith),
+            )
+            refl
+
+        allowed : Holds image r bytes x → (allows image r (rowFor x) && storesOk r (x .least) (opcode r)) ≡ outlineOk image r
         unfolding allows outlineOk allFrom
         allowed e =
             let there = agrees (recordAt image (labelA r)) (getD r blockPlace 0) (entryFor (x .first)) (givenBits (x .first)) in
             let here = agrees (recordAt image (labelB r)) (getD r blockPlace 0) 0 (givenBits (innerIf (x .second))) in
             let second = rw (no-entry (x .second)) at (label-is (innerIf (x .second)) labelBPlace b) in
-            rw bare
+            rw (bare, last (has (summed r) (x .sums)) (allFrom byte blockPlace 8) there here (storesOk r (x .least) (opcode r)))
             (arranged (has (summed r) (x .sums)) (byte 1) (byte 2) (byte 3) (byte 4) (byte 5) (byte 6) (byte 7) (byte 8) there here
             (storesOk r (x .least) (opcode r))
             ∙ rw (
@@ -124,6 +147,11 @@ module _ (image r : List ℕ) (size : length r ≡ recordSize) (some : 0 < label
               own,
             ) refl)
 
-      pub opcode-allowed : allows image r (rowOf (opcode r)) ≡ outlineOk image r
+      pub opcode-allowed : (allows image r (rowOf (opcode r)) && storesOk r (rowOf (opcode r) .least) (opcode r)) ≡ outlineOk image r
       unfolding rowOf
       opcode-allowed = allowed (asksIn table (opcode r)) (opcode-holds image r bytes)
+
+      pub counted-allowed : allows image r (rowOf (opcode r)) ≡ true
+          → (operands r ≤ operandCount) × Stores r (rowOf (opcode r) .least) (opcode r)
+      unfolding rowOf
+      counted-allowed e = opcode-counted image r bytes (counted (asksIn table (opcode r)) e)

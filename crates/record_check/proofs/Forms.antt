@@ -8,7 +8,7 @@ use native.Mathlib.Nat.{zero-div}
 use native.Mathlib.Omega.{arith}
 use lib.Dec.{eqb, leb}
 use lib.ListN.{getD, take, drop}
-use borrow.Author.Tests.{eqb-true, eqb-false, leb-true, le-leb, ne-eqb}
+use borrow.Author.Tests.{eqb-true, leb-true, le-leb, ne-eqb}
 use Rattle.rules.specs.Sizes.{operatorPlace, operandCountPlace}
 use Rattle.rules.specs.Codes.{assignCode, divideCode}
 use Rattle.rules.specs.Bytes.{has, allFrom}
@@ -29,7 +29,7 @@ use Rattle.record_check.specs.Forms.{bothOk, labelsOk, formOk}
 use Rattle.record_check.specs.Rows.{Asks, Line, line, innerIf, steps, carries, stores, assigns, branches, table, refuses, asksIn}
 use Rattle.record_check.specs.Tests.{summed, secondOk, storesOk}
 use Rattle.record_check.proofs.Sums.{same, plain, chosen}
-use Rattle.record_check.proofs.Lines.{NoLine}
+use Rattle.record_check.proofs.Lines.{NoLine, At, lookup}
 
 module _ (image r : List ℕ) (bytes : (i : ℕ) → getD r i 0 < 256) where
   -- operator and operand count are such as are asked for
@@ -43,7 +43,7 @@ module _ (image r : List ℕ) (bytes : (i : ℕ) → getD r i 0 < 256) where
       ≡ (sumOk x && (storesOk r (x .least) (opcode r) && bothOk image r (x .first) (innerIf (x .second))))
 
   abbrev Fits : Line → Type 0
-  Fits x = opcode r ≡ x .opcode → Holds (x .asks)
+  Fits = At Holds (opcode r)
 
   abbrev found : ℕ → Option Operation
   found op = operationIn forms op (operator r)
@@ -86,24 +86,30 @@ module _ (image r : List ℕ) (bytes : (i : ℕ) → getD r i 0 < 256) where
       go false p = no-form (rw (o, e, p) refl) (rw o f)
 
   -- ASSIGN: copy has two operands, and each other operator three
-  abbrev assigned : ℕ → ℕ → Bool
+  abbrev pub assigned : ℕ → ℕ → Bool
   assigned o c = cond (eqb o 1) (eqb c 2) (cond (eqb o 2) (eqb c 3) (cond (eqb o 3) (eqb c 3) (cond (eqb o 4) (eqb c 3) false)))
 
-  few-assigned : (o c : ℕ) → assigned o c ≡ true → (o < 8) × (c < 4)
+  pub few-assigned : (o c : ℕ) → assigned o c ≡ true → (o < 8) × (c < 4) × (0 < c)
   few-assigned o c = go (eqb o 1) (eqb o 2) (eqb o 3) (eqb o 4) refl refl refl refl
     where
       go : (s t u v : Bool) → eqb o 1 ≡ s → eqb o 2 ≡ t → eqb o 3 ≡ u → eqb o 4 ≡ v
-          → cond s (eqb c 2) (cond t (eqb c 3) (cond u (eqb c 3) (cond v (eqb c 3) false))) ≡ true → (o < 8) × (c < 4)
-      go true t u v p q w z e = (omega (arith, eqb-true o 1 p), omega (arith, eqb-true c 2 e))
-      go false true u v p q w z e = (omega (arith, eqb-true o 2 q), omega (arith, eqb-true c 3 e))
-      go false false true v p q w z e = (omega (arith, eqb-true o 3 w), omega (arith, eqb-true c 3 e))
-      go false false false true p q w z e = (omega (arith, eqb-true o 4 z), omega (arith, eqb-true c 3 e))
+          → cond s (eqb c 2) (cond t (eqb c 3) (cond u (eqb c 3) (cond v (eqb c 3) false))) ≡ true → (o < 8) × (c < 4) × (0 < c)
+      go true t u v p q w z e = (omega (arith, eqb-true o 1 p), omega (arith, eqb-true c 2 e), omega (arith, eqb-true c 2 e))
+      go false true u v p q w z e = (omega (arith, eqb-true o 2 q), omega (arith, eqb-true c 3 e), omega (arith, eqb-true c 3 e))
+      go false false true v p q w z e = (omega (arith, eqb-true o 3 w), omega (arith, eqb-true c 3 e), omega (arith, eqb-true c 3 e))
+      go false false false true p q w z e = (omega (arith, eqb-true o 4 z), omega (arith, eqb-true c 3 e), omega (arith, eqb-true c 3 e))
       go false false false false p q w z e = absurd (false≢true e)
 
+  pub assigned-sum : sumOk assigns ≡ assigned (operator r) (operands r)
+  unfolding allFrom
+  assigned-sum =
+      chosen (assigns .sums) assigned refl (λ o c e. (few-assigned o c e .0, few-assigned o c e .1)) (operator r) (operands r)
+      (bytes operatorPlace) (bytes operandCountPlace)
+
   assign-fits : Fits (line assignCode assigns)
-  unfolding storesOk allFrom
+  unfolding storesOk
   assign-fits h =
-      rw (chosen (assigns .sums) assigned refl few-assigned (operator r) (operands r) (bytes operatorPlace) (bytes operandCountPlace), h)
+      rw (assigned-sum, h)
       (go (eqb (operator r) 1) (eqb (operator r) 2) (eqb (operator r) 3) (eqb (operator r) 4) refl refl refl refl)
     where
       go : (s t u v : Bool) → eqb (operator r) 1 ≡ s → eqb (operator r) 2 ≡ t → eqb (operator r) 3 ≡ u → eqb (operator r) 4 ≡ v
@@ -117,30 +123,30 @@ module _ (image r : List ℕ) (bytes : (i : ℕ) → getD r i 0 < 256) where
       go false false false false p q w z = no-form (rw (h, p, q, w, z) refl) (rw h refl)
 
   -- IF: one of two operators, with two operands
-  abbrev compared : ℕ → ℕ → Bool
+  abbrev pub compared : ℕ → ℕ → Bool
   compared o c = leb 1 o && leb o 2 && eqb c 2
 
-  few-compared : (o c : ℕ) → compared o c ≡ true → (o < 8) × (c < 4)
+  pub few-compared : (o c : ℕ) → compared o c ≡ true → (o < 8) × (c < 4)
   few-compared o c e =
       let two = and-both (leb 1 o && leb o 2) (eqb c 2) e in
       (omega (arith, leb-true o 2 (and-both (leb 1 o) (leb o 2) (two .0) .1)), omega (arith, eqb-true c 2 (two .1)))
 
-  compared-sum : sumOk branches ≡ compared (operator r) (operands r)
+  pub compared-sum : sumOk branches ≡ compared (operator r) (operands r)
   unfolding allFrom
   compared-sum =
       chosen (branches .sums) compared refl few-compared (operator r) (operands r) (bytes operatorPlace) (bytes operandCountPlace)
 
   -- ---- the table
 
-  plainly : (sums : ℕ) (count : ℕ → Bool) → allFrom (λ c. same (has (c % 32) sums && clear c 224) (count c)) 0 256 ≡ true
+  pub plainly : (sums : ℕ) (count : ℕ → Bool) → allFrom (λ c. same (has (c % 32) sums && clear c 224) (count c)) 0 256 ≡ true
       → (has (summed r) sums && (clear (operator r) 255 && clear (operands r) 224)) ≡ (eqb (operator r) 0 && count (operands r))
   plainly sums count test = plain sums count test (operator r) (operands r) (bytes operatorPlace) (bytes operandCountPlace)
 
-  none-sum : (has (summed r) 1 && (clear (operator r) 255 && clear (operands r) 224)) ≡ (eqb (operator r) 0 && eqb (operands r) 0)
+  pub none-sum : (has (summed r) 1 && (clear (operator r) 255 && clear (operands r) 224)) ≡ (eqb (operator r) 0 && eqb (operands r) 0)
   unfolding allFrom
   none-sum = plainly 1 (λ c. eqb c 0) refl
 
-  any-sum : (has (summed r) (2 ^ 26 - 1) && (clear (operator r) 255 && clear (operands r) 224))
+  pub any-sum : (has (summed r) (2 ^ 26 - 1) && (clear (operator r) 255 && clear (operands r) 224))
       ≡ (eqb (operator r) 0 && leb (operands r) 25)
   unfolding allFrom
   any-sum = plainly (2 ^ 26 - 1) (λ c. leb c 25) refl
@@ -216,14 +222,5 @@ module _ (image r : List ℕ) (bytes : (i : ℕ) → getD r i 0 < 256) where
     ne-eqb (opcode r) 11 (h .1 .1 .1 .1 .1 .1 .0),
   ))
 
-  lookup : (xs : List Line) → Each Fits xs → (NoLine (opcode r) xs → Holds refuses) → Holds (asksIn xs (opcode r))
-  lookup [] e h = h tt
-  lookup (x ∷ xs) e h = go (eqb (opcode r) (x .opcode)) refl (lookup xs (e .1))
-    where
-      go : (t : Bool) → eqb (opcode r) (x .opcode) ≡ t → ((NoLine (opcode r) xs → Holds refuses) → Holds (asksIn xs (opcode r)))
-          → Holds (cond t (x .asks) (asksIn xs (opcode r)))
-      go true q more = e .0 (eqb-true (opcode r) (x .opcode) q)
-      go false q more = more (λ no. h (eqb-false (opcode r) (x .opcode) q, no))
-
   pub opcode-holds : Holds (asksIn table (opcode r))
-  opcode-holds = lookup table all-fit (λ no. no-opcode no ∙ rw (zero-div (2 ^ summed r)) refl)
+  opcode-holds = lookup Holds (opcode r) table all-fit (λ no. no-opcode no ∙ rw (zero-div (2 ^ summed r)) refl)

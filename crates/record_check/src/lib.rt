@@ -1,3 +1,4 @@
-// What the image check tests of a record, but for its operands.
+// What the image check tests of a record.
 pub mod outline;
 pub mod rows;
+pub mod rule;

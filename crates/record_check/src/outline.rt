@@ -1,17 +1,12 @@
-// The rules of a record but for the places of its operands.
-use crate::rows::row_of;
+// The tests of a record's head, of its labels, and of what it stores to.
+use crate::rows::Row;
 use fields::read::get16;
 use fields::read::get64;
 use fields::read::join16;
 use fields::read::wide;
-use image::record_fields::label_a;
-use image::record_fields::label_b;
-use image::records::index_of;
-use rules::codes::DECIMAL_ADD;
 use rules::codes::DIVIDE;
 use rules::codes::REGISTER_OPERAND;
 use rules::layout::BLOCK_PLACE;
-use rules::layout::OPCODE_PLACE;
 use rules::layout::OPERAND_COUNT_PLACE;
 use rules::layout::OPERAND_SIZE;
 use rules::layout::OPERANDS_PLACE;
@@ -22,11 +17,9 @@ ghost use Prim.Native.Nat.{_+_, _*_, _%_, _<_};
 ghost use lib.ListN.{length, drop};
 ghost use Rattle.rules.specs.Bytes.{has};
 ghost use Rattle.rules.specs.Sizes.{recordSize, blockPlace};
-ghost use Rattle.rules.specs.Image.{labels, recordAt, opcode, labelA, labelB};
+ghost use Rattle.rules.specs.Image.{labels, recordAt, labelA, labelB};
 ghost use Rattle.fields.specs.Marked.{clear};
 ghost use Rattle.fields.specs.Numbers.{num64};
-ghost use Rattle.record_check.specs.Forms.{outlineOk};
-ghost use Rattle.record_check.specs.Rows.{rowOf};
 ghost use Rattle.record_check.specs.Tests.{summed, agrees, secondOk, storesOk, allows};
 
 // The sum of operand count and four times the operator is one of these.
@@ -84,14 +77,13 @@ pub fn stores_ok(r: &[u8], least: u8, op: u8) -> bool
     }
 }
 
-// The tests of the opcode's row, of a record whose labels are a and b. A good record fails none, so the processor foresees each. The sum
-// comes before the eight bytes that are read as one number: else the compiler takes count and operator out of it, which is slower.
-pub fn row_ok(image: &[u8], r: &[u8], a: usize, b: usize, op: u8) -> bool
-    requires { ⌜ (length (now r) ≡ recordSize) × (a ≡ labelA (now r)) × (b ≡ labelB (now r)) × (op ≡ opcode (now r))
+// The tests of a row, of a record whose labels are a and b. A good record fails none, so the processor foresees each. The sum comes before
+// the eight bytes that are read as one number: else the compiler takes count and operator out of it, which is slower.
+pub fn row_ok(image: &[u8], r: &[u8], a: usize, b: usize, row: Row) -> bool
+    requires { ⌜ (length (now r) ≡ recordSize) × (a ≡ labelA (now r)) × (b ≡ labelB (now r))
         × (a < labels (now image)) × (b < labels (now image)) ⌝ }
-    ensures { λ z. ⌜ z ≡ allows (now (image .entry)) (now (r .entry)) (rowOf op) ⌝ }
+    ensures { λ z. ⌜ z ≡ allows (now (image .entry)) (now (r .entry)) row ⌝ }
 {
-    let row = row_of(op);
     if !sum_ok(r, row.sums) {
         return false;
     }
@@ -102,28 +94,5 @@ pub fn row_ok(image: &[u8], r: &[u8], a: usize, b: usize, op: u8) -> bool
     if !label_ok(image, a, own, row.entry, row.given) {
         return false;
     }
-    if !label_ok(image, b, own, 0, row.inner) {
-        return false;
-    }
-    stores_ok(r, row.least, op)
-}
-
-// All that the rules ask of a record but for the places of its operands. A label that is not used is 0, which is below n.
-pub fn outline_ok(image: &[u8], n: usize, r: &[u8]) -> bool
-    requires { ⌜ (n ≡ labels (now image)) × (0 < n) × (length (now r) ≡ recordSize) ⌝ }
-    ensures { λ z. ⌜ z ≡ outlineOk (now (image .entry)) (now (r .entry)) ⌝ }
-{
-    let a = index_of(label_a(r));
-    if n <= a {
-        return false;
-    }
-    let b = index_of(label_b(r));
-    if n <= b {
-        return false;
-    }
-    let op = r[OPCODE_PLACE];
-    if DECIMAL_ADD < op {
-        return false;
-    }
-    row_ok(image, r, a, b, op)
+    label_ok(image, b, own, 0, row.inner)
 }

@@ -2,16 +2,14 @@
 use mathlib.Core.Path.{_≡_}
 use mathlib.Core.Bool.{Bool, true, false, _&&_, and-assoc, and-true, and-false}
 use mathlib.Core.List.{List}
-use Prim.Native.Nat.{ℕ, _≤_}
+use Prim.Native.Nat.{ℕ}
 use lib.Dec.{ltb}
 use Rattle.rules.specs.Sizes.{blockCount, operandCount}
 use Rattle.rules.specs.Bytes.{allFrom}
-use Rattle.rules.specs.Image.{opcode, blockField, entry, operator, operands, labelA, labelB}
+use Rattle.rules.specs.Image.{opcode, blockField, entry, operator, labelA, labelB}
 use Rattle.rules.specs.Statements.{operationAt, statementOf, roleA, roleB}
 use Rattle.rules.specs.Check.{shapeOk, headOk, slotOk, labelOk, ruleOk}
-use Rattle.laws.specs.Logic.{and-both}
-use Rattle.laws.specs.Heads.{few-by}
-use Rattle.record_check.specs.Forms.{labelsOk, formOk, outlineOk}
+use Rattle.record_check.specs.Forms.{formOk, outlineOk}
 use Rattle.operand_check.specs.Operands.{slotsOk}
 
 moved : (b e s x l₁ l₂ : Bool) → (b && e && s && x && l₁ && l₂) ≡ (b && e && (s && (l₁ && l₂)) && x)
@@ -21,13 +19,6 @@ moved b e s false l₁ l₂ = simp and-false
 module _ (image r : List ℕ) where
   abbrev shaped : Bool
   shaped = shapeOk (operationAt (opcode r) (operator r)) r
-
-  abbrev begun : Bool
-  begun = ltb (blockField r) blockCount && ltb (entry r) 4
-
-  pub few : outlineOk image r ≡ true → operands r ≤ operandCount
-  unfolding outlineOk formOk
-  few e = few-by (operationAt (opcode r) (operator r)) r (and-both shaped (labelsOk image r (statementOf r)) (and-both begun _ e .1) .0)
 
   pub rule : ruleOk image r ≡ (outlineOk image r && slotsOk r)
   unfolding ruleOk headOk formOk outlineOk
