@@ -1,4 +1,5 @@
-// The calls that a host makes, on byte slices and numbers. Each returns one number: 0, or 65,536 × number + place of the first refusal.
+// The calls that a host makes, on byte slices and numbers. Each returns one number: but for the version 0, or 65,536 × number + place of
+// the first refusal.
 use engine::run;
 use event_check::faults::run_fault;
 use fresh_state::fresh;
@@ -12,6 +13,22 @@ use walk::walk;
 ghost use mathlib.Core.Path.{_≡_};
 ghost use Rattle.rules.specs.Calls.{checkReturn, freshReturn, freshState, runReturn, runState, runAnswers, walkReturn, walkMet};
 ghost use Rattle.rules.specs.Calls.{linkReturn, linkOut};
+ghost use Rattle.plex.specs.Version.{versionNumber};
+
+// The library's version.
+const MAJOR: u32 = 0;
+
+const MINOR: u32 = 9;
+
+const PATCH: u32 = 0;
+
+// The version as one number.
+#[no_mangle]
+pub extern "C" fn plex_version() -> u32
+    ensures { λ r. ⌜ r ≡ versionNumber ⌝ }
+{
+    65536 * MAJOR + 256 * MINOR + PATCH
+}
 
 // The image check.
 #[no_mangle]
