@@ -8,27 +8,30 @@
 #include <string.h>
 #include <unistd.h>
 
+static int help_command(int argc, char **argv);
+
 static const struct part {
     const char *name;
     int (*carry_out)(int argc, char **argv);
     const char *use;
+    const char *purpose; /* in a line */
     const char *help;
 } parts[] = {
-    {"check", check_command, "IMAGE TABLE",
+    {"check", check_command, "IMAGE TABLE", "checks an image and its block table",
      "Checks an image and its block table, and names the groups of blocks that have one lock. If they\n"
      "are refused, says which record or block is at fault and which rule it seems to break.\n"},
-    {"show", show_command, "IMAGE",
+    {"show", show_command, "IMAGE", "lists an image as statements, block by block",
      "Lists an image as statements, block by block: label, entry, statement. r0 is register 0 and\n"
      "w0 shared word 0 of the record's block. DIVIDE r0, w0 := p / q has the quotient in r0 and the\n"
      "remainder in w0. A number that UNPACK or DECIMAL ADD reads is shown by its digits, as packed\n"
      "0042, or as (not packed: 0x12a4) where one is above 9.\n"},
-    {"link", link_command, "FIRST SECOND TABLE --out IMAGE",
+    {"link", link_command, "FIRST SECOND TABLE --out IMAGE", "makes one image of two",
      "Links two images that are meant for one block table: the second is laid behind the first, and\n"
      "its labels become higher by the first's number of records. If they are refused, says which\n"
      "image and record are at fault, or which blocks both have.\n"
      "\n"
      "  --out IMAGE  write the linked image; the file may be FIRST or SECOND, but not TABLE\n"},
-    {"run", run_command, "IMAGE TABLE WORDS|--state STATE EVENTS [OPTIONS]",
+    {"run", run_command, "IMAGE TABLE WORDS|--state STATE EVENTS [OPTIONS]", "carries out the events of a file",
      "Carries the events of a file out, from a fresh machine with the initial words or from a\n"
      "state, and prints a line for each event: its place in the file, the event, the statement\n"
      "carried out, the answer and the thread after it. Of PACK, UNPACK and DECIMAL ADD it says what\n"
@@ -42,16 +45,19 @@ static const struct part {
      "The event file may have any length, and may be a pipe: what its events say is printed as they\n"
      "come. The files named by --out and --answers are put in place only after every event was\n"
      "carried out and the summary printed, both or none.\n"},
-    {"state", state_command, "[IMAGE TABLE] STATE",
+    {"state", state_command, "[IMAGE TABLE] STATE", "shows a state, and tells whether it is well formed",
      "Shows a state: threads with their held signals, locks held, queues, trees with their pending\n"
      "signals, and the shared words that are not 0. With its image and table, says which blocks the\n"
      "locks guard, and whether it is well formed.\n"},
     {"waits", waits_command, "IMAGE TABLE STATE [--dot|--svg FILE]",
+     "says which thread waits for which, and where a ring closes",
      "Says which thread waits for which lock and thread, which blocks these locks guard, and where a\n"
      "ring closes; the status is then 3.\n"
      "\n"
      "  --dot       print the waits as a Graphviz graph instead\n"
      "  --svg FILE  draw a picture of the waits instead\n"},
+    {"help", help_command, "[PART]", "says what the parts do, or how a part is used",
+     "Says of each part what it does, in a line, or of one part how it is used, as PART --help does.\n"},
 };
 enum { PARTS = sizeof parts / sizeof parts[0] };
 
@@ -65,9 +71,9 @@ static const char common[] =
 
 static void print_help(void)
 {
-    print("Use: plex PART ARGUMENTS; plex PART --help says more, plex --version the version.\n\n");
+    print("Use: plex PART ARGUMENTS; plex help PART says more, plex --version the version.\n\n");
     for (size_t i = 0; i < PARTS; i++)
-        print("  plex %s %s\n", parts[i].name, parts[i].use);
+        print("  plex %s %s\n      %s\n", parts[i].name, parts[i].use, parts[i].purpose);
     print("\n%s\nThe status is 0; 1 if a file cannot be read or written or is refused, and then no "
           "file is\naltered; 2 if the command is used wrongly; 3 if plex waits finds a ring.\n",
           common);
@@ -79,6 +85,26 @@ static const struct part *find_part(const char *name)
         if (strcmp(parts[i].name, name) == 0)
             return &parts[i];
     return NULL;
+}
+
+static void print_help_of(const struct part *part)
+{
+    print("Use: plex %s %s\n\n%s\n%s", part->name, part->use, part->help, common);
+}
+
+static int help_command(int argc, char **argv)
+{
+    static const struct option no_options[] = {{0}};
+    const char *name;
+    int count = take_arguments(argc, argv, no_options, &name, 1);
+    const struct part *part = count == 1 ? find_part(name) : NULL;
+    if (part != NULL)
+        print_help_of(part);
+    else if (count == 0)
+        print_help();
+    else if (count == 1)
+        complain("there is no part %s", name);
+    return part != NULL || count == 0 ? DONE : MISUSED;
 }
 
 static bool is_help(const char *argument)
@@ -97,7 +123,7 @@ static bool asks_for_help(int argc, char **argv)
 static int carry_out(const struct part *part, int argc, char **argv)
 {
     if (asks_for_help(argc, argv)) {
-        print("Use: plex %s %s\n\n%s\n%s", part->name, part->use, part->help, common);
+        print_help_of(part);
         return DONE;
     }
     int status = part->carry_out(argc, argv);
@@ -121,7 +147,7 @@ static int carry_out_all(int argc, char **argv)
     }
     if (argc >= 2)
         complain("there is no part %s", argv[1]);
-    fprintf(stderr, "Use: plex check|show|link|run|state|waits ARGUMENTS; see plex --help\n");
+    fprintf(stderr, "Use: plex check|show|link|run|state|waits|help ARGUMENTS; see plex --help\n");
     return MISUSED;
 }
 

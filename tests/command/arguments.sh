@@ -2,7 +2,8 @@
 tried 'no part' 2 'see plex --help'
 tried 'help' 0 'plex waits IMAGE TABLE STATE' --help
 tried 'unknown part' 2 'there is no part walk' walk
-for part in check show link run state waits; do
+parts='check show link run state waits'
+for part in $parts; do
     tried "help of $part" 0 "^Use: plex $part " "$part" --help
     tried "$part without arguments" 2 'missing' "$part"
     tried "$part with an unknown option" 2 'no option --nothing' "$part" --nothing
@@ -23,6 +24,23 @@ tried 'help of few letters' 0 'plex waits IMAGE TABLE STATE' -h
 tried 'help of a part of few letters' 0 '^Use: plex run ' run -h
 tried 'no help after --' 1 '^plex: --help: cannot be read' show -- --help
 tried 'the version' 0 '^plex [0-9][0-9.]*, format [0-9][0-9]*$' --version
+
+# ---- help as a part: the same as --help
+"$plex" --help >helped
+for part in $parts help; do
+    holds "help does not say how $part is used" grep -q "^  plex $part " helped
+    "$plex" "$part" --help >helped-2
+    tried "help $part" 0 "^Use: plex $part " help "$part"
+    same "help $part" said helped-2
+done
+holds 'a line on each part' [ "$(grep -A 1 '^  plex ' helped | grep -c '^      [a-z]')" = 7 ]
+tried 'the part help' 0 '^      lists an image as statements, block by block$' help
+same 'the part help' said helped
+tried 'help of no part' 2 'there is no part walk' help walk
+tried 'help of two parts' 2 'run is one argument too many' help check run
+for part in $parts help; do
+    tried "$part is not named without a part" 2 "[ |]$part[ |]"
+done
 cp "$table" ./--table
 tried 'a name with dashes' 0 '^accepted: .*, with --table$' check -- "$image" --table
 tried 'a value after =' 0 '^15 events in 1 call$' \
@@ -31,7 +49,7 @@ holds 'a value after =: the state' [ -s after ]
 holds 'a value after =: the answers' [ -s answered ]
 
 # ---- the manual page names every option that the help does
-helped=$("$plex" --help; for part in check show link run state waits; do "$plex" "$part" --help; done)
+helped=$("$plex" --help; for part in $parts help; do "$plex" "$part" --help; done)
 for option in $(echo "$helped" | grep -oe '--[a-z][a-z]*' | sort -u); do
     holds "the manual page lacks $option" \
         grep -qFe "\\-\\-${option#--}" "$tests/../../man/plex.1"
