@@ -3,7 +3,6 @@
  * carried out on a fresh machine. Both have to leave the same state bytes, and each event to get the
  * same answer. */
 #include "build.h"
-#include "names.h"
 #include "words.h"
 
 #include <stdio.h>
@@ -59,8 +58,8 @@ static void print_machine(void)
     for (uint32_t block = COUNTER; block <= DISPLAY; block++) {
         const uint8_t *row = row_at(table, block);
         struct line line = {0};
-        add(&line, "block %u: thread %u, %s, lock %u", block, row[PLEX_ROW_THREAD], block_kind_name(row[PLEX_ROW_KIND]),
-            row[PLEX_ROW_LOCK]);
+        add(&line, "block %u: ", block);
+        add_row(&line, row);
         print_bytes(&line, row, PLEX_ROW_SIZE);
     }
     for (uint32_t label = 0; label < RECORDS; label++) {

@@ -87,6 +87,21 @@ static void expect(const struct line *line, const char *words)
     }
 }
 
+static void try_rows(void)
+{
+    uint8_t table[PLEX_TABLE_SIZE];
+    struct line fd = {0}, cmx = {0}, unknown = {0};
+    put_row(table, 0, 7, PLEX_FD, 15);
+    put_row(table, 1, 0, PLEX_CMX, 9);
+    put_row(table, 2, 255, 2, 16);
+    add_row(&fd, row_at(table, 0));
+    expect(&fd, "thread 7, FD, lock 15");
+    add_row(&cmx, row_at(table, 1));
+    expect(&cmx, "thread 0, CMX, lock 9");
+    add_row(&unknown, row_at(table, 2));
+    expect(&unknown, "thread 255, unknown kind 2, lock 16");
+}
+
 static void try_events(void)
 {
     static const uint16_t values[] = {7, 65535};
@@ -248,6 +263,7 @@ int main(void)
         add_answer(&line, answers[i].answer, &groups);
         expect(&line, answers[i].words);
     }
+    try_rows();
     try_events();
     try_decimal_steps();
     try_threads();

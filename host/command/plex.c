@@ -20,11 +20,12 @@ static const struct part {
     {"check", check_command, "IMAGE TABLE", "checks an image and its block table",
      "Checks an image and its block table, and names the groups of blocks that have one lock. If they\n"
      "are refused, says which record or block is at fault and which rule it seems to break.\n"},
-    {"show", show_command, "IMAGE", "lists an image as statements, block by block",
+    {"show", show_command, "IMAGE [TABLE]", "lists an image as statements, block by block",
      "Lists an image as statements, block by block: label, entry, statement. r0 is register 0 and\n"
      "w0 shared word 0 of the record's block. DIVIDE r0, w0 := p / q has the quotient in r0 and the\n"
      "remainder in w0. A number that UNPACK or DECIMAL ADD reads is shown by its digits, as packed\n"
-     "0042, or as (not packed: 0x12a4) where one is above 9.\n"},
+     "0042, or as (not packed: 0x12a4) where one is above 9. With the table, each block's heading\n"
+     "has its thread, its kind (FD or CMX) and its lock.\n"},
     {"link", link_command, "FIRST SECOND TABLE --out IMAGE", "makes one image of two",
      "Links two images that are meant for one block table: the second is laid behind the first, and\n"
      "its labels become higher by the first's number of records. If they are refused, says which\n"

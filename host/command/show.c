@@ -8,42 +8,60 @@ static void print_record(const uint8_t *image, uint32_t label)
     print("  %s\n", line.text);
 }
 
+/* The number of a block, with its row if there is a table; block 16 is none. */
+static void print_heading(const struct file *table, uint32_t block)
+{
+    struct line line = {0};
+    if (block == PLEX_BLOCKS)
+        add(&line, "no block");
+    else
+        add(&line, "block %u", block);
+    if (block < PLEX_BLOCKS && table->size == PLEX_TABLE_SIZE) {
+        add(&line, ": ");
+        add_row(&line, row_at(table->bytes, block));
+    }
+    print("%s%s%s\n", colour_on(stdout, BOLD), line.text, colour_off(stdout));
+}
+
 /* The records whose block is this one; block 16 stands for every number that is no block. */
-static void print_block(const uint8_t *image, uint32_t records, uint32_t block)
+static void print_block(const struct lent *lent, uint32_t block)
 {
     bool begun = false;
-    for (uint32_t label = 0; label < records; label++) {
-        uint32_t own = record_at(image, label)[PLEX_RECORD_BLOCK];
+    for (uint32_t label = 0; label < records_of(&lent->image); label++) {
+        uint32_t own = record_at(lent->image.bytes, label)[PLEX_RECORD_BLOCK];
         if ((own < PLEX_BLOCKS ? own : PLEX_BLOCKS) != block)
             continue;
-        if (!begun && block < PLEX_BLOCKS)
-            print("%sblock %u%s\n", colour_on(stdout, BOLD), block, colour_off(stdout));
-        else if (!begun)
-            print("%sno block%s\n", colour_on(stdout, BOLD), colour_off(stdout));
+        if (!begun)
+            print_heading(&lent->table, block);
         begun = true;
-        print_record(image, label);
+        print_record(lent->image.bytes, label);
     }
 }
 
-/* An image that breaks a rule is listed too, so that the fault can be seen; the rules of records
- * do not depend on the table, so any table serves to ask the library. */
+/* An image that breaks a rule is listed too, so that the fault can be seen, and so is one with a table that does. The
+ * rules of records do not depend on the table, so any table serves to ask the library where none is given. */
+static bool show_image(const struct lent *lent, bool has_table)
+{
+    static const uint8_t any_table[PLEX_TABLE_SIZE];
+    uint32_t result = plex_check(lent->image.bytes, lent->image.size, has_table ? lent->table.bytes : any_table,
+                                 has_table ? lent->table.size : sizeof any_table);
+    if (PLEX_NUMBER(result) != PLEX_BAD_IMAGE_LENGTH)
+        for (uint32_t block = 0; block <= PLEX_BLOCKS; block++)
+            print_block(lent, block);
+    return was_accepted(lent, result);
+}
+
 int show_command(int argc, char **argv)
 {
     static const struct option no_options[] = {{0}};
-    static const uint8_t any_table[PLEX_TABLE_SIZE];
-    const char *path;
+    const char *paths[2];
     struct lent lent = {0};
-    if (!are_so_many(take_arguments(argc, argv, no_options, &path, 1), 1))
+    int count = take_arguments(argc, argv, no_options, paths, 2);
+    bool has_table = count > 1;
+    if (!are_so_many(count, has_table ? 2 : 1))
         return MISUSED;
-    if (!lend(&lent.image, path, LONGEST_IMAGE)) {
-        free_lent(&lent);
-        return TURNED_BACK;
-    }
-    uint32_t result = plex_check(lent.image.bytes, lent.image.size, any_table, sizeof any_table);
-    if (PLEX_NUMBER(result) != PLEX_BAD_IMAGE_LENGTH)
-        for (uint32_t block = 0; block <= PLEX_BLOCKS; block++)
-            print_block(lent.image.bytes, records_of(&lent.image), block);
-    bool accepted = was_accepted(&lent, result);
+    bool done = lend(&lent.image, paths[0], LONGEST_IMAGE) &&
+                (!has_table || lend(&lent.table, paths[1], PLEX_TABLE_SIZE)) && show_image(&lent, has_table);
     free_lent(&lent);
-    return accepted ? DONE : TURNED_BACK;
+    return done ? DONE : TURNED_BACK;
 }

@@ -169,6 +169,17 @@ void add_record(struct line *line, const uint8_t *image, uint32_t label)
     add_statement(line, record);
 }
 
+void add_row(struct line *line, const uint8_t *row)
+{
+    uint32_t kind = row[PLEX_ROW_KIND];
+    add(line, "thread %u, ", row[PLEX_ROW_THREAD]);
+    if (kind <= PLEX_CMX)
+        add(line, "%s", block_kind_name(kind));
+    else
+        add(line, "unknown kind %u", kind);
+    add(line, ", lock %u", row[PLEX_ROW_LOCK]);
+}
+
 /* The values of a signal or an arrival, which is laid out alike. */
 static void add_values(struct line *line, const uint8_t *signal)
 {

@@ -21,6 +21,9 @@ void add_statement(struct line *line, const uint8_t *record);
 /* As "  3  direct    CALL to 6 WITH r0, return to 4": label, entry and statement. */
 void add_record(struct line *line, const uint8_t *image, uint32_t label);
 
+/* A row of the block table, as "thread 0, CMX, lock 9". */
+void add_row(struct line *line, const uint8_t *row);
+
 /* As "arrival at 0 WITH 25" or "step of thread 3". */
 void add_event(struct line *line, const uint8_t *event);
 

@@ -20,3 +20,20 @@ byte "$east" 684 2 bad
 tried 'one destination for both results' 1 '^    8            DIVIDE r0, r0 := r0 / r1, on to 9$' show bad
 tried 'said too' 1 'both destinations are register 0' show bad
 tried 'show a short file' 1 'case.table: 48 bytes; an image is' show "$table"
+
+# ---- with its table
+tried 'a block with its row' 0 '^block 1: thread 0, CMX, lock 9$' show "$image" "$table"
+holds 'a heading for each block' [ "$(grep -c '^block [0-4]: thread [01], CMX, lock [0-9]$' said)" = 5 ]
+byte "$table" 1 0 fd
+tried 'an FD block' 0 '^block 0: thread 0, FD, lock 0$' show "$image" fd
+byte "$table" 1 2 bad
+tried 'a bad table' 1 '^block 0: thread 0, unknown kind 2, lock 0$' show "$image" bad
+tried 'said too' 1 'bad: block 0 (thread 0, kind 2, lock 0) has a field out of range' show "$image" bad
+head -c 47 "$table" >short
+tried 'a short table' 1 '^block 0$' show "$image" short
+tried 'said too' 1 'short: 47 bytes; a block table is 48' show "$image" short
+byte "$image" 1 143 bad
+tried 'no block, with a table' 1 '^no block$' show bad "$table"
+tried 'its record' 1 'bad: the record at label 0 (block 99) breaks a rule' show bad "$table"
+"$plex" show - "$table" <"$image" >said 2>&1
+holds 'an image from standard input, with a table' grep -q '^block 4: thread 1, CMX, lock 4$' said
