@@ -48,8 +48,9 @@ static const struct part {
      "carried out and the summary printed, both or none.\n"},
     {"state", state_command, "[IMAGE TABLE] STATE", "shows a state, and tells whether it is well formed",
      "Shows a state: threads with their held signals, locks held, queues, trees with their pending\n"
-     "signals, and the shared words that are not 0. With its image and table, says which blocks the\n"
-     "locks guard, and whether it is well formed.\n"},
+     "signals, and the shared words that are not 0. With its image and table, says block and statement\n"
+     "at the label and the return labels of each running thread, which blocks the locks guard, and\n"
+     "whether the state is well formed.\n"},
     {"waits", waits_command, "IMAGE TABLE STATE [--dot|--svg FILE]",
      "says which thread waits for which, and where a ring closes",
      "Says which thread waits for which lock and thread, which blocks these locks guard, and where a\n"

@@ -21,7 +21,30 @@ static void print_signals(const char *before, const uint8_t *signals, uint32_t c
     }
 }
 
-static void print_threads(const uint8_t *state)
+/* As "label 6, block 2: ASSIGN r0 := r0 * r1, on to 7". */
+static void print_statement(const char *before, const struct file *image, uint32_t label)
+{
+    struct line line = {0};
+    if (label >= records_of(image)) {
+        print("    %slabel %u: the image has no such label\n", before, label);
+        return;
+    }
+    const uint8_t *record = record_at(image->bytes, label);
+    add_statement(&line, record);
+    print("    %slabel %u, block %u: %s\n", before, label, record[PLEX_RECORD_BLOCK], line.text);
+}
+
+/* The statements at the label and the return labels of a running thread. */
+static void print_statements(const uint8_t *thread, const struct file *image)
+{
+    uint32_t returns = at_most(thread[PLEX_THREAD_RETURN_COUNT], PLEX_RETURNS_MAX);
+    print_statement("", image, get16(thread + PLEX_THREAD_LABEL));
+    for (uint32_t i = 0; i < returns; i++)
+        print_statement("return ", image, get16(thread + PLEX_THREAD_RETURNS + 2 * i));
+}
+
+/* The image is NULL if it is not known. */
+static void print_threads(const uint8_t *state, const struct file *image)
 {
     print_heading("threads");
     for (uint32_t thread = 0; thread < PLEX_THREADS; thread++) {
@@ -31,6 +54,8 @@ static void print_threads(const uint8_t *state)
         add_registers(&registers, bytes);
         print("  %u  %s", thread, where.text);
         print(is_idle(bytes) ? "\n" : ", registers %s\n", registers.text);
+        if (image != NULL && !is_idle(bytes))
+            print_statements(bytes, image);
         print_signals("held ", held_at(bytes, 0), at_most(bytes[PLEX_THREAD_HELD_COUNT], PLEX_HELD_MAX));
     }
 }
@@ -99,10 +124,10 @@ static void print_words(const uint8_t *state)
         print("  none\n");
 }
 
-/* The groups are NULL if they are not known. */
-static void print_state(const uint8_t *state, const struct groups *groups)
+/* The image and the groups are NULL if they are not known. */
+static void print_state(const uint8_t *state, const struct file *image, const struct groups *groups)
 {
-    print_threads(state);
+    print_threads(state, image);
     print_locks(state, groups);
     print_heading("queues");
     for (uint32_t thread = 0; thread < PLEX_THREADS; thread++)
@@ -113,12 +138,17 @@ static void print_state(const uint8_t *state, const struct groups *groups)
     print_words(state);
 }
 
-/* Whether the library accepts the state with the image and the table, in which any walk does. */
-static bool is_well_formed(const struct lent *lent)
+/* What the library says of the state with the image and the table, which any walk tells. */
+static uint32_t check_state(const struct lent *lent)
 {
     uint8_t met[PLEX_MET_SIZE];
-    if (!was_accepted(lent, plex_walk(lent->image.bytes, lent->image.size, lent->table.bytes, lent->table.size,
-                                      lent->state.bytes, lent->state.size, 0, met, sizeof met)))
+    return plex_walk(lent->image.bytes, lent->image.size, lent->table.bytes, lent->table.size, lent->state.bytes,
+                     lent->state.size, 0, met, sizeof met);
+}
+
+static bool is_well_formed(const struct lent *lent, uint32_t result)
+{
+    if (!was_accepted(lent, result))
         return false;
     print("%swell formed%s with %s and %s\n", colour_on(stdout, GREEN), colour_off(stdout), lent->image.path,
           lent->table.path);
@@ -131,9 +161,12 @@ static bool show_state(const struct lent *lent, bool has_image)
     if (!has_image && !is_state_long(&lent->state))
         return false;
     struct groups groups = groups_of(lent);
+    uint32_t result = has_image ? check_state(lent) : 0;
+    bool has_records = has_image && PLEX_NUMBER(result) != PLEX_BAD_IMAGE_LENGTH;
     if (lent->state.size == PLEX_STATE_SIZE)
-        print_state(lent->state.bytes, lent->table.size == PLEX_TABLE_SIZE ? &groups : NULL);
-    return !has_image || is_well_formed(lent);
+        print_state(lent->state.bytes, has_records ? &lent->image : NULL,
+                    lent->table.size == PLEX_TABLE_SIZE ? &groups : NULL);
+    return !has_image || is_well_formed(lent, result);
 }
 
 int state_command(int argc, char **argv)
