@@ -52,9 +52,9 @@ static const struct part {
      "at the label and the return labels of each running thread, which blocks the locks guard, and\n"
      "whether the state is well formed.\n"},
     {"waits", waits_command, "IMAGE TABLE STATE [--dot|--svg FILE]",
-     "says which thread waits for which, and where a ring closes",
-     "Says which thread waits for which lock and thread, which blocks these locks guard, and where a\n"
-     "ring closes; the status is then 3.\n"
+     "says which thread waits for which, and what opens a ring",
+     "Says which thread waits for which lock and thread, and which blocks these locks guard. A ring is\n"
+     "said once, with the thread to cut and the one to step then, which opens it; the status is 3.\n"
      "\n"
      "  --dot       print the waits as a Graphviz graph instead\n"
      "  --svg FILE  draw a picture of the waits instead\n"},

@@ -34,28 +34,48 @@ static bool walk_from_all(const struct lent *lent, struct walk *walks)
     return true;
 }
 
-/* As "thread 1 --lock 3--> thread 0, which does not wait". */
+/* The threads met, as "thread 1 --lock 3--> thread 0". */
+static void print_met(const struct walk *walks, const struct walk *walk, uint32_t count)
+{
+    print("thread %u", walk->met[0]);
+    for (uint32_t i = 1; i < count; i++)
+        print(" --lock %u--> thread %u", walks[walk->met[i - 1]].lock, walk->met[i]);
+}
+
+/* The walk of a thread on no ring, up to the first thread that is on one: as "thread 1 --lock 3--> thread 0, which does
+ * not wait". */
 static void print_walk(const struct walk *walks, const struct walk *walk)
 {
     bool ring = walk->result & PLEX_RING;
-    uint32_t count = walk->result & ~PLEX_RING, last = walk->met[count - 1];
-    print("%sthread %u", colour_on(stdout, ring ? RED : YELLOW), walk->met[0]);
-    for (uint32_t i = 1; i < count; i++)
-        print(" --lock %u--> thread %u", walks[walk->met[i - 1]].lock, walk->met[i]);
-    if (ring)
-        print(" --lock %u--> thread %u again: a ring", walks[last].lock, walks[last].met[1]);
-    else
-        print(", which does not wait");
-    print("%s\n", colour_off(stdout));
+    uint32_t count = 1;
+    while (count < (walk->result & ~PLEX_RING) && !is_on_ring(walks, walk->met[count - 1]))
+        count++;
+    print("%s", colour_on(stdout, ring ? RED : YELLOW));
+    print_met(walks, walk, count);
+    print(", which %s%s\n", ring ? "is on a ring" : "does not wait", colour_off(stdout));
 }
 
-/* The walks of the threads that wait, and then which blocks each lock guards that is waited for. */
+/* The walk round a ring, and what opens it: without the last thread's job the one before it gets the lock that it
+ * waits for, if no other thread takes a step between. */
+static void print_ring(const struct walk *walks, const struct walk *walk)
+{
+    uint32_t count = walk->result & ~PLEX_RING, last = walk->met[count - 1];
+    print("%s", colour_on(stdout, RED));
+    print_met(walks, walk, count);
+    print(" --lock %u--> thread %u again: a ring%s\n", walks[last].lock, walk->met[0], colour_off(stdout));
+    print("  to open it, cut thread %u and then, in the same call, step thread %u\n", last, walk->met[count - 2]);
+}
+
+/* The walks of the threads that wait, each ring once, and then which blocks each lock guards that is waited for. */
 static void print_walks(const struct walk *walks, const struct groups *groups)
 {
     uint32_t wanted = 0;
     for (uint32_t thread = 0; thread < PLEX_THREADS; thread++)
         if (does_wait(&walks[thread])) {
-            print_walk(walks, &walks[thread]);
+            if (is_first_on_ring(walks, thread))
+                print_ring(walks, &walks[thread]);
+            else if (!is_on_ring(walks, thread))
+                print_walk(walks, &walks[thread]);
             wanted |= 1u << walks[thread].lock;
         }
     if (wanted == 0)

@@ -19,6 +19,9 @@ bool does_wait(const struct walk *walk);
 /* Whether the walk comes back to the thread that it began with. */
 bool is_on_ring(const struct walk *walks, uint32_t thread);
 
+/* Whether the thread is the lowest one on a ring. */
+bool is_first_on_ring(const struct walk *walks, uint32_t thread);
+
 /* Whether the thread waits or is waited for. */
 bool is_in_waits(const struct walk *walks, uint32_t thread);
 

@@ -15,6 +15,14 @@ bool is_on_ring(const struct walk *walks, uint32_t thread)
     return does_wait(&walks[last]) && walks[last].met[1] == thread;
 }
 
+bool is_first_on_ring(const struct walk *walks, uint32_t thread)
+{
+    bool is_first = is_on_ring(walks, thread);
+    for (uint32_t i = 0; i < (walks[thread].result & ~PLEX_RING); i++)
+        is_first &= thread <= walks[thread].met[i];
+    return is_first;
+}
+
 bool is_in_waits(const struct walk *walks, uint32_t thread)
 {
     bool is_in = does_wait(&walks[thread]);
