@@ -12,7 +12,8 @@
 enum { RECORDS = 128, TRIALS = 40000 };
 
 static uint8_t image[RECORDS * PLEX_RECORD_SIZE], table[PLEX_TABLE_SIZE], state[PLEX_STATE_SIZE];
-static uint32_t failures, refusals[PLEX_BAD_OUTPUT_LENGTH + 1], link_refusals[PLEX_BAD_OUTPUT_LENGTH + 1];
+static uint32_t failures, refused_alone, refusals[PLEX_BAD_OUTPUT_LENGTH + 1],
+    link_refusals[PLEX_BAD_OUTPUT_LENGTH + 1];
 
 /* Of a part: it is explained if it is refused, and if not, not. */
 static void expect(const char *what, const struct line *why, int is_refused)
@@ -108,11 +109,12 @@ static void put_any_arrival(uint8_t *event)
     put_arrival(event, label, values, (uint8_t)count);
 }
 
-/* One event, at times damaged, and then the state that it leaves, damaged. */
+/* One event, at times damaged, and then the state that it leaves, damaged. What is said of the state without its image
+ * and table is said of no state that is accepted. */
 static void try_event(void)
 {
     uint8_t event[PLEX_EVENT_SIZE], tried[PLEX_STATE_SIZE];
-    struct line why = {0}, state_why = {0};
+    struct line why = {0}, state_why = {0}, alone_why = {0};
     if (below(4) == 0)
         put_any_arrival(event);
     else if (below(50) == 0)
@@ -133,6 +135,10 @@ static void try_event(void)
     number = PLEX_NUMBER(run(tried, event, 0));
     explain_state(&state_why, image, RECORDS, table, tried);
     expect("state", &state_why, number == PLEX_BAD_STATE);
+    explain_state_alone(&alone_why, tried);
+    if (alone_why.length != 0)
+        expect("state alone", &alone_why, number == PLEX_BAD_STATE);
+    refused_alone += alone_why.length != 0;
     refusals[number]++;
 }
 
@@ -163,12 +169,14 @@ int main(void)
         if (trial % 64 == 0)
             try_link();
     }
-    printf("explanations: refused images %u, tables %u, events %u, states %u; links by a record %u, by a block %u, by "
+    printf("explanations: refused images %u, tables %u, events %u, states %u, %u of them without image and table; "
+           "links by a record %u, by a block %u, by "
            "their record count %u; %u failures\n",
            refusals[PLEX_BAD_RECORD], refusals[PLEX_BAD_TABLE_FIELD], refusals[PLEX_BAD_EVENT],
-           refusals[PLEX_BAD_STATE], link_refusals[PLEX_BAD_RECORD], link_refusals[PLEX_SHARED_BLOCK],
+           refusals[PLEX_BAD_STATE], refused_alone, link_refusals[PLEX_BAD_RECORD], link_refusals[PLEX_SHARED_BLOCK],
            link_refusals[PLEX_TOO_MANY_RECORDS], failures);
-    return failures != 0 || refusals[PLEX_BAD_RECORD] == 0 || refusals[PLEX_BAD_TABLE_FIELD] == 0 ||
-           refusals[PLEX_BAD_EVENT] == 0 || refusals[PLEX_BAD_STATE] == 0 || link_refusals[PLEX_BAD_RECORD] == 0 ||
-           link_refusals[PLEX_SHARED_BLOCK] == 0 || link_refusals[PLEX_TOO_MANY_RECORDS] == 0;
+    return failures != 0 || refused_alone == 0 || refusals[PLEX_BAD_RECORD] == 0 ||
+           refusals[PLEX_BAD_TABLE_FIELD] == 0 || refusals[PLEX_BAD_EVENT] == 0 || refusals[PLEX_BAD_STATE] == 0 ||
+           link_refusals[PLEX_BAD_RECORD] == 0 || link_refusals[PLEX_SHARED_BLOCK] == 0 ||
+           link_refusals[PLEX_TOO_MANY_RECORDS] == 0;
 }

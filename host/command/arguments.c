@@ -108,6 +108,13 @@ bool are_so_many(int count, int wanted)
     return count == wanted;
 }
 
+bool is_out_named(const char *out, const char *what)
+{
+    if (out == NULL)
+        complain("--out is missing: %s wants a file", what);
+    return out != NULL;
+}
+
 bool are_different(const char *name, const char *path, const char *other_name, const char *other_path)
 {
     bool same = path != NULL && other_path != NULL &&

@@ -8,6 +8,8 @@
 #include <stdbool.h>
 #include <stdio.h>
 
+struct output;
+
 /* The status of the command: DONE; a file or what it holds turned back, and no file altered; wrong
  * use; or, of plex waits, done and a ring found. */
 enum { DONE = 0, TURNED_BACK = 1, MISUSED = 2, RING_FOUND = 3 };
@@ -19,6 +21,7 @@ int link_command(int argc, char **argv);
 int run_command(int argc, char **argv);
 int state_command(int argc, char **argv);
 int waits_command(int argc, char **argv);
+int upgrade_command(int argc, char **argv);
 
 /* ---- Arguments. */
 
@@ -35,6 +38,9 @@ int take_arguments(int argc, char **argv, const struct option *options, const ch
 
 /* Whether the count of other arguments is the one wanted; a sentence if not. */
 bool are_so_many(int count, int wanted);
+
+/* Whether a file is named for what is written; a sentence if not. */
+bool is_out_named(const char *out, const char *what);
 
 /* Whether two arguments, called by these names and NULL if not there, lead to different files; a
  * sentence if not. The other one may be "-", standard input. */
@@ -63,6 +69,13 @@ void complain(const char *format, ...) __attribute__((format(printf, 1, 2)));
 bool is_read(const struct file *file, int failed);
 bool is_written(const char *path, int failed);
 
+/* Whether an output of these bytes is complete; a sentence if not. */
+bool complete(struct output *output, const char *path, const uint8_t *bytes, size_t size);
+
+/* Whether the output, if it is complete, is put in place, after everything printed is out; a sentence if not. It is
+ * dropped in any case. */
+bool put_in_place(struct output *output, bool is_complete);
+
 /* The most bytes that an image has. */
 enum { LONGEST_IMAGE = PLEX_RECORD_SIZE * PLEX_RECORDS_MAX };
 
@@ -82,6 +95,9 @@ uint32_t records_of(const struct file *image);
 
 /* The groups of the image and the table; none if the table does not have its length. */
 struct groups groups_of(const struct lent *lent);
+
+/* A sentence about a file of the wrong length, of which limit + 1 bytes were read if it is longer. */
+void report_length(const struct file *file, size_t limit, const char *expected);
 
 /* Whether the file is as long as a state; a sentence if not. */
 bool is_state_long(const struct file *state);

@@ -20,6 +20,10 @@ void explain_event(struct line *why, const uint8_t *image, uint32_t records, con
 void explain_state(struct line *why, const uint8_t *image, uint32_t records, const uint8_t *table,
                    const uint8_t *state);
 
+/* The same of a state whose image and table are not known: what they would tell is left out. The library tests no
+ * state without them, so plex upgrade goes by this. */
+void explain_state_alone(struct line *why, const uint8_t *state);
+
 /* The count and the values of a signal or an arrival. */
 void explain_values(struct line *why, const uint8_t *signal);
 

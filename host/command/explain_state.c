@@ -2,11 +2,18 @@
 #include "explain.h"
 #include "names.h"
 
-/* A state and the image and table that it was lent with. */
+/* A state and the image and table that it was lent with. Where these are not known they are NULL, and the image
+ * may have as many records as one can have. */
 struct seen {
     const uint8_t *image, *table, *state;
     uint32_t records;
 };
+
+/* Whose labels are below the number of records. */
+static const char *whose(const struct seen *seen)
+{
+    return seen->image == NULL ? "an image's" : "the image's";
+}
 
 static bool is_running(const struct seen *seen, uint32_t thread)
 {
@@ -22,7 +29,12 @@ static uint32_t locks_at(const struct seen *seen, uint32_t thread)
 static void explain_label(struct line *why, const struct seen *seen, uint32_t thread, uint32_t label)
 {
     if (label >= seen->records) {
-        add(why, "thread %u has label %u, and the image's labels are below %u", thread, label, seen->records);
+        add(why, "thread %u has label %u, and %s labels are below %u", thread, label, whose(seen), seen->records);
+        return;
+    }
+    if (seen->image == NULL) {
+        if (locks_at(seen, thread) == 0)
+            add(why, "thread %u has label %u and holds no lock", thread, label);
         return;
     }
     uint32_t block = record_at(seen->image, label)[PLEX_RECORD_BLOCK], lock = lock_of(seen->table, block);
@@ -47,7 +59,11 @@ static void explain_signal(struct line *why, const struct seen *seen, const uint
 {
     uint32_t label = get16(signal + PLEX_SIGNAL_LABEL);
     if (label >= seen->records) {
-        add(why, "its label is %u, and the image's labels are below %u", label, seen->records);
+        add(why, "its label is %u, and %s labels are below %u", label, whose(seen), seen->records);
+        return;
+    }
+    if (seen->image == NULL) {
+        explain_values(why, signal);
         return;
     }
     uint32_t entry = record_at(seen->image, label)[PLEX_RECORD_ENTRY];
@@ -168,6 +184,8 @@ static void explain_queued(struct line *why, const struct seen *seen, uint32_t t
         add(why, "tree %u has no pending signal and is not a running thread's first", tree);
         return;
     }
+    if (seen->image == NULL)
+        return;
     uint32_t label = get16(signal_at(bytes, 0) + PLEX_SIGNAL_LABEL);
     uint32_t block = record_at(seen->image, label)[PLEX_RECORD_BLOCK];
     uint32_t owner = row_at(seen->table, block)[PLEX_ROW_THREAD];
@@ -200,11 +218,22 @@ static void explain_trees(struct line *why, const struct seen *seen)
         add(why, "a byte after the last of the %u trees is not 0", count);
 }
 
+static void explain_seen(struct line *why, const struct seen *seen)
+{
+    for (uint32_t thread = 0; thread < PLEX_THREADS && why->length == 0; thread++)
+        explain_thread(why, seen, thread);
+    if (why->length == 0)
+        explain_trees(why, seen);
+}
+
 void explain_state(struct line *why, const uint8_t *image, uint32_t records, const uint8_t *table, const uint8_t *state)
 {
     struct seen seen = {image, table, state, records};
-    for (uint32_t thread = 0; thread < PLEX_THREADS && why->length == 0; thread++)
-        explain_thread(why, &seen, thread);
-    if (why->length == 0)
-        explain_trees(why, &seen);
+    explain_seen(why, &seen);
+}
+
+void explain_state_alone(struct line *why, const uint8_t *state)
+{
+    struct seen seen = {NULL, NULL, state, PLEX_RECORDS_MAX};
+    explain_seen(why, &seen);
 }

@@ -22,34 +22,19 @@ static void print_linked(const struct lent *lent, const char *out)
           lent->second_image.path, first);
 }
 
-/* What is printed is out before the image is put in place. */
-static bool put_in_place(const struct lent *lent, const char *out, const uint8_t *linked, size_t size)
-{
-    struct output output;
-    const struct output *at_fault;
-    bool done = is_written(out, complete_output(&output, out, linked, size));
-    if (done)
-        print_linked(lent, out);
-    done = done && is_printed() && is_written(out, place_outputs(&output, 1, &at_fault));
-    drop_output(&output);
-    return done;
-}
-
 /* A file that is too long was read one byte further than the longest image. */
 static bool link_images(const struct lent *lent, const char *out)
 {
     static uint8_t linked[2 * (LONGEST_IMAGE + 1)];
     size_t size = lent->image.size + lent->second_image.size;
-    return was_linked(lent, plex_link(lent->image.bytes, lent->image.size, lent->second_image.bytes,
-                                      lent->second_image.size, lent->table.bytes, lent->table.size, linked, size)) &&
-           put_in_place(lent, out, linked, size);
-}
-
-static bool is_out_named(const char *out)
-{
-    if (out == NULL)
-        complain("--out is missing: the linked image wants a file");
-    return out != NULL;
+    struct output output;
+    if (!was_linked(lent, plex_link(lent->image.bytes, lent->image.size, lent->second_image.bytes,
+                                    lent->second_image.size, lent->table.bytes, lent->table.size, linked, size)))
+        return false;
+    bool is_whole = complete(&output, out, linked, size);
+    if (is_whole)
+        print_linked(lent, out);
+    return put_in_place(&output, is_whole);
 }
 
 int link_command(int argc, char **argv)
@@ -57,7 +42,7 @@ int link_command(int argc, char **argv)
     struct lent lent = {0};
     const char *paths[3], *out = NULL;
     const struct option options[] = {{.name = "--out", .written = &out}, {0}};
-    if (!are_so_many(take_arguments(argc, argv, options, paths, 3), 3) || !is_out_named(out) ||
+    if (!are_so_many(take_arguments(argc, argv, options, paths, 3), 3) || !is_out_named(out, "the linked image") ||
         !are_different("--out", out, "TABLE", paths[2]))
         return MISUSED;
     bool done = lend(&lent.image, paths[0], LONGEST_IMAGE) && lend(&lent.second_image, paths[1], LONGEST_IMAGE) &&

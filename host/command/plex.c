@@ -58,6 +58,12 @@ static const struct part {
      "\n"
      "  --dot       print the waits as a Graphviz graph instead\n"
      "  --svg FILE  draw a picture of the waits instead\n"},
+    {"upgrade", upgrade_command, "table|state FILE --out FILE", "takes over a table or a state of a former format",
+     "Makes of a table of format 2 or before, which has 32 bytes, or of a state of format 1, which has\n"
+     "7,929 bytes, one of today's format: block b gets lock b, and each thread gets no held signal. A\n"
+     "file of any other length is refused, as is one whose bytes the former format did not allow.\n"
+     "\n"
+     "  --out FILE  write the table or the state; the file must not be the one read\n"},
     {"help", help_command, "[PART]", "says what the parts do, or how a part is used",
      "Says of each part what it does, in a line, or of one part how it is used, as PART --help does.\n"},
 };
@@ -149,7 +155,7 @@ static int carry_out_all(int argc, char **argv)
     }
     if (argc >= 2)
         complain("there is no part %s", argv[1]);
-    fprintf(stderr, "Use: plex check|show|link|run|state|waits|help ARGUMENTS; see plex --help\n");
+    fprintf(stderr, "Use: plex check|show|link|run|state|waits|upgrade|help ARGUMENTS; see plex --help\n");
     return MISUSED;
 }
 

@@ -1,7 +1,9 @@
 /* Sentences about what went wrong: which file, which part of it, and why. */
 #include "command.h"
 #include "explain.h"
+#include "formats.h"
 #include "names.h"
+#include "outputs.h"
 
 #include <inttypes.h>
 #include <stdarg.h>
@@ -39,6 +41,19 @@ bool is_written(const char *path, int failed)
     return !failed;
 }
 
+bool complete(struct output *output, const char *path, const uint8_t *bytes, size_t size)
+{
+    return is_written(path, complete_output(output, path, bytes, size));
+}
+
+bool put_in_place(struct output *output, bool is_complete)
+{
+    const struct output *at_fault;
+    bool is_in_place = is_complete && is_printed() && is_written(output->path, place_outputs(output, 1, &at_fault));
+    drop_output(output);
+    return is_in_place;
+}
+
 void free_lent(struct lent *lent)
 {
     free(lent->image.bytes);
@@ -49,8 +64,7 @@ void free_lent(struct lent *lent)
     free(lent->events.bytes);
 }
 
-/* A file of the wrong length, of which limit + 1 bytes were read if it is longer. */
-static void report_length(const struct file *file, size_t limit, const char *expected)
+void report_length(const struct file *file, size_t limit, const char *expected)
 {
     if (file->size > limit)
         complain("%s: more than %zu bytes; %s", file->path, limit, expected);
@@ -58,10 +72,22 @@ static void report_length(const struct file *file, size_t limit, const char *exp
         complain("%s: %zu bytes; %s", file->path, file->size, expected);
 }
 
+/* A table or a state of the wrong length, which may be that of a former format. */
+static void report_kind_length(const struct file *file, enum kind kind, const char *expected)
+{
+    const struct format *format = &formats[kind];
+    const struct former_format *former = find_former(kind, file->size);
+    if (former == NULL)
+        report_length(file, format->size, expected);
+    else
+        complain("%s: %zu bytes; a %s of format %d; %s: plex upgrade %s takes it over", file->path, file->size,
+                 format->name, former->version, format->length, format->name);
+}
+
 bool is_state_long(const struct file *state)
 {
     if (state->size != PLEX_STATE_SIZE)
-        report_length(state, PLEX_STATE_SIZE, "a state is 9,633 bytes");
+        report_kind_length(state, STATE, formats[STATE].length);
     return state->size == PLEX_STATE_SIZE;
 }
 
@@ -137,7 +163,7 @@ static void report(const struct lent *lent, uint32_t number, uint32_t place)
         report_length(&lent->image, LONGEST_IMAGE, "an image is 84 bytes a record, 1 to 512 records");
         break;
     case PLEX_BAD_TABLE_LENGTH:
-        report_length(&lent->table, PLEX_TABLE_SIZE, "a block table is 48 bytes: thread, kind and lock of 16 blocks");
+        report_kind_length(&lent->table, TABLE, "a block table is 48 bytes: thread, kind and lock of 16 blocks");
         break;
     case PLEX_BAD_TABLE_FIELD:
         report_row(lent, place);

@@ -2,7 +2,7 @@
 tried 'no part' 2 'see plex --help'
 tried 'help' 0 'plex waits IMAGE TABLE STATE' --help
 tried 'unknown part' 2 'there is no part walk' walk
-parts='check show link run state waits'
+parts='check show link run state waits upgrade'
 for part in $parts; do
     tried "help of $part" 0 "^Use: plex $part " "$part" --help
     tried "$part without arguments" 2 'missing' "$part"
@@ -20,6 +20,7 @@ tried 'run without a file for --out' 2 'wants the name of a file' run a b c d --
 tried 'nor after =' 2 '--out wants the name of a file' run a b c d --out=
 tried 'a value for a flag' 2 '--summary has no value' run a b c d --summary=yes
 tried 'a short option' 2 'there is no option -x here' check -x "$table"
+tried 'upgrade without its file' 1 'a: cannot be read: No such file' upgrade table a --out b
 tried 'help of few letters' 0 'plex waits IMAGE TABLE STATE' -h
 tried 'help of a part of few letters' 0 '^Use: plex run ' run -h
 tried 'no help after --' 1 '^plex: --help: cannot be read' show -- --help
@@ -33,7 +34,7 @@ for part in $parts help; do
     tried "help $part" 0 "^Use: plex $part " help "$part"
     same "help $part" said helped-2
 done
-holds 'a line on each part' [ "$(grep -A 1 '^  plex ' helped | grep -c '^      [a-z]')" = 7 ]
+holds 'a line on each part' [ "$(grep -A 1 '^  plex ' helped | grep -c '^      [a-z]')" = 8 ]
 tried 'the part help' 0 '^      lists an image as statements, block by block$' help
 same 'the part help' said helped
 tried 'help of no part' 2 'there is no part walk' help walk

@@ -16,10 +16,11 @@ repeated one 513 long
 tried 'long image' 1 'long: more than 43008 bytes; an image is' check long "$table"
 tried 'its number' 1 'refused with number 1, place 0' check long "$table"
 head -c 47 "$table" >short
-tried 'short table' 1 'short: 47 bytes; a block table is 48' check "$image" short
+tried 'short table' 1 'short: 47 bytes; a block table is 48 bytes: thread, kind and lock of' check "$image" short
 head -c 49 "$image" >long
 tried 'long table' 1 'long: more than 48 bytes; a block table is 48' check "$image" long
-tried 'a table of format 2' 1 'former-table: 32 bytes; a block table is 48 bytes: thread, kind and lock of' \
+tried 'a table of format 2' 1 \
+    '^plex: former-table: 32 bytes; a table of format 2; a table is 48 bytes: plex upgrade table takes it over$' \
     check "$image" former-table
 tried 'its number' 1 'refused with number 2, place 0' check "$image" former-table
 

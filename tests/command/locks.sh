@@ -1,14 +1,16 @@
 # One lock for several blocks, and tables of format 2.
 # former PART ARGUMENT..: it refuses the table of format 2
 former() {
-    tried "$1" 1 'former-table: 32 bytes; a block table is 48' "$@" --quiet
+    tried "$1" 1 'former-table: 32 bytes; a table of format 2; a table is 48 bytes: plex upgrade table takes' "$@" --quiet
     holds "$1: number 2" grep -q 'refused with number 2, place 0' said
 }
+former check "$image" former-table
+former show "$image" former-table
 former run "$image" former-table "$words" "$events"
 former link "$image" "$east" former-table --out kept
 former state "$image" former-table waiting
 former waits "$image" former-table waiting
-tried 'a table of format 2, with a trace' 1 'former-table: 32 bytes; a block table is 48' \
+tried 'a table of format 2, with a trace' 1 'former-table: 32 bytes; a table of format 2; a table is 48 bytes' \
     run "$image" former-table "$events" --state waiting
 same 'a table of format 2: the file of --out' kept old
 

@@ -17,7 +17,7 @@ refused 'long words' 'long: more than 512 bytes; initial words' "$image" "$table
 refused 'short state' 'short-state: 9632 bytes; a state is 9,633' \
     "$image" "$table" "$events" --state short-state
 head -c 7929 left >former-state
-refused 'a state of the formats before' 'former-state: 7929 bytes; a state is 9,633' \
+refused 'a state of the formats before' 'former-state: 7929 bytes; a state of format 1; a state is 9,633 bytes' \
     "$image" "$table" "$events" --state former-state
 refused 'long state' 'long-state: more than 9633 bytes' "$image" "$table" "$events" \
     --state long-state
