@@ -1,4 +1,5 @@
-/* Statements, events, answers, locks, threads, packed numbers and names in words, one of each sort. */
+/* Statements, events, answers, locks, threads, packed numbers, amounts and names in words, one of each sort. */
+#include "amounts.h"
 #include "build.h"
 #include "names.h"
 #include "packed.h"
@@ -249,6 +250,15 @@ static void try_any_bytes(void)
         failed = 1;
 }
 
+static void try_amounts(void)
+{
+    struct line line = {0};
+    static const uint64_t amounts[] = {0, 7, 999, 1000, 9633, 65536, 999999, 1000000, UINT64_MAX};
+    for (size_t i = 0; i < sizeof amounts / sizeof amounts[0]; i++)
+        add(&line, "%s ", amount_of(amounts[i]).text);
+    expect(&line, "0 7 999 1,000 9,633 65,536 999,999 1,000,000 18,446,744,073,709,551,615 ");
+}
+
 int main(void)
 {
     for (size_t i = 0; i < sizeof statements / sizeof statements[0]; i++) {
@@ -268,6 +278,7 @@ int main(void)
     try_decimal_steps();
     try_threads();
     try_groups();
+    try_amounts();
     try_names("opcode", opcode_name, PLEX_DECIMAL_ADD);
     try_names("trap", trap_name, PLEX_NOT_DECIMAL);
     try_names("refusal", refusal_name, PLEX_BAD_OUTPUT_LENGTH);

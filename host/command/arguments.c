@@ -30,7 +30,7 @@ static const char *take_next(struct arguments *arguments)
 /* Whether a file of this name can be read. */
 static bool is_to_be_read(struct arguments *arguments, const char *name)
 {
-    if (strcmp(name, "-") != 0)
+    if (!is_standard_input(name))
         return true;
     bool is_first = !arguments->has_standard_input;
     if (!is_first)
@@ -50,9 +50,25 @@ static bool take_value(struct arguments *arguments, const struct option *option,
         return is_to_be_read(arguments, value);
     }
     *option->written = value;
-    if (strcmp(value, "-") == 0)
+    if (is_standard_input(value))
         complain("%s wants a file to write, and - is standard input", option->name);
-    return strcmp(value, "-") != 0;
+    return !is_standard_input(value);
+}
+
+/* The name of the file that an option reads or writes; NULL if there is none. */
+static const char *file_of(const struct option *option)
+{
+    const char **file = option->read != NULL ? option->read : option->written;
+    return file != NULL ? *file : NULL;
+}
+
+/* Whether an option was taken already; a sentence if so. */
+static bool is_given(const struct option *option)
+{
+    bool is_so = option->flag != NULL ? *option->flag : file_of(option) != NULL;
+    if (is_so)
+        complain("%s is given twice", option->name);
+    return is_so;
 }
 
 /* An option with its value, which comes after = or as the next argument. */
@@ -67,6 +83,8 @@ static bool take_option(struct arguments *arguments, const struct option *option
         complain("there is no option %.*s here", (int)length, argument);
         return false;
     }
+    if (is_given(option))
+        return false;
     if (option->flag == NULL)
         return take_value(arguments, option, has_value ? argument + length + 1 : take_next(arguments));
     if (has_value)
@@ -75,7 +93,51 @@ static bool take_option(struct arguments *arguments, const struct option *option
     return !has_value;
 }
 
-int take_arguments(int argc, char **argv, const struct option *options, const char **others, int limit)
+/* Whether the output of an option is a file that another option names, or an argument if that is
+ * NULL; a sentence if so. */
+static bool is_output(const struct option *output, const struct option *option, const char *path)
+{
+    bool is_other = output->written != NULL && *output->written != NULL && output != option;
+    bool is_input = option == NULL || option->read != NULL;
+    bool may_be_replaced = option != NULL && is_input && option->read == output->replaced;
+    if (!is_other || may_be_replaced || !lead_to_same_file(*output->written, path))
+        return false;
+    complain("%s %s is the same file as %s%s%s, which is %s", output->name, *output->written,
+             option != NULL ? option->name : "", option != NULL ? " " : "", name_in_messages(path),
+             is_input ? "read" : "written");
+    return true;
+}
+
+/* Whether what is printed goes to a file that is read; a sentence if so. */
+static bool is_printed_to(const char *path)
+{
+    bool is_so = !is_quiet && is_standard_output(path);
+    if (is_so)
+        complain("standard output is the same file as %s, which is read", name_in_messages(path));
+    return is_so;
+}
+
+/* Whether a file that an option names, or an argument if that is NULL, is no output but its own. */
+static bool is_apart(const struct option *options, const struct option *option, const char *path)
+{
+    for (const struct option *output = options; output->name != NULL; output++)
+        if (is_output(output, option, path))
+            return false;
+    return (option != NULL && option->read == NULL) || !is_printed_to(path);
+}
+
+bool are_apart(const struct option *options, const char **others, int count)
+{
+    for (int i = 0; i < count; i++)
+        if (!is_apart(options, NULL, others[i]))
+            return false;
+    for (const struct option *option = options; option->name != NULL; option++)
+        if (file_of(option) != NULL && !is_apart(options, option, file_of(option)))
+            return false;
+    return true;
+}
+
+int take_words(int argc, char **argv, const struct option *options, const char **others, int limit)
 {
     struct arguments arguments = {.next = argv, .left = argc};
     bool are_options_over = false;
@@ -99,6 +161,12 @@ int take_arguments(int argc, char **argv, const struct option *options, const ch
     return count;
 }
 
+int take_arguments(int argc, char **argv, const struct option *options, const char **others, int limit)
+{
+    int count = take_words(argc, argv, options, others, limit);
+    return are_apart(options, others, count) ? count : -1;
+}
+
 bool are_so_many(int count, int wanted)
 {
     if (count > wanted)
@@ -113,13 +181,4 @@ bool is_out_named(const char *out, const char *what)
     if (out == NULL)
         complain("--out is missing: %s wants a file", what);
     return out != NULL;
-}
-
-bool are_different(const char *name, const char *path, const char *other_name, const char *other_path)
-{
-    bool same = path != NULL && other_path != NULL &&
-                (strcmp(other_path, "-") == 0 ? leads_to_standard_input(path) : lead_to_same_file(path, other_path));
-    if (same)
-        complain("%s and %s name the same file", name, other_name);
-    return !same;
 }

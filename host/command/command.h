@@ -2,6 +2,7 @@
 #ifndef COMMAND_H
 #define COMMAND_H
 
+#include "amounts.h"
 #include "files.h"
 #include "words.h"
 
@@ -29,11 +30,19 @@ int upgrade_command(int argc, char **argv);
 struct option {
     const char *name;
     const char **read, **written;
+    const char **replaced; /* the one file read that the file written may be */
     bool *flag;
 };
 
-/* Takes the options (a list that ends with a nameless one) and up to limit other arguments, names
- * of files to be read; the count of those, or -1 after a sentence about what is wrong. */
+/* Takes the options (a list that ends with a nameless one) and up to limit other arguments; the
+ * count of those, or -1 after a sentence about what is wrong. */
+int take_words(int argc, char **argv, const struct option *options, const char **others, int limit);
+
+/* Whether no file written is one of the files read, the others and those of options, but for the
+ * one that it may replace, or another one written; a sentence if not. */
+bool are_apart(const struct option *options, const char **others, int count);
+
+/* As take_words, where the others are names of files to be read, apart from what is written. */
 int take_arguments(int argc, char **argv, const struct option *options, const char **others, int limit);
 
 /* Whether the count of other arguments is the one wanted; a sentence if not. */
@@ -41,10 +50,6 @@ bool are_so_many(int count, int wanted);
 
 /* Whether a file is named for what is written; a sentence if not. */
 bool is_out_named(const char *out, const char *what);
-
-/* Whether two arguments, called by these names and NULL if not there, lead to different files; a
- * sentence if not. The other one may be "-", standard input. */
-bool are_different(const char *name, const char *path, const char *other_name, const char *other_path);
 
 /* ---- Standard output. */
 
@@ -112,7 +117,8 @@ enum colour { PLAIN, GREEN, YELLOW, RED, BOLD };
 const char *colour_on(FILE *stream, enum colour colour);
 const char *colour_off(FILE *stream);
 
-/* A bar on standard error if that is a terminal; a total of 0 or below what is done is not known. */
+/* A bar on standard error if that is a terminal and standard output no pipe, from a second after the
+ * first call on; a total of 0 or below what is done is not known. */
 void show_progress(uint64_t done, uint64_t total);
 void clear_progress(void);
 

@@ -6,7 +6,6 @@
 #include <inttypes.h>
 #include <stdlib.h>
 #include <string.h>
-#include <sys/stat.h>
 #include <unistd.h>
 
 enum { BUFFER_SIZE = PLEX_EVENT_SIZE * PLEX_EVENTS_MAX };
@@ -14,24 +13,19 @@ enum { BUFFER_SIZE = PLEX_EVENT_SIZE * PLEX_EVENTS_MAX };
 static bool are_whole_events(const struct file *events, uint64_t size)
 {
     if (size % PLEX_EVENT_SIZE != 0)
-        complain("%s: %" PRIu64 " bytes; events are 55 bytes each, and %" PRIu64 " bytes are left "
-                 "over",
-                 events->path, size, size % PLEX_EVENT_SIZE);
+        complain("%s: %s bytes; events are 55 bytes each, and %" PRIu64 " bytes are left over", events->path,
+                 amount_of(size).text, size % PLEX_EVENT_SIZE);
     return size % PLEX_EVENT_SIZE == 0;
 }
 
 bool open_events(struct event_source *source, struct file *events, const char *path)
 {
-    struct stat found;
     *source = (struct event_source){.descriptor = -1};
     events->bytes = malloc(BUFFER_SIZE);
     int failed = open_file(&source->descriptor, events, path);
     if (!is_read(events, events->bytes == NULL ? ENOMEM : failed))
         return false;
-    if (fstat(source->descriptor, &found) != 0 || !S_ISREG(found.st_mode))
-        return true;
-    off_t place = lseek(source->descriptor, 0, SEEK_CUR);
-    uint64_t left = place >= 0 && place < found.st_size ? (uint64_t)(found.st_size - place) : 0;
+    uint64_t left = bytes_left(source->descriptor);
     source->total = left / PLEX_EVENT_SIZE;
     return are_whole_events(events, left);
 }

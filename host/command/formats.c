@@ -1,4 +1,5 @@
 #include "formats.h"
+#include "amounts.h"
 #include "build.h"
 #include "explain.h"
 
@@ -69,6 +70,6 @@ void add_former_lengths(struct line *line, enum kind kind)
 {
     for (size_t i = 0; i < FORMER_FORMATS; i++)
         if (former_formats[i].kind == kind)
-            add(line, "%sa %s of format %d is %zu bytes", line->length == 0 ? "" : ", ", formats[kind].name,
-                former_formats[i].version, former_formats[i].size);
+            add(line, "%sa %s of format %d is %s bytes", line->length == 0 ? "" : ", ", formats[kind].name,
+                former_formats[i].version, amount_of(former_formats[i].size).text);
 }

@@ -42,8 +42,7 @@ int link_command(int argc, char **argv)
     struct lent lent = {0};
     const char *paths[3], *out = NULL;
     const struct option options[] = {{.name = "--out", .written = &out}, {0}};
-    if (!are_so_many(take_arguments(argc, argv, options, paths, 3), 3) || !is_out_named(out, "the linked image") ||
-        !are_different("--out", out, "TABLE", paths[2]))
+    if (!are_so_many(take_arguments(argc, argv, options, paths, 3), 3) || !is_out_named(out, "the linked image"))
         return MISUSED;
     bool done = lend(&lent.image, paths[0], LONGEST_IMAGE) && lend(&lent.second_image, paths[1], LONGEST_IMAGE) &&
                 lend(&lent.table, paths[2], PLEX_TABLE_SIZE) && link_images(&lent, out);

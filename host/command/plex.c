@@ -31,7 +31,7 @@ static const struct part {
      "its labels become higher by the first's number of records. If they are refused, says which\n"
      "image and record are at fault, or which blocks both have.\n"
      "\n"
-     "  --out IMAGE  write the linked image; the file may be FIRST or SECOND, but not TABLE\n"},
+     "  --out IMAGE  write the linked image\n"},
     {"run", run_command, "IMAGE TABLE WORDS|--state STATE EVENTS [OPTIONS]", "carries out the events of a file",
      "Carries the events of a file out, from a fresh machine with the initial words or from a\n"
      "state, and prints a line for each event: its place in the file, the event, the statement\n"
@@ -39,7 +39,7 @@ static const struct part {
      "they read and stored, packed numbers by their digits. A summary follows.\n"
      "\n"
      "  --state STATE   begin with this state and not with a fresh machine\n"
-     "  --out STATE     write the state left\n"
+     "  --out STATE     write the state left; the file may be that of --state\n"
      "  --answers FILE  write the answers, 2 bytes an event\n"
      "  --summary       print the summary alone; events go 1,024 to a call\n"
      "\n"
@@ -72,7 +72,8 @@ enum { PARTS = sizeof parts / sizeof parts[0] };
 static const char common[] =
     "The file - is standard input. --out=FILE is --out FILE, and so for each option; after -- come\n"
     "files alone. --quiet prints nothing but what goes wrong. Of the blocks that a lock guards, those\n"
-    "are named that the image has records in.\n"
+    "are named that the image has records in. No file is both read and written, but for a state that\n"
+    "plex run goes on with.\n"
     "\n"
     "An image is 84 bytes a record, 1 to 512 records; a block table 48 bytes; initial words 512\n"
     "bytes; a state 9,633 bytes; an event 55 bytes; an answer 2 bytes.\n";
@@ -104,7 +105,7 @@ static int help_command(int argc, char **argv)
 {
     static const struct option no_options[] = {{0}};
     const char *name;
-    int count = take_arguments(argc, argv, no_options, &name, 1);
+    int count = take_words(argc, argv, no_options, &name, 1);
     const struct part *part = count == 1 ? find_part(name) : NULL;
     if (part != NULL)
         print_help_of(part);

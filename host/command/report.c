@@ -5,7 +5,6 @@
 #include "names.h"
 #include "outputs.h"
 
-#include <inttypes.h>
 #include <stdarg.h>
 #include <stdlib.h>
 #include <string.h>
@@ -66,10 +65,10 @@ void free_lent(struct lent *lent)
 
 void report_length(const struct file *file, size_t limit, const char *expected)
 {
-    if (file->size > limit)
-        complain("%s: more than %zu bytes; %s", file->path, limit, expected);
-    else
-        complain("%s: %zu bytes; %s", file->path, file->size, expected);
+    uint64_t size = file->size > limit ? file->whole : file->size;
+    bool is_known = file->size <= limit || size > limit;
+    complain("%s: %s%s bytes; %s", file->path, is_known ? "" : "more than ", amount_of(is_known ? size : limit).text,
+             expected);
 }
 
 /* A table or a state of the wrong length, which may be that of a former format. */
@@ -80,8 +79,8 @@ static void report_kind_length(const struct file *file, enum kind kind, const ch
     if (former == NULL)
         report_length(file, format->size, expected);
     else
-        complain("%s: %zu bytes; a %s of format %d; %s: plex upgrade %s takes it over", file->path, file->size,
-                 format->name, former->version, format->length, format->name);
+        complain("%s: %s bytes; a %s of format %d; %s: plex upgrade %s takes it over", file->path,
+                 amount_of(file->size).text, format->name, former->version, format->length, format->name);
 }
 
 bool is_state_long(const struct file *state)
@@ -143,7 +142,8 @@ static void report_event(const struct lent *lent, uint32_t index)
     add_event(&line, event);
     explain_event(&why, lent->image.bytes, records_of(&lent->image), event);
     add_cause(&line, &why);
-    complain("%s: event %" PRIu64 " breaks a rule: %s", lent->events.path, lent->events_before + index, line.text);
+    complain("%s: event %s breaks a rule: %s", lent->events.path, amount_of(lent->events_before + index).text,
+             line.text);
 }
 
 /* Two images, each of which keeps the rules. */
@@ -199,6 +199,6 @@ bool was_accepted(const struct lent *lent, uint32_t result)
     if (number == 0)
         return true;
     report(lent, number, place);
-    fprintf(stderr, "      refused with number %u, place %" PRIu64 "\n", number, events_before + place);
+    fprintf(stderr, "      refused with number %u, place %s\n", number, amount_of(events_before + place).text);
     return false;
 }

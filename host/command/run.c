@@ -31,7 +31,7 @@ static bool begin_machine(struct run *run, const char *words_path)
         return lend(&lent->state, run->state_path, PLEX_STATE_SIZE);
     if (!lend(&lent->words, words_path, PLEX_WORDS_SIZE))
         return false;
-    lent->state = (struct file){"the fresh state", malloc(PLEX_STATE_SIZE), PLEX_STATE_SIZE};
+    lent->state = (struct file){.path = "the fresh state", .bytes = malloc(PLEX_STATE_SIZE), .size = PLEX_STATE_SIZE};
     if (!is_read(&lent->state, lent->state.bytes == NULL ? ENOMEM : 0))
         return false;
     return was_accepted(lent, plex_fresh(lent->image.bytes, lent->image.size, lent->table.bytes, lent->table.size,
@@ -163,14 +163,14 @@ int run_command(int argc, char **argv)
 {
     struct run run = {.source.descriptor = -1};
     const char *paths[4];
-    const struct option options[] = {{.name = "--state", .read = &run.state_path},
-                                     {.name = "--out", .written = &run.output_paths[STATE_LEFT]},
-                                     {.name = "--answers", .written = &run.output_paths[ANSWERS]},
-                                     {.name = "--summary", .flag = &run.summary_alone},
-                                     {0}};
+    const struct option options[] = {
+        {.name = "--state", .read = &run.state_path},
+        {.name = "--out", .written = &run.output_paths[STATE_LEFT], .replaced = &run.state_path},
+        {.name = "--answers", .written = &run.output_paths[ANSWERS]},
+        {.name = "--summary", .flag = &run.summary_alone},
+        {0}};
     int count = take_arguments(argc, argv, options, paths, 4);
-    if (!are_so_many(count, run.state_path != NULL ? 3 : 4) ||
-        !are_different("--out", run.output_paths[STATE_LEFT], "--answers", run.output_paths[ANSWERS]))
+    if (!are_so_many(count, run.state_path != NULL ? 3 : 4))
         return MISUSED;
     bool done = lend(&run.lent.image, paths[0], LONGEST_IMAGE) && lend(&run.lent.table, paths[1], PLEX_TABLE_SIZE) &&
                 begin_machine(&run, paths[2]) && open_events(&run.source, &run.lent.events, paths[count - 1]) &&

@@ -169,6 +169,14 @@ static bool show_state(const struct lent *lent, bool has_image)
     return !has_image || is_well_formed(lent, result);
 }
 
+/* Whether there are as many files as the part takes; a sentence if not. */
+static bool are_files_of_state(int count)
+{
+    if (count == 2)
+        complain("there are 2 files, and 1 or 3 are wanted: STATE alone, or IMAGE TABLE STATE");
+    return count != 2 && are_so_many(count, count > 1 ? 3 : 1);
+}
+
 int state_command(int argc, char **argv)
 {
     static const struct option no_options[] = {{0}};
@@ -176,7 +184,7 @@ int state_command(int argc, char **argv)
     struct lent lent = {0};
     int count = take_arguments(argc, argv, no_options, paths, 3);
     bool has_image = count > 1;
-    if (!are_so_many(count, has_image ? 3 : 1))
+    if (!are_files_of_state(count))
         return MISUSED;
     bool done =
         (!has_image || (lend(&lent.image, paths[0], LONGEST_IMAGE) && lend(&lent.table, paths[1], PLEX_TABLE_SIZE))) &&

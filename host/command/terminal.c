@@ -3,9 +3,9 @@
 
 #include "command.h"
 
-#include <inttypes.h>
 #include <stdlib.h>
 #include <string.h>
+#include <sys/stat.h>
 #include <time.h>
 #include <unistd.h>
 
@@ -31,33 +31,44 @@ const char *colour_off(FILE *stream)
     return is_coloured(stream) ? "\033[0m" : "";
 }
 
-/* Whether the bar is due: no more than some twenty times a second. */
+/* Whether the bar is due: a second after it was first asked for, and then no more than some twenty
+ * times a second. */
 static bool is_due(void)
 {
-    static double last;
+    static double due;
     struct timespec now;
     clock_gettime(CLOCK_MONOTONIC, &now);
     double seconds = (double)now.tv_sec + 1e-9 * (double)now.tv_nsec;
-    if (seconds - last < 0.05)
+    if (due == 0)
+        due = seconds + 1;
+    if (seconds < due)
         return false;
-    last = seconds;
+    due = seconds + 0.05;
     return true;
+}
+
+/* Whether what is printed may come out on the terminal of the bar by way of another program, as
+ * through a pipe. */
+static bool is_handed_on(void)
+{
+    struct stat found;
+    return fstat(STDOUT_FILENO, &found) != 0 || !(S_ISREG(found.st_mode) || S_ISCHR(found.st_mode));
 }
 
 void show_progress(uint64_t done, uint64_t total)
 {
-    if (is_quiet || !isatty(STDERR_FILENO) || !is_due())
+    if (is_quiet || !isatty(STDERR_FILENO) || is_handed_on() || !is_due())
         return;
     if (total == 0 || total < done) {
-        fprintf(stderr, "\r%" PRIu64 " events", done);
+        fprintf(stderr, "\r%s events", amount_of(done).text);
     } else {
         char bar[BAR_WIDTH + 1];
         size_t full = (size_t)(done * BAR_WIDTH / total);
         memset(bar, '.', BAR_WIDTH);
         memset(bar, '#', full);
         bar[BAR_WIDTH] = '\0';
-        fprintf(stderr, "\r[%s] %3u%%  %" PRIu64 " of %" PRIu64 " events", bar, (unsigned)(done * 100 / total), done,
-                total);
+        fprintf(stderr, "\r[%s] %3u%%  %s of %s events", bar, (unsigned)(done * 100 / total), amount_of(done).text,
+                amount_of(total).text);
     }
     fflush(stderr);
     is_bar_shown = true;

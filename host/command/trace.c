@@ -73,16 +73,16 @@ static void print_running(const uint8_t *state)
 
 void print_summary(const struct tally *tally, const uint8_t *state)
 {
-    print("%" PRIu64 " %s in %" PRIu64 " %s\n", tally->events, tally->events == 1 ? "event" : "events", tally->calls,
-          tally->calls == 1 ? "call" : "calls");
+    print("%s %s in %s %s\n", amount_of(tally->events).text, tally->events == 1 ? "event" : "events",
+          amount_of(tally->calls).text, tally->calls == 1 ? "call" : "calls");
     for (uint32_t code = 0; code < 256; code++)
         if (tally->codes[code] != 0)
-            print("  %10" PRIu64 "  %s\n", tally->codes[code], code_name(code));
+            print("  %10s  %s\n", amount_of(tally->codes[code]).text, code_name(code));
     for (uint32_t reason = 0; reason < 256; reason++)
         if (tally->traps[reason] != 0)
-            print("  %10" PRIu64 "  of the traps: %u, %s\n", tally->traps[reason], reason, trap_name(reason));
+            print("  %10s  of the traps: %u, %s\n", amount_of(tally->traps[reason]).text, reason, trap_name(reason));
     if (tally->lost != 0)
-        print("  %10" PRIu64 "  held %s lost at EXIT\n", tally->lost, tally->lost == 1 ? "signal" : "signals");
+        print("  %10s  held %s lost at EXIT\n", amount_of(tally->lost).text, tally->lost == 1 ? "signal" : "signals");
     uint32_t trees = state[PLEX_STATE_TREE_COUNT];
     print("%u %s live; ", trees, trees == 1 ? "tree" : "trees");
     print_running(state);

@@ -10,8 +10,8 @@ static void report_other_length(const struct file *file, enum kind kind)
 {
     struct line line = {0};
     if (file->size == formats[kind].size) {
-        complain("%s: %zu bytes; a %s of format %d already: there is nothing to take over", file->path, file->size,
-                 formats[kind].name, PLEX_FORMAT_VERSION);
+        complain("%s: %s bytes; a %s of format %d already: there is nothing to take over", file->path,
+                 amount_of(file->size).text, formats[kind].name, PLEX_FORMAT_VERSION);
         return;
     }
     add_former_lengths(&line, kind);
@@ -66,8 +66,8 @@ int upgrade_command(int argc, char **argv)
     struct file file = {0};
     const char *others[2], *out = NULL;
     const struct option options[] = {{.name = "--out", .written = &out}, {0}};
-    if (!are_kind_and_file(take_arguments(argc, argv, options, others, 2), others) ||
-        !is_out_named(out, "what is taken over") || !are_different("--out", out, "FILE", others[1]))
+    if (!are_kind_and_file(take_words(argc, argv, options, others, 2), others) || !are_apart(options, others + 1, 1) ||
+        !is_out_named(out, "what is taken over"))
         return MISUSED;
     enum kind kind = find_kind(others[0]);
     bool done = lend(&file, others[1], formats[kind].size) && upgrade(&file, kind, out);

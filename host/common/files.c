@@ -7,14 +7,32 @@
 #include <fcntl.h>
 #include <stdlib.h>
 #include <string.h>
+#include <sys/stat.h>
 #include <unistd.h>
+
+bool is_standard_input(const char *path)
+{
+    return strcmp(path, "-") == 0;
+}
+
+const char *name_in_messages(const char *path)
+{
+    return is_standard_input(path) ? "standard input" : path;
+}
 
 int open_file(int *descriptor, struct file *file, const char *path)
 {
-    bool is_standard = strcmp(path, "-") == 0;
-    file->path = is_standard ? "standard input" : path;
-    *descriptor = is_standard ? dup(STDIN_FILENO) : open(path, O_RDONLY | O_CLOEXEC | O_NOCTTY);
+    file->path = name_in_messages(path);
+    *descriptor = is_standard_input(path) ? dup(STDIN_FILENO) : open(path, O_RDONLY | O_CLOEXEC | O_NOCTTY);
     return *descriptor < 0 ? errno : 0;
+}
+
+uint64_t bytes_left(int descriptor)
+{
+    struct stat found;
+    off_t place = lseek(descriptor, 0, SEEK_CUR);
+    bool is_known = place >= 0 && fstat(descriptor, &found) == 0 && S_ISREG(found.st_mode) && place < found.st_size;
+    return is_known ? (uint64_t)(found.st_size - place) : 0;
 }
 
 int read_bytes(int descriptor, uint8_t *bytes, size_t wanted, size_t *got)
@@ -39,6 +57,7 @@ int read_file(struct file *file, const char *path, size_t limit)
     int failed = open_file(&descriptor, file, path);
     if (failed)
         return failed;
+    file->whole = bytes_left(descriptor);
     failed = read_bytes(descriptor, file->bytes, limit + 1, &file->size);
     close(descriptor);
     return failed;

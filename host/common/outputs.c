@@ -1,6 +1,7 @@
 #define _XOPEN_SOURCE 700
 
 #include "outputs.h"
+#include "files.h"
 #include "targets.h"
 #include "unfinished.h"
 
@@ -20,11 +21,18 @@ static bool are_same_file(const struct stat *one, const struct stat *other)
     return one->st_dev == other->st_dev && one->st_ino == other->st_ino;
 }
 
+static bool is_found(const char *path, struct stat *found)
+{
+    return (is_standard_input(path) ? fstat(STDIN_FILENO, found) : stat(path, found)) == 0;
+}
+
 bool lead_to_same_file(const char *one, const char *other)
 {
     struct stat first, second;
-    if (stat(one, &first) == 0 && stat(other, &second) == 0)
+    if (is_found(one, &first) && is_found(other, &second))
         return are_same_file(&first, &second);
+    if (is_standard_input(one) || is_standard_input(other))
+        return false;
     char *target = resolve_target(one), *other_target = resolve_target(other);
     bool same = target != NULL && other_target != NULL && strcmp(target, other_target) == 0;
     free(target);
@@ -32,10 +40,11 @@ bool lead_to_same_file(const char *one, const char *other)
     return same;
 }
 
-bool leads_to_standard_input(const char *path)
+bool is_standard_output(const char *path)
 {
-    struct stat file, input;
-    return stat(path, &file) == 0 && fstat(STDIN_FILENO, &input) == 0 && are_same_file(&file, &input);
+    struct stat file, output;
+    return fstat(STDOUT_FILENO, &output) == 0 && S_ISREG(output.st_mode) && is_found(path, &file) &&
+           are_same_file(&file, &output);
 }
 
 static int open_in_place(struct output *output)

@@ -21,11 +21,11 @@ struct output {
     char *former; /* the name of what it replaced, for as long as that may have to come back */
 };
 
-/* Whether the names lead to the same file, be it there yet or not. */
+/* Whether the names lead to the same file, be it there yet or not; "-" is standard input. */
 bool lead_to_same_file(const char *one, const char *other);
 
-/* Whether the name leads to the file that standard input is. */
-bool leads_to_standard_input(const char *path);
+/* Whether standard output is a regular file and the name leads to it; "-" is standard input. */
+bool is_standard_output(const char *path);
 
 /* A file that is there keeps its mode, and its owner and group where the system allows it; a new
  * one has the rights that the process gives new files. */

@@ -8,6 +8,7 @@ for part in $parts; do
     tried "$part without arguments" 2 'missing' "$part"
     tried "$part with an unknown option" 2 'no option --nothing' "$part" --nothing
     tried "$part with a file too many" 2 'one argument too many' "$part" a b c d e
+    tried "$part, quiet twice" 2 '^plex: --quiet is given twice$' "$part" --quiet a --quiet
 done
 tried 'check without its files' 1 'a: cannot be read: No such file' check a b
 tried 'show without its file' 1 'a: cannot be read: No such file' show a
@@ -19,6 +20,14 @@ tried 'run with words and a state' 2 'there are 4 files, and 3 are wanted' run a
 tried 'run without a file for --out' 2 'wants the name of a file' run a b c d --out
 tried 'nor after =' 2 '--out wants the name of a file' run a b c d --out=
 tried 'a value for a flag' 2 '--summary has no value' run a b c d --summary=yes
+for option in --state --out --answers; do
+    tried "$option twice" 2 "^plex: $option is given twice$" run a b c $option d $option e
+    tried "$option twice, after =" 2 "^plex: $option is given twice$" run a b c $option=d $option=d
+done
+tried '--summary twice' 2 '^plex: --summary is given twice$' run a b c d --summary --summary
+tried '--out of a link twice' 2 '^plex: --out is given twice$' link a b c --out d --out d
+tried '--svg twice' 2 '^plex: --svg is given twice$' waits a b c --svg d --svg=e
+tried '--dot twice' 2 '^plex: --dot is given twice$' waits a b c --dot --dot
 tried 'a short option' 2 'there is no option -x here' check -x "$table"
 tried 'upgrade without its file' 1 'a: cannot be read: No such file' upgrade table a --out b
 tried 'help of few letters' 0 'plex waits IMAGE TABLE STATE' -h

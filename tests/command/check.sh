@@ -10,15 +10,15 @@ tried 'one group of all' 0 '^lock 0 guards blocks 0 1 2 3 4$' check "$image" one
 tried 'a folder' 1 'good: cannot be read: Is a directory' check good "$table"
 tried 'empty image' 1 'empty: 0 bytes; an image is 84 bytes a record' check empty "$table"
 head -c 1091 "$image" >short
-tried 'short image' 1 'short: 1091 bytes; an image is' check short "$table"
+tried 'short image' 1 'short: 1,091 bytes; an image is' check short "$table"
 head -c 84 "$image" >one
 repeated one 513 long
-tried 'long image' 1 'long: more than 43008 bytes; an image is' check long "$table"
+tried 'long image' 1 'long: 43,092 bytes; an image is' check long "$table"
 tried 'its number' 1 'refused with number 1, place 0' check long "$table"
 head -c 47 "$table" >short
 tried 'short table' 1 'short: 47 bytes; a block table is 48 bytes: thread, kind and lock of' check "$image" short
 head -c 49 "$image" >long
-tried 'long table' 1 'long: more than 48 bytes; a block table is 48' check "$image" long
+tried 'long table' 1 'long: 49 bytes; a block table is 48' check "$image" long
 tried 'a table of format 2' 1 \
     '^plex: former-table: 32 bytes; a table of format 2; a table is 48 bytes: plex upgrade table takes it over$' \
     check "$image" former-table

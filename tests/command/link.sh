@@ -57,6 +57,8 @@ unlinked() {
 head -c 100 "$image" >short
 repeated exit 513 long
 repeated exit 500 many-exits
+head -c 43008 long >most-exits
+tr '\011' '\004' <most-exits >other-exits
 byte "$image" 508 143 bad
 byte "$east" 84 20 bad-east
 byte "$table" 19 2 bad-table
@@ -64,7 +66,7 @@ look_around
 unlinked 'no such file' 'nowhere: cannot be read: No such file' "$image" nowhere "$table"
 unlinked 'short first' '^plex: short: 100 bytes; an image is' short "$east" "$table"
 unlinked 'short second' '^plex: short: 100 bytes; an image is' "$image" short "$table"
-unlinked 'long second' '^plex: long: more than 43008 bytes; an image is' "$image" long "$table"
+unlinked 'long second' '^plex: long: 43,092 bytes; an image is' "$image" long "$table"
 unlinked 'both of a wrong length' '^plex: short: 100 bytes' short long "$table"
 unlinked 'a length before a record' '^plex: short: 100 bytes' bad short "$table"
 unlinked 'a length before the table' '^plex: short: 100 bytes' "$image" short empty
@@ -84,6 +86,7 @@ unlinked 'which blocks' '^      both have records in blocks 0 1 2 3 4$' both "$i
 unlinked 'the number of a block of both' 'refused with number 13, place 0' both "$east" "$table"
 unlinked 'too many records' ': the images have more than 512 records together$' "$image" many-exits "$table"
 unlinked 'how many' '^      13 and 500 records are 513, and an image has at most 512$' "$image" many-exits "$table"
+unlinked 'how many at most' '^      512 and 512 records are 1,024, and an image' most-exits other-exits "$table"
 unlinked 'the number of too many' 'refused with number 14, place 0' "$image" many-exits "$table"
 unlinked 'a block of both before too many records' 'refused with number 13' both many-exits "$table"
 nothing_left 'refused links'
@@ -92,20 +95,6 @@ tried 'the most records' 0 '^linked: most, 512 records, 13 of' link "$image" man
 
 # ---- the file that is written
 tried 'no --out' 2 '--out is missing' link "$image" "$east" "$table"
-cp "$image" own
-tried 'the first image in place' 0 '^linked: own, 28 records, 13 of own' link own "$east" "$table" --out own
-same 'the first image in place' own both
-cp "$east" own
-tried 'the second image in place' 0 'labels of own are 13 higher' link "$image" own "$table" --out own
-same 'the second image in place' own both
-cp "$table" own
-ln own own-2
-tried 'the table in place' 2 '--out and TABLE name the same file' link "$image" "$east" own --out own-2
-same 'the table in place' own "$table"
-"$plex" link "$image" "$east" - --out own <own-2 >said 2>&1
-holds 'the table in place, from standard input: status' [ $? = 2 ]
-holds 'the table in place, from standard input' grep -q -- '--out and TABLE name the same file' said
-same 'the table in place, from standard input' own "$table"
 "$plex" link "$image" "$east" - --out new-link <"$table" >said 2>&1
 holds 'a table from standard input: status' [ $? = 0 ]
 same 'a table from standard input' new-link both

@@ -9,11 +9,12 @@ written() {
 # ---- both or none
 cp waiting own
 look_around
-for option in --out=own --summary; do
+for option in --answers=new --summary; do
     "$plex" run "$image" "$table" "$events" --state own --out own $option >/dev/full 2>said
     holds "a full standard output, $option: status" [ $? = 1 ]
     holds "a full standard output, $option" grep -q "standard output $full" said
     same "a full standard output, $option: the state" own waiting
+    holds "a full standard output, $option: the answers" [ ! -e new ]
 done
 tried 'a full device for --out' 1 "/dev/full: $full" \
     run "$image" "$table" "$words" "$events" --answers kept --out /dev/full
@@ -110,7 +111,7 @@ cp old kept
 
 # ---- one file under two names
 one_file() {
-    tried "one file: $1 and $2" 2 '--out and --answers name the same file' \
+    tried "one file: $1 and $2" 2 "^plex: --answers $2 is the same file as --out $1, which is written$" \
         run "$image" "$table" "$words" "$events" --out "$1" --answers "$2"
 }
 mkdir sub
@@ -125,6 +126,7 @@ one_file unborn ./unborn
 one_file sub/../unborn unborn
 one_file dangling nowhere
 one_file "$PWD/unborn" unborn
+one_file /dev/null /dev/null
 same 'one file under two names' kept old
 
 # ---- links

@@ -10,16 +10,19 @@ refused() {
 head -c 824 "$events" >short
 refused 'short events' 'short: 824 bytes; events are 55 bytes each, and 54' \
     "$image" "$table" "$words" short
+head -c 4999 many >short
+refused 'many short events' 'short: 4,999 bytes; events are 55 bytes each, and 49' \
+    "$image" "$table" "$words" short
 head -c 511 "$words" >short
 refused 'short words' 'short: 511 bytes; initial words are 512' "$image" "$table" short "$events"
 head -c 513 "$image" >long
-refused 'long words' 'long: more than 512 bytes; initial words' "$image" "$table" long "$events"
-refused 'short state' 'short-state: 9632 bytes; a state is 9,633' \
+refused 'long words' 'long: 513 bytes; initial words' "$image" "$table" long "$events"
+refused 'short state' 'short-state: 9,632 bytes; a state is 9,633' \
     "$image" "$table" "$events" --state short-state
 head -c 7929 left >former-state
-refused 'a state of the formats before' 'former-state: 7929 bytes; a state of format 1; a state is 9,633 bytes' \
+refused 'a state of the formats before' 'former-state: 7,929 bytes; a state of format 1; a state is 9,633 bytes' \
     "$image" "$table" "$events" --state former-state
-refused 'long state' 'long-state: more than 9633 bytes' "$image" "$table" "$events" \
+refused 'long state' 'long-state: 9,681 bytes; a state is 9,633 bytes' "$image" "$table" "$events" \
     --state long-state
 byte left 512 0 bad
 refused 'bad state' 'bad: not well formed with good/case.image and' \
@@ -27,11 +30,11 @@ refused 'bad state' 'bad: not well formed with good/case.image and' \
 refused 'its cause' 'thread 0 has label 65280, and the image.s labels are below 13' \
     "$image" "$table" "$events" --state bad
 byte many 109727 5 bad
-refused 'bad event' 'bad: event 1995 breaks a rule: arrival at 5' "$image" "$table" "$words" bad
-refused 'bad event, summary' 'bad: event 1995 breaks a rule: arrival at 5' \
+refused 'bad event' 'bad: event 1,995 breaks a rule: arrival at 5' "$image" "$table" "$words" bad
+refused 'bad event, summary' 'bad: event 1,995 breaks a rule: arrival at 5' \
     "$image" "$table" "$words" bad --summary
-refused 'its place in the file' 'refused with number 8, place 1995' "$image" "$table" "$words" bad
-refused 'its place in the file, summary' 'refused with number 8, place 1995' \
+refused 'its place in the file' 'refused with number 8, place 1,995' "$image" "$table" "$words" bad
+refused 'its place in the file, summary' 'refused with number 8, place 1,995' \
     "$image" "$table" "$words" bad --summary
 refused 'its cause' 'whose entry is none, and arrivals go to entry external' \
     "$image" "$table" "$words" bad --summary

@@ -124,9 +124,10 @@ altered packed too-large 5:20 6:47
 tried 'a number above 9,999' 0 'trap 9, a number above 9,999 packed, or a digit above 9; read 10000; idle, locks none,' \
     run packing-entry "$table" "$words" too-large
 
-tried '4,500 events' 0 '^4500 events in 5 calls$' \
+tried '4,500 events' 0 '^4,500 events in 5 calls$' \
     run "$image" "$table" "$words" many --summary --out left --answers answers
-tried 'the same one by one' 0 '^4500 events in 4500 calls$' \
+holds 'a count above 1,000' grep -q '^       1,500  moved on$' said
+tried 'the same one by one' 0 '^4,500 events in 4,500 calls$' \
     run "$image" "$table" "$words" many --out left-2 --answers answers-2
 same 'state of many' left left-2
 same 'answers of many' answers answers-2

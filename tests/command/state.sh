@@ -11,8 +11,14 @@ tried 'a thread that holds a signal' 0 \
 tried 'a held signal' 0 '^    held label 3 WITH 25$' state holding
 byte holding 1163 377 bad
 tried 'a held count above its limit' 0 '^    held label 0$' state bad
-tried 'a short state' 1 'short-state: 9632 bytes; a state is 9,633 bytes' state short-state
-tried 'a long state' 1 'long-state: more than 9633 bytes' state long-state
+tried 'a short state' 1 'short-state: 9,632 bytes; a state is 9,633 bytes' state short-state
+tried 'a long state' 1 '^plex: long-state: 9,681 bytes; a state is 9,633 bytes$' state long-state
+"$plex" state - <long-state >said 2>&1
+holds 'a long state from standard input' grep -q '^plex: standard input: 9,681 bytes; a state is' said
+{ dd bs=10 count=1 of=read 2>/dev/null; "$plex" state -; } <long-state >said 2>&1
+holds 'the rest of a long state' grep -q '^plex: standard input: 9,671 bytes; a state is' said
+cat long-state | "$plex" state - >said 2>&1
+holds 'a long state from a pipe' grep -q '^plex: standard input: more than 9,633 bytes; a state is 9,633 bytes$' said
 
 # ---- with its image and table
 tried 'a well-formed state' 0 '^well formed with good/case.image and good/case.table$' \
@@ -51,7 +57,7 @@ tried 'for a held signal' 1 \
     state "$east" "$table" bad
 byte waiting 512 143 bad
 tried 'with its number' 1 'refused with number 6, place 0' state "$image" "$table" bad
-tried 'a short state with its image' 1 'short-state: 9632 bytes; a state is 9,633 bytes' \
+tried 'a short state with its image' 1 'short-state: 9,632 bytes; a state is 9,633 bytes' \
     state "$image" "$table" short-state
 tried 'a state with a bad image' 1 'case.table: 48 bytes; an image is' state "$table" "$table" waiting
 holds 'a statement of no image' lacks said '^    label 6'
@@ -65,4 +71,5 @@ tried 'a state with a bad block' 1 '^  lock 9 of blocks 1 2 is held by thread 0$
 byte "$table" 5 377 bad
 tried 'a state with a bad lock' 1 '^  lock 9 of block 2 is held by thread 0$' state "$image" bad waiting
 tried 'a state with a short table' 1 '^  lock 9 is held by thread 0$' state "$image" former-table waiting
-tried 'a state without its table' 2 'there are 2 files, and 3 are wanted' state "$image" waiting
+tried 'a state without its table' 2 '^plex: there are 2 files, and 1 or 3 are wanted: STATE alone, or IMAGE TABLE STATE$' \
+    state "$image" waiting

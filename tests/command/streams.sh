@@ -31,4 +31,4 @@ wait
 { head -c 70000 many; tail -c +70001 many; } | dd bs=997 2>/dev/null \
     | "$plex" run "$image" "$table" "$words" - --summary --out state-2 >said
 same 'the state of pieces' state-2 left
-holds 'the calls of pieces' grep -q '^4500 events in 5 calls$' said
+holds 'the calls of pieces' grep -q '^4,500 events in 5 calls$' said

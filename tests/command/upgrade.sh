@@ -18,7 +18,7 @@ holds 'the length of a state of format 1' [ "$(wc -c <former-apart)" = 7929 ]
 # former_state PART ARGUMENT..
 former_state() {
     tried "$* of a former state" 1 \
-        '^plex: former-apart: 7929 bytes; a state of format 1; a state is 9,633 bytes: plex upgrade state takes it over$' "$@"
+        '^plex: former-apart: 7,929 bytes; a state of format 1; a state is 9,633 bytes: plex upgrade state takes it over$' "$@"
 }
 former_state state former-apart
 former_state state "$image" lone-table former-apart
@@ -51,19 +51,19 @@ not_taken() {
 }
 look_around
 not_taken 'a table of today' '48 bytes; a table of format 3 already: there is nothing to take over$' table lone-table
-not_taken 'a state of today' '9633 bytes; a state of format 3 already: there is nothing to take over$' state apart
+not_taken 'a state of today' '9,633 bytes; a state of format 3 already: there is nothing to take over$' state apart
 not_taken 'no bytes' '0 bytes; a table of format 2 is 32 bytes$' table empty
-not_taken 'a table for a state' '32 bytes; a state of format 1 is 7929 bytes$' state former-table
-not_taken 'a state for a table' 'more than 48 bytes; a table of format 2 is 32 bytes$' table former-apart
-not_taken 'a file too long' 'more than 9633 bytes; a state of format 1 is 7929 bytes$' state long-state
+not_taken 'a table for a state' '32 bytes; a state of format 1 is 7,929 bytes$' state former-table
+not_taken 'a state for a table' '7,929 bytes; a table of format 2 is 32 bytes$' table former-apart
+not_taken 'a file too long' '9,681 bytes; a state of format 1 is 7,929 bytes$' state long-state
 nothing_left 'files of other lengths'
 for size in 31 33 47; do
     head -c "$size" lone-table >other
     not_taken "a table of $size bytes" "$size bytes; a table of format 2 is 32 bytes$" table other
 done
-for size in 7928 7930 9632; do
-    head -c "$size" apart >other
-    not_taken "a state of $size bytes" "$size bytes; a state of format 1 is 7929 bytes$" state other
+for size in 7,928 7,930 9,632; do
+    head -c "$(echo "$size" | tr -d ,)" apart >other
+    not_taken "a state of $size bytes" "$size bytes; a state of format 1 is 7,929 bytes$" state other
 done
 not_taken 'no such file' 'cannot be read: No such file' table absent
 not_taken 'a folder' 'cannot be read: Is a directory' state good
@@ -113,13 +113,16 @@ rm -f own own-2
 cp former-table own
 ln own own-2
 for name in own ./own own-2; do
-    tried "a table in place, $name" 2 '--out and FILE name the same file' upgrade table own --out "$name"
+    tried "a table in place, $name" 2 "--out $name is the same file as own, which is read" upgrade table own --out "$name"
 done
 "$plex" upgrade table - --out own-2 <own >said 2>&1
 holds 'a table in place, from standard input: status' [ $? = 2 ]
-holds 'a table in place, from standard input' grep -q -- '--out and FILE name the same file' said
+holds 'a table in place, from standard input' grep -q -- '--out own-2 is the same file as standard input, which is read' said
 same 'a table in place' own former-table
 rm own own-2
+cp former-table table
+tried 'a file that is called as the kind' 0 '^upgraded: table' upgrade table former-table --out table
+rm table
 "$plex" upgrade --quiet --out=own -- state - <former-apart >said 2>&1
 holds 'a state from standard input: status' [ $? = 0 ]
 holds 'a quiet upgrade speaks' [ ! -s said ]

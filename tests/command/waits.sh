@@ -5,7 +5,7 @@ tried 'the blocks of its lock' 0 '^lock 9 guards blocks 1 2$' waits "$image" "$t
 holds 'no other lock' [ "$(wc -l <said)" = 2 ]
 tried 'no wait' 0 'no thread waits' waits "$image" "$table" left
 tried 'a graph' 0 '  t1 -> t0 \[label="lock 9"\];' waits "$image" "$table" waiting --dot
-tried 'waits in a short state' 1 'short-state: 9632 bytes; a state is' \
+tried 'waits in a short state' 1 'short-state: 9,632 bytes; a state is' \
     waits "$image" "$table" short-state
 # North's charging calls the audit: label 3 goes to 10, whose entry is direct
 byte "$image" 256 12 ring-1
