@@ -26,6 +26,7 @@ SOURCES_plex = $(wildcard host/command/*.c) $(COMMON)
 ENGINES = $(wildcard host/bench/plain_*.c) $(addprefix host/bench/bench_,calls.c image.c jobs.c rows.c table.c) host/common/build.c
 SOURCES_bench = $(addprefix host/bench/,bench.c bench_figures.c bench_plot.c) $(ENGINES)
 SOURCES_times = $(addprefix host/bench/bench_,place.c times.c) $(ENGINES)
+SOURCES_plex_other = $(SOURCES_plex) tests/other_version.c
 SOURCES_words = tests/words.c $(COMMON)
 SOURCES_explanations = tests/explanations.c tests/faults.c tests/damage.c $(wildcard host/command/explain*.c) \
     host/bench/bench_image.c $(COMMON)
@@ -35,13 +36,16 @@ SOURCES_stack = tests/stack.c tests/cases.c host/common/build.c
 SOURCES_instructions = tests/instructions.c $(ENGINES)
 SOURCES_header = $(wildcard tests/header*.c)
 SOURCES_terminal = tests/terminal.c
+SOURCES_faulting = tests/faulting.c
 SOURCES_pictures = tests/pictures.c tests/svg.c host/bench/bench_plot.c $(wildcard host/command/waits_*.c)
 SOURCES_one_by_one = examples/one_by_one.c $(COMMON)
 SOURCES_guests = examples/guests.c $(COMMON)
 SOURCES_scheduler = $(wildcard examples/scheduler/*.c) host/common/build.c
 FLAGS_bench = -O3
-FLAGS_header = -Wc++-compat
+FLAGS_header = -Wpedantic -Wc++-compat
 FLAGS_stack = -Wl,-z,now
+FLAGS_faulting = -g -O0
+FLAGS_plex_other = -Dplex_version=other_version
 HEADERS = $(wildcard include/*.h host/*/*.h tests/*.h examples/*/*.h)
 COMPILE = $(CC) $(CFLAGS) $(FLAGS_$*) -Iinclude -Ihost/common -Ihost/command -Ihost/bench
 
@@ -53,7 +57,7 @@ build/%-race: $$(SOURCES_$$*) $(HEADERS) $(LIBRARY) | build
 	$(COMPILE) -g -fsanitize=thread -o $@ $(SOURCES_$*) $(LIBRARY) $(LDLIBS)
 
 build/header++: $(SOURCES_header) $(HEADERS) $(LIBRARY) | build
-	$(CXX) $(CXXFLAGS) -Iinclude -o $@ -x c++ $(SOURCES_header) -x none $(LIBRARY)
+	$(CXX) $(CXXFLAGS) -Wpedantic -Wold-style-cast -Iinclude -o $@ -x c++ $(SOURCES_header) -x none $(LIBRARY)
 
 build/%: $$(SOURCES_$$*) $(HEADERS) $(LIBRARY) | build
 	$(COMPILE) -o $@ $(SOURCES_$*) $(LIBRARY) $(LDLIBS)
@@ -102,13 +106,15 @@ map:
 # what the library asks of a host and of the system; the demo's output is held to a file
 CASES = $(sort $(basename $(foreach set,base 102 104 105 106 107,$(wildcard crates/trials/data/$(set)/*.image))))
 HOST_TESTS = header header++ words-safe explanations-safe plain-safe lending lending-safe pictures-safe instructions
-host: $(addprefix build/,$(HOST_TESTS) stack demo-safe)
+host: $(addprefix build/,$(HOST_TESTS) stack demo-safe bench faulting)
 	sh tests/progress.sh
+	sh tests/bench.sh build/bench
 	sh tests/library.sh $(LIBRARY)
 	sh tests/compiled.sh $(LIBRARY)
 	@for program in header header++ words-safe explanations-safe plain-safe "lending $(CASES)" "lending-safe $(CASES)" \
 	    "pictures-safe build/pictures" instructions; do ./build/$$program || exit 1; done
 	@sh tests/stack.sh $(CASES)
+	sh tests/debugger.sh build/faulting
 	./build/demo-safe | diff - host/demo/expected.txt
 
 command: $(addprefix build/,plex demo plex-safe demo-safe terminal)
@@ -164,11 +170,17 @@ DOCDIR ?= $(PREFIX)/share/doc/plex
 DESTDIR ?=
 INSTALL = install
 VERSION = $(shell sed -n 's/^\#define PLEX_VERSION "\(.*\)"$$/\1/p' include/plex.h)
-CALLS = check fresh link run walk
-PAPERS = docs/HOSTS.md docs/MACHINE.md
+CALLS = check fresh link run version walk
+PAPERS = docs/HOSTS.md docs/MACHINE.md CHANGELOG.md host/plex-gdb.py
+# the examples, with what they need of the hosts' common files
+EXAMPLES = $(wildcard examples/*.c)
+SCHEDULER = $(wildcard examples/scheduler/*)
+SHARED = $(wildcard $(foreach name,build fields groups names packed words,host/common/$(name).c host/common/$(name).h))
+INSTALLED_PAPERS = $(notdir $(PAPERS)) $(EXAMPLES) $(SCHEDULER) $(SHARED:host/%=examples/%)
+PAPER_FOLDERS = $(addprefix $(DESTDIR)$(DOCDIR),/examples/common /examples/scheduler /examples /)
 
 install: all
-	$(INSTALL) -d $(addprefix $(DESTDIR),$(BINDIR) $(LIBDIR)/pkgconfig $(INCLUDEDIR) $(MANDIR)/man1 $(MANDIR)/man3 $(DOCDIR))
+	$(INSTALL) -d $(addprefix $(DESTDIR),$(BINDIR) $(LIBDIR)/pkgconfig $(INCLUDEDIR) $(MANDIR)/man1 $(MANDIR)/man3) $(PAPER_FOLDERS)
 	$(INSTALL) -m 755 build/plex $(DESTDIR)$(BINDIR)
 	$(INSTALL) -m 644 $(LIBRARY) $(DESTDIR)$(LIBDIR)/libplex.a
 	sed -e 's|@PREFIX@|$(PREFIX)|' -e 's|@LIBDIR@|$(LIBDIR:$(PREFIX)/%=$${prefix}/%)|' \
@@ -179,14 +191,17 @@ install: all
 	$(INSTALL) -m 644 man/plex.3 $(DESTDIR)$(MANDIR)/man3
 	for call in $(CALLS); do ln -sf plex.3 $(DESTDIR)$(MANDIR)/man3/plex_$$call.3; done
 	$(INSTALL) -m 644 $(PAPERS) $(DESTDIR)$(DOCDIR)
+	$(INSTALL) -m 644 $(EXAMPLES) $(DESTDIR)$(DOCDIR)/examples
+	$(INSTALL) -m 644 $(SCHEDULER) $(DESTDIR)$(DOCDIR)/examples/scheduler
+	$(INSTALL) -m 644 $(SHARED) $(DESTDIR)$(DOCDIR)/examples/common
 
 uninstall:
 	rm -f $(addprefix $(DESTDIR),$(BINDIR)/plex $(LIBDIR)/libplex.a $(LIBDIR)/pkgconfig/plex.pc $(INCLUDEDIR)/plex.h \
-	    $(MANDIR)/man1/plex.1 $(MANDIR)/man3/plex.3 $(CALLS:%=$(MANDIR)/man3/plex_%.3) $(PAPERS:docs/%=$(DOCDIR)/%))
-	rmdir $(DESTDIR)$(DOCDIR) 2>/dev/null || true
+	    $(MANDIR)/man1/plex.1 $(MANDIR)/man3/plex.3 $(CALLS:%=$(MANDIR)/man3/plex_%.3) $(INSTALLED_PAPERS:%=$(DOCDIR)/%))
+	rmdir $(PAPER_FOLDERS) 2>/dev/null || true
 
-installed: all
-	CC='$(CC)' sh tests/installed.sh $(VERSION)
+installed: all build/plex_other
+	CC='$(CC)' sh tests/installed.sh
 
 clean:
 	rm -rf build target

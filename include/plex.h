@@ -1,6 +1,7 @@
-/* The Core PLEX plug-in machine: five calls on lent bytes.
+/* The Core PLEX plug-in machine: five calls on lent bytes, and one that tells the library's version.
  *
- * docs/MACHINE.md is the reference of the formats and rules, docs/HOSTS.md the guide for hosts.
+ * MACHINE.md is the reference of the formats and rules, HOSTS.md the guide for hosts; both are in the
+ * package's documentation.
  *
  * Every buffer is a pointer and its length in bytes. A call reads and alters nothing but the
  * buffers that it is lent, keeps no pointer and keeps nothing between calls: the machine is the
@@ -26,9 +27,9 @@
  *   alone. The calls are safe in any thread and in a signal handler, also while another call is
  *   interrupted, on another state.
  *
- * Each call returns 65,536 x number + place if it refuses, and then it has altered no lent byte.
- * PLEX_NUMBER and PLEX_PLACE take a return value apart; PLEX_NUMBER is 0 exactly if the call was
- * accepted. A call refuses by the lowest of its numbers whose cause applies, and only then.
+ * Each call but plex_version returns 65,536 x number + place if it refuses, and then it has altered
+ * no lent byte. PLEX_NUMBER and PLEX_PLACE take a return value apart; PLEX_NUMBER is 0 exactly if the
+ * call was accepted. A call refuses by the lowest of its numbers whose cause applies, and only then.
  *
  * Fields of 2 and 4 bytes are little-endian. Numbers count from 0. Unused bytes are zero.
  */
@@ -42,9 +43,11 @@
 extern "C" {
 #endif
 
-/* ---- Versions: of the library and its papers, and of the formats. The latter is raised by each
- * change of a format; no buffer holds it, so a host notes it beside the bytes that it keeps. */
-#define PLEX_VERSION "0.8.0"
+/* ---- Versions: of the library and its papers, as text and as a number, for #if, made as that of
+ * plex_version; and of the formats. The latter is raised by each change of a format; no buffer holds
+ * it, so a host notes it beside the bytes that it keeps. */
+#define PLEX_VERSION "0.9.0"
+#define PLEX_VERSION_NUMBER (0 * 65536 + 9 * 256 + 0)
 #define PLEX_FORMAT_VERSION 3
 
 /* ---- Limits. */
@@ -204,10 +207,14 @@ enum {
     PLEX_BAD_OUTPUT_LENGTH = 15  /* the output is not as long as both images together */
 };
 
-#define PLEX_NUMBER(result) ((uint32_t)(result) >> 16)
-#define PLEX_PLACE(result) ((uint32_t)(result)&0xFFFFu)
+#define PLEX_NUMBER(result) (((result)&0xFFFFFFFFu) >> 16)
+#define PLEX_PLACE(result) ((result)&0xFFFFu)
 
 /* ---- The calls. */
+
+/* The version of the library that is linked: major x 65,536 + minor x 256 + patch. It is
+ * PLEX_VERSION_NUMBER if header and library are of one release. Is lent nothing, refuses nothing. */
+uint32_t plex_version(void);
 
 /* The image check. Returns 0 if the image and the table keep every rule, otherwise a refusal with
  * number 1 to 4. Alters nothing. */

@@ -12,7 +12,7 @@ trap 'rm -rf "$folder"' EXIT
 cd "$folder" || exit 1
 mkdir good && "$demo" good || exit 1
 image=good/case.image table=good/case.table words=good/case.words events=good/case.events
-east=good/east.image
+east=good/east.image demo_image=good/linked.image demo_events=good/linked.events
 
 passed=0
 failed=0

@@ -1,5 +1,5 @@
-/* The header by itself, in the part of the language that C and C++ share: the five calls carry out the
- * whole-list trial, calculate, found trees, wait for a lock of two blocks and link two guests. */
+/* The header by itself, in the part of the language that C and C++ share: the five calls on bytes carry out
+ * the whole-list trial, calculate, found trees, wait for a lock of two blocks and link two guests. */
 #include "header.h"
 
 #include <stdio.h>
@@ -25,8 +25,8 @@ void put_operand(uint8_t *record, int index, uint8_t kind, uint16_t value)
 {
     uint8_t *operand = record + PLEX_RECORD_OPERANDS + index * PLEX_OPERAND_SIZE;
     operand[PLEX_OPERAND_KIND] = kind;
-    operand[PLEX_OPERAND_VALUE] = (uint8_t)value;
-    operand[PLEX_OPERAND_VALUE + 1] = (uint8_t)(value >> 8);
+    operand[PLEX_OPERAND_VALUE] = value & 0xFF;
+    operand[PLEX_OPERAND_VALUE + 1] = value >> 8;
 }
 
 /* The image, and one arrival at label 0 and steps of thread 0: four, and some for the founder. */
@@ -118,7 +118,7 @@ static void fill_group(void)
         grouped[label * PLEX_RECORD_SIZE + PLEX_RECORD_ENTRY] = label == 1 ? PLEX_DIRECT : PLEX_EXTERNAL;
     }
     for (int block = 0; block <= 1; block++) {
-        group_table[block * PLEX_ROW_SIZE + PLEX_ROW_THREAD] = (uint8_t)block;
+        group_table[block * PLEX_ROW_SIZE + PLEX_ROW_THREAD] = block;
         group_table[block * PLEX_ROW_SIZE + PLEX_ROW_KIND] = PLEX_CMX;
         group_table[block * PLEX_ROW_SIZE + PLEX_ROW_LOCK] = SHARED_LOCK;
     }
@@ -212,9 +212,11 @@ static void refuse(void)
 
 static void versions(void)
 {
-    unsigned major, minor, patch;
+    unsigned major = 0, minor = 0, patch = 0;
     char after;
     expect("version", sscanf(PLEX_VERSION, "%u.%u.%u%c", &major, &minor, &patch, &after) == 3);
+    expect("number of the version", 65536 * major + 256 * minor + patch == PLEX_VERSION_NUMBER);
+    expect("version of the library", plex_version() == PLEX_VERSION_NUMBER);
 }
 
 int main(void)

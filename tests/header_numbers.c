@@ -25,6 +25,16 @@ HOLDS(PLEX_TREE_SIGNALS + PLEX_PENDING_MAX * PLEX_SIGNAL_SIZE == PLEX_TREE_SIZE)
 HOLDS(PLEX_SIGNAL_VALUES + 2 * PLEX_REGISTERS == PLEX_SIGNAL_SIZE);
 HOLDS(PLEX_EVENT_SIGNAL + PLEX_SIGNAL_SIZE == PLEX_EVENT_SIZE);
 
+/* A return value taken apart, whatever the type that a host keeps it in. */
+HOLDS(PLEX_NUMBER(65536u * PLEX_BAD_RECORD + 511) == PLEX_BAD_RECORD && PLEX_NUMBER(65535) == 0 &&
+      PLEX_NUMBER(-1) == 65535);
+HOLDS(PLEX_PLACE(65536u * PLEX_BAD_RECORD + 511) == 511 && PLEX_PLACE(-1) == 65535);
+
+/* The library's version is a number that the preprocessor compares. */
+#if PLEX_VERSION_NUMBER < 9 * 256
+#error "plex_version is there from 0.9.0 on"
+#endif
+
 /* Version 3 of the formats: whoever changes one of them raises the version. */
 HOLDS(PLEX_FORMAT_VERSION == 3);
 HOLDS(PLEX_RECORD_SIZE == 84 && PLEX_TABLE_SIZE == 48 && PLEX_WORDS_SIZE == 512);

@@ -1,7 +1,8 @@
 #!/bin/sh
 # The papers say what happens: each block of a paper that is marked `console` is carried out line by line, and what is printed has to
 # be what the paper shows. A block marked `c` is first written to the file that its first line names. All this in a folder that has
-# what the repository has, so that a name that is taken there is taken here. Use: papers.sh LIBRARY PAPER..
+# what the repository has, so that a name that is taken there is taken here, and the examples built. And each target of make that a paper
+# of the repository names is there. Use: papers.sh LIBRARY PAPER..
 set -eu
 library=$1
 shift
@@ -16,6 +17,7 @@ done
 rm -rf "$folder/target"
 mkdir -p "$folder/target/staticlib"
 ln -s "$library" "$folder/target/staticlib/libplex.a"
+ln -s "$root/build/guests" "$root/build/one_by_one" "$folder/"
 
 # blocks PAPER: its console blocks joined; its C texts written to their files
 blocks() {
@@ -33,6 +35,10 @@ carried_out() {
         (cd "$folder" && sh -c "$line" 2>&1 </dev/null) || echo "status $?"
     done
 }
+
+for target in $(grep -ohE '(`|^    )make [a-z]+' "$root"/*.md "$root"/docs/*.md | sed 's/.* //' | sort -u); do
+    grep -q "^$target:" "$root/Makefile" || { echo "papers: there is no make $target"; exit 1; }
+done
 
 commands=0
 for paper in "$@"; do

@@ -23,6 +23,13 @@ static void *nothing(void *result)
     return NULL;
 }
 
+/* 0 if the library has the header's version. */
+static void *version(void *result)
+{
+    *(uint32_t *)result = plex_version() ^ PLEX_VERSION_NUMBER;
+    return NULL;
+}
+
 static void *check(void *result)
 {
     *(uint32_t *)result = plex_check(trial.image, trial.image_len, trial.table, sizeof trial.table);
@@ -103,7 +110,8 @@ static struct {
     const char *name;
     void *(*work)(void *);
     size_t most;
-} calls[] = {{"check", check, 0}, {"fresh", fresh, 0}, {"run", run, 0}, {"link", link_guest, 0}, {"walk", walk, 0}};
+} calls[] = {{"version", version, 0}, {"check", check, 0},     {"fresh", fresh, 0},
+             {"run", run, 0},         {"link", link_guest, 0}, {"walk", walk, 0}};
 
 /* The first so many of the calls. */
 static void measure(size_t count)
@@ -127,10 +135,10 @@ int main(int count, char **names)
     for (int i = 1; i < count; i++) {
         load_trial(&trial, names[i]);
         linked += has_guest(&trial);
-        measure(has_guest(&trial) ? 4 : 3);
+        measure(has_guest(&trial) ? 5 : 4);
     }
     make_ring();
-    measure(5);
+    measure(6);
     int failed = linked == 0;
     for (size_t i = 0; i < sizeof calls / sizeof calls[0]; i++) {
         printf("stack: %s needs at most %zu bytes\n", calls[i].name, calls[i].most);

@@ -18,11 +18,12 @@ sources=$(git ls-files '*.c' '*.h')
 if command -v clang-format >/dev/null; then
     report 'not in the layout of clang-format' "$(clang-format --dry-run -Werror $sources 2>&1 | head -n 20)"
 fi
-texts=$(git ls-files '*.c' '*.h' '*.rs' '*.sh' '*.awk' '*.rt' '*.antt' '*.edit' '*.md' '*.txt' Makefile ':!crates/trials/data')
+texts=$(git ls-files '*.c' '*.h' '*.rs' '*.sh' '*.awk' '*.py' '*.rt' '*.antt' '*.edit' '*.md' '*.txt' Makefile ':!crates/trials/data')
 report 'tabs or spaces at the end of a line' "$(grep -nE '[[:space:]]+$' $texts)"
-report 'lines over 140 columns' "$(git ls-files '*.c' '*.h' '*.rs' '*.sh' '*.awk' '*.rt' '*.antt' Makefile | xargs perl -CSD -ne \
+report 'lines over 140 columns' "$(git ls-files '*.c' '*.h' '*.rs' '*.sh' '*.awk' '*.py' '*.rt' '*.antt' Makefile | xargs perl -CSD -ne \
     'chomp; print "$ARGV:$.\n" if length($_) > 140; close ARGV if eof')"
-report 'files over 300 lines' "$(git ls-files '*.c' '*.h' '*.rs' '*.sh' '*.rt' '*.antt' | xargs wc -l | awk '$2 != "total" && 300 < $1')"
+report 'files over 300 lines' "$(git ls-files '*.c' '*.h' '*.rs' '*.sh' '*.py' '*.rt' '*.antt' | xargs wc -l |
+    awk '$2 != "total" && 300 < $1')"
 
 # a module with the name of a crate could not be told from it
 crates=$(sed -n 's/^\([a-z_0-9]*\):.*/\1/p' crates.txt)

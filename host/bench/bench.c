@@ -1,6 +1,6 @@
 /* Runs programs that time the same rows, with the engines at different places in each of them, several times in turn.
- * Of each row it prints the medians over all runs, and the range of the ratios; then which rows are above 1.0, and the
- * figures that the papers have.
+ * Of each row it prints the medians over all runs, and the range of the ratios; then which rows are above 1.0, the
+ * figures that the papers have, and where the plots are.
  *
  * Use: bench FOLDER PROGRAM..    a folder for the plots */
 #define _POSIX_C_SOURCE 200809L
@@ -129,6 +129,20 @@ static int draw(const char *folder, enum bench_plots plot)
     return 1;
 }
 
+static int draw_all(const char *folder)
+{
+    int failed = 0;
+    for (enum bench_plots plot = 0; plot < PLOTS; plot++)
+        failed |= draw(folder, plot);
+    if (failed)
+        return failed;
+    printf("Plots in %s:", folder);
+    for (enum bench_plots plot = 0; plot < PLOTS; plot++)
+        printf(" %s", plots[plot].file);
+    printf("\n");
+    return 0;
+}
+
 int main(int argc, char **argv)
 {
     size_t count = argc < 3 ? 0 : (size_t)argc - 2;
@@ -142,8 +156,5 @@ int main(int argc, char **argv)
     print_rows();
     print_rows_above();
     bench_print_figures(results);
-    int failed = 0;
-    for (enum bench_plots plot = 0; plot < PLOTS; plot++)
-        failed |= draw(argv[1], plot);
-    return failed;
+    return draw_all(argv[1]);
 }

@@ -84,7 +84,8 @@ static void print_help(void)
     for (size_t i = 0; i < PARTS; i++)
         print("  plex %s %s\n      %s\n", parts[i].name, parts[i].use, parts[i].purpose);
     print("\n%s\nThe status is 0; 1 if a file cannot be read or written or is refused, and then no "
-          "file is\naltered; 2 if the command is used wrongly; 3 if plex waits finds a ring.\n",
+          "file is\naltered; 2 if the command is used wrongly or its library is of another version; 3 if plex\n"
+          "waits finds a ring.\n",
           common);
 }
 
@@ -141,6 +142,18 @@ static int carry_out(const struct part *part, int argc, char **argv)
     return status;
 }
 
+/* Whether the library that is linked has the version of the header that the command was compiled with. */
+static int print_versions(void)
+{
+    uint32_t library = plex_version();
+    print("plex %s, library %u.%u.%u, format %d\n", PLEX_VERSION, library >> 16, library >> 8 & 255, library & 255,
+          PLEX_FORMAT_VERSION);
+    if (library == PLEX_VERSION_NUMBER)
+        return DONE;
+    complain("the library is not of the version that the command was compiled for");
+    return MISUSED;
+}
+
 static int carry_out_all(int argc, char **argv)
 {
     const struct part *part = argc < 2 ? NULL : find_part(argv[1]);
@@ -150,10 +163,8 @@ static int carry_out_all(int argc, char **argv)
         print_help();
         return DONE;
     }
-    if (argc >= 2 && strcmp(argv[1], "--version") == 0) {
-        print("plex %s, format %d\n", PLEX_VERSION, PLEX_FORMAT_VERSION);
-        return DONE;
-    }
+    if (argc >= 2 && strcmp(argv[1], "--version") == 0)
+        return print_versions();
     if (argc >= 2)
         complain("there is no part %s", argv[1]);
     fprintf(stderr, "Use: plex check|show|link|run|state|waits|upgrade|help ARGUMENTS; see plex --help\n");

@@ -12,7 +12,8 @@
  *
  * Use: demo          prints the trace; the status is 1 if a charging word changed, a pulse is lost that was
  *                    kept at first or sent where a unit has pulses, or the meter has not counted right
- *      demo FOLDER   writes the case and East's image there, as files of the command plex */
+ *      demo FOLDER   writes there, as files of the command plex, what it runs: the linked image and all events,
+ *                    and the case's and East's own images and the case's events */
 #include "case.h"
 #include "fields.h"
 #include "files.h"
@@ -185,12 +186,16 @@ static int replay(uint32_t index)
     return answer[PLEX_ANSWER_CODE] != PLEX_WAITING || print_walk(thread);
 }
 
-/* One image of both, and a fresh machine for it. */
+/* One image of both. */
+static int link_images(void)
+{
+    return accepted("plex_link", plex_link(field.image, sizeof field.image, field.east_image, sizeof field.east_image,
+                                           field.table, sizeof field.table, linked, sizeof linked));
+}
+
+/* A fresh machine for the linked image. */
 static int begin(void)
 {
-    if (!accepted("plex_link", plex_link(field.image, sizeof field.image, field.east_image, sizeof field.east_image,
-                                         field.table, sizeof field.table, linked, sizeof linked)))
-        return 0;
     printf("The image of East's guest is linked behind the case; its labels are now %d higher.\n\n", CASE_RECORDS);
     groups = find_groups(linked, LINKED_RECORDS, field.table);
     print_program();
@@ -268,14 +273,21 @@ static int write_part(const char *folder, const char *name, const uint8_t *bytes
     return failed;
 }
 
+static int write_case(const char *folder)
+{
+    return write_part(folder, "case.image", field.image, sizeof field.image) ||
+           write_part(folder, "case.table", field.table, sizeof field.table) ||
+           write_part(folder, "case.words", field.words, sizeof field.words) ||
+           write_part(folder, "case.events", field.events, CASE_EVENTS * PLEX_EVENT_SIZE) ||
+           write_part(folder, "east.image", field.east_image, sizeof field.east_image) ||
+           write_part(folder, "linked.image", linked, sizeof linked) ||
+           write_part(folder, "linked.events", field.events, sizeof field.events);
+}
+
 int main(int argc, char **argv)
 {
     make_case(&field);
-    if (argc < 2)
-        return trace();
-    return write_part(argv[1], "case.image", field.image, sizeof field.image) ||
-           write_part(argv[1], "case.table", field.table, sizeof field.table) ||
-           write_part(argv[1], "case.words", field.words, sizeof field.words) ||
-           write_part(argv[1], "case.events", field.events, CASE_EVENTS * PLEX_EVENT_SIZE) ||
-           write_part(argv[1], "east.image", field.east_image, sizeof field.east_image);
+    if (!link_images())
+        return 1;
+    return argc < 2 ? trace() : write_case(argv[1]);
 }

@@ -33,7 +33,7 @@ tried 'upgrade without its file' 1 'a: cannot be read: No such file' upgrade tab
 tried 'help of few letters' 0 'plex waits IMAGE TABLE STATE' -h
 tried 'help of a part of few letters' 0 '^Use: plex run ' run -h
 tried 'no help after --' 1 '^plex: --help: cannot be read' show -- --help
-tried 'the version' 0 '^plex [0-9][0-9.]*, format [0-9][0-9]*$' --version
+tried 'the version' 0 '^plex \([0-9][0-9.]*\), library \1, format [0-9][0-9]*$' --version
 
 # ---- help as a part: the same as --help
 "$plex" --help >helped

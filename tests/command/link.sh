@@ -1,6 +1,7 @@
 # plex link: two images for one table.
 tried 'a link' 0 '^linked: both, 28 records, 13 of good/case.image and 15 of good/east.image; labels of good/east.image are 13 higher$' \
     link "$image" "$east" "$table" --out both
+same 'the linked image that the demo writes' both "$demo_image"
 tried 'the check of the linked image' 0 'accepted: both, 28 records in 10 blocks' check both "$table"
 head -c 1092 both >part
 same 'the first image' part "$image"

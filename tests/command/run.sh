@@ -124,6 +124,15 @@ altered packed too-large 5:20 6:47
 tried 'a number above 9,999' 0 'trap 9, a number above 9,999 packed, or a digit above 9; read 10000; idle, locks none,' \
     run packing-entry "$table" "$words" too-large
 
+# ---- what the demo runs, from the files that it writes: the same answers, and the words of blocks 8 and 9
+tried 'what the demo runs' 0 '^45 events in 1 call$' \
+    run "$demo_image" "$table" "$words" "$demo_events" --summary --out left-2 --answers answers-2
+"$demo" | sed -n 's/^    answer    code \([0-9]*\), detail \([0-9]*\): .*/\1 \2/p' >demo-answers
+od -An -v -t u1 -w2 answers-2 | awk '{ print $1, $2 }' >file-answers
+same "the demo's answers" demo-answers file-answers
+tried "the demo's tariff" 0 '^  block 8: w0=2 w1=3$' state left-2
+tried "the demo's meter" 0 '^  block 9: w0=37 w1=75$' state left-2
+
 tried '4,500 events' 0 '^4,500 events in 5 calls$' \
     run "$image" "$table" "$words" many --summary --out left --answers answers
 holds 'a count above 1,000' grep -q '^       1,500  moved on$' said
