@@ -15,7 +15,8 @@ use Rattle.rules.specs.declared.answer.Answer.{Answer}
 use Rattle.rules.specs.declared.answer.Answer.the-variants.{Waiting, Moved, Trapped}
 use Rattle.fields.specs.Put.{put}
 use Rattle.encoding.specs.Encoded.{Canonical, Encodes}
-use Rattle.threads.specs.Threads.{Running, Runs, returnsOf, ZerosAfter, keeping}
+use Rattle.register_file.specs.Filling.{ZerosAfter}
+use Rattle.threads.specs.Threads.{Running, Runs, returnsOf, keeping}
 use Rattle.threads.specs.Records.{threadPlace, rawBytes}
 use Rattle.threads.specs.declared.thread.ThreadState.{ThreadState}
 use Rattle.step_ready.specs.Ready.{Stepped, Ended, done, thread-stepped}

@@ -11,7 +11,7 @@ use Rattle.rules.specs.Sizes.{operandCount}
 use Rattle.rules.specs.Statements.{operandAt, operandsFrom}
 use Rattle.rules.specs.Effects.{Got, trap, got, then, Cells, read, readAll}
 use Rattle.fields.specs.Blocks.{pad-split}
-use Rattle.threads.specs.Threads.{ZerosAfter}
+use Rattle.register_file.specs.Filling.{ZerosAfter}
 use Rattle.operands.specs.Readings.{Reads}
 
 -- values read before the others

@@ -30,7 +30,8 @@ use Rattle.laws.specs.Sets.{has-again}
 use Rattle.soundness.specs.Destinations.{lock-below}
 use Rattle.step_laws.specs.Events.{reply}
 use Rattle.step_laws.specs.Statements.{unread, send-alien, send-waits, send-enters, call-deep, call-alien, call-waits, call-enters}
-use Rattle.threads.specs.Threads.{returnsOf, ZerosAfter, withJob, jobOf, keeping}
+use Rattle.register_file.specs.Filling.{ZerosAfter}
+use Rattle.threads.specs.Threads.{returnsOf, withJob, jobOf, keeping}
 use Rattle.threads.specs.declared.thread.ThreadState.{ThreadState}
 use Rattle.state.specs.Locks.{Alone, held-by-other, nobody-else}
 use Rattle.operands.specs.Readings.{Reads}

@@ -1,8 +1,6 @@
-pub mod Bits
 pub mod Registers
 pub mod Returns
 pub mod Held
 pub mod Threads
-pub mod Filling
 pub mod Records
 pub mod Same

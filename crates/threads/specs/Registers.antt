@@ -19,7 +19,7 @@ use Rattle.rules.specs.Machine.{fill}
 use Rattle.rules.specs.Encoding.{registerOf, registersFrom}
 use Rattle.encoding.specs.Registers.{length-registers, register-at}
 use Rattle.laws.specs.Sets.{has-none, has-same, has-other}
-use Rattle.threads.specs.Bits.{has-low, has-high, has-or-low, has-or-high}
+use Rattle.register_file.specs.Bits.{has-low, has-high, has-or-low, has-or-high}
 
 -- absent registers are zero
 abbrev pub AbsentZero : ℕ → List ℕ → Type 0

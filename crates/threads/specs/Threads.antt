@@ -186,10 +186,6 @@ idle-fields w h = h .tidy .nothing (go (eqb (w .label .0) idleLabel) refl (h .st
 
 -- ---- registers changed
 
--- the values after the first n are zero
-abbrev pub ZerosAfter : ℕ → List ℕ → Type 0
-ZerosAfter n values = pad 0 registerCount (take n values) ≡ values
-
 -- registers 0 upward are present with the values, the others are absent and zero. Of the registers and the presence bits that came
 -- nothing stays: bits 25 to 31 are zero, whatever they were
 unfoldable pub filled : ThreadState → List ℕ → ThreadState

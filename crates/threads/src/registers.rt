@@ -1,15 +1,16 @@
 // The registers of a thread, and which of them are present.
 use crate::thread::ThreadState;
+use register_file::Registers;
 use rules::sorts::Thread;
 ghost use mathlib.Core.Path.{_≡_};
 ghost use mathlib.Core.Option.{some};
-ghost use Prim.Native.Nat.{_-_, _^_, _<_, _≤_};
+ghost use Prim.Native.Nat.{_^_, _<_, _≤_};
 ghost use lib.Bits.{bitOr};
 ghost use lib.ListN.{set, take};
 ghost use Rattle.rules.specs.Machine.{job};
 ghost use Rattle.rules.specs.Sizes.{registerCount};
-ghost use Rattle.threads.specs.Bits.{withBit};
-ghost use Rattle.threads.specs.Threads.{Running, Runs, returnsOf, registersOf, keeping, filled, ZerosAfter};
+ghost use Rattle.register_file.specs.Filling.{ZerosAfter};
+ghost use Rattle.threads.specs.Threads.{Running, Runs, returnsOf, registersOf, keeping, filled};
 
 // A presence bit set.
 fn mark(present: u32, register: u16) -> u32
@@ -19,23 +20,6 @@ fn mark(present: u32, register: u16) -> u32
     present | (1u32 << register)
 }
 
-// The presence set of registers 0 to count - 1.
-pub fn low(count: u8) -> u32
-    requires { ⌜ count ≤ registerCount ⌝ }
-    ensures { λ r. ⌜ r ≡ 2 ^ count - 1 ⌝ }
-{
-    (1u32 << count) - 1
-}
-
-// A presence set with one register's bit as in another.
-fn with_bit(present: u32, other: u32, register: usize) -> u32
-    requires { ⌜ register < registerCount ⌝ }
-    ensures { λ r. ⌜ r ≡ withBit register other present ⌝ }
-{
-    let bit = 1u32 << register;
-    ((present | bit) ^ bit) | (other & bit)
-}
-
 impl ThreadState {
     // Every register is set, with its presence bit: the first of the values in registers 0 upward, the others absent and zero. No bit of
     // the presence set that came stays, and bits 25 to 31 are zero.
@@ -43,19 +27,15 @@ impl ThreadState {
         requires { ⌜ (count ≤ registerCount) × ZerosAfter count values ⌝ }
         ensures { λ r. ⌜ r ≡ filled self (take count values) ⌝ }
     {
-        let given = low(count);
-        let mut present = self.present;
-        let mut registers = self.registers;
-        let mut i = 0;
-        // After i turns registers 0 to i - 1 are final, and the others, presence bits too, as they came.
-        while i < Thread::REGISTERS {
-            registers[i] = values[i];
-            present = with_bit(present, given, i);
-            i += 1;
-        }
-        // Bits 25 to 31 are no register's.
-        self.present = present & low(Thread::REGISTERS as u8);
-        self.registers = registers;
+        let came = self.registers;
+        let registers = Registers {
+            present: self.present,
+            values: came,
+        };
+        let all = registers.fill(values, count);
+        let filled = all.values;
+        self.present = all.present;
+        self.registers = filled;
         self
     }
 

@@ -1,5 +1,5 @@
 // A thread's state as one value, and how a job begins, goes on, calls, returns and ends on it.
-use crate::registers::low;
+use register_file::low;
 use rules::layout::HELD_SIZE;
 use rules::sorts::Label;
 use rules::sorts::Thread;
@@ -13,8 +13,9 @@ ghost use lib.Dec.{eqb};
 ghost use lib.ListN.{take, drop};
 ghost use Rattle.rules.specs.Sizes.{registerCount, returnCount, idleLabel};
 ghost use Rattle.rules.specs.Machine.{fill, job};
+ghost use Rattle.register_file.specs.Filling.{ZerosAfter};
 ghost use Rattle.threads.specs.Returns.{newestOf, olderOf};
-ghost use Rattle.threads.specs.Threads.{Idle, Tidy, Running, Runs, returnsOf, registersOf, keeping, idleThread, ZerosAfter};
+ghost use Rattle.threads.specs.Threads.{Idle, Tidy, Running, Runs, returnsOf, registersOf, keeping, idleThread};
 
 // At the label 65,535 a thread is idle. Depth is the number of return labels in use; they stand oldest first. Bit r of the presence set
 // is for register r. The signals held for new trees are their count, and their bytes as the record has them. An array is indexed in a local

@@ -2,8 +2,8 @@ use Prim.Native.Nat.{_^_, _<_}
 use native.Mathlib.Nat.{one-mul, mod-eq-of-lt}
 use native.Mathlib.Omega.{arith}
 use lib.Pow.{pow-lt}
-use Rattle.threads.proofs.registers.with_bit.Statement.{statement}
-use Rattle.threads.proofs.registers.with_bit.Tie as tie
+use Rattle.register_file.proofs.with_bit.Statement.{statement}
+use Rattle.register_file.proofs.with_bit.Tie as tie
 
 returns : tie.Need-returns
 returns c = let h : 2 ^ c .args .register < 4294967296 = omega (arith, pow-lt (c .pre)) in rw (one-mul, mod-eq-of-lt h)

@@ -2,8 +2,8 @@ use Prim.Native.Nat.{_^_, _<_}
 use native.Mathlib.Nat.{one-mul, mod-eq-of-lt}
 use native.Mathlib.Omega.{arith}
 use lib.Pow.{pow-mono, pow-pos}
-use Rattle.threads.proofs.registers.low.Statement.{statement}
-use Rattle.threads.proofs.registers.low.Tie as tie
+use Rattle.register_file.proofs.low.Statement.{statement}
+use Rattle.register_file.proofs.low.Tie as tie
 
 small : (c : tie.Start) → 2 ^ c .args .count < 4294967296
 small c = omega (arith, pow-mono (c .pre))
