@@ -7,35 +7,32 @@ use Prim.Native.Nat.{ℕ, _*_, _≤_}
 use native.Mathlib.Omega.{arith}
 use lib.Dec.{eqb, leb}
 use lib.ListN.{length, length-map}
-use borrow.Author.Tests.{eqb-true, eq-eqb, leb-true, le-leb}
+use borrow.Author.Tests.{eqb-true, leb-true}
 use Rattle.rules.specs.Sizes.{eventSize, eventCount, answerSize}
-use Rattle.rules.specs.Codes.{badEventNumber}
-use Rattle.rules.specs.Bytes.{blocks}
-use Rattle.rules.specs.Check.{Checked, firstOf}
+use Rattle.rules.specs.Check.{Checked}
 use Rattle.rules.specs.Machine.{Machine}
 use Rattle.rules.specs.Encoding.{encode}
-use Rattle.rules.specs.Events.{Event, eventBytes, eventsIn, eventAtOk, eventsFrom}
+use Rattle.rules.specs.Events.{Event, eventsIn, eventsFrom}
 use Rattle.rules.specs.Steps.{rulesBy, final}
 use Rattle.rules.specs.Link.{shiftMachine, shiftEvent, shiftEvents}
-use Rattle.rules.specs.Calls.{stateLengthFault, stateFault, eventsLengthFault, eventFault, answersLengthFault}
-use Rattle.rules.specs.Calls.{runReturn, runState}
+use Rattle.rules.specs.Calls.{eventsLengthFault, answersLengthFault, runReturn, runState}
 use Rattle.fields.specs.Each.{Each}
-use Rattle.fields.specs.Runs.{no-fault}
 use Rattle.laws.specs.Logic.{and-both}
-use Rattle.laws.specs.Faults.{first-of-zero, refusal-zero, checked-rest}
+use Rattle.laws.specs.Faults.{first-of-zero, refusal-zero}
 use Rattle.laws.specs.Passed.{passed}
-use Rattle.encoding.specs.Lengths.{length-encode}
 use Rattle.encoding.specs.Numbers.{AreBytes}
 use Rattle.encoding.specs.Machines.{machine-back}
 use Rattle.encoding.specs.Events.{length-events}
 use Rattle.soundness.specs.StaysWellFormed.{Accepted}
-use Rattle.soundness.specs.States.{encoded-well-formed, events-accepted}
+use Rattle.soundness.specs.States.{events-accepted}
+use Rattle.event_runs.specs.Written.{written-back}
+use Rattle.event_runs.specs.Runs.{RunOf, run-of, encoded-taken}
 use Rattle.calls_one_by_one.specs.CallList.{Run, returned, stateLeft, accepted, GoesOn, Follow, EventsAreBytes}
 use Rattle.calls_one_by_one.specs.Accepted.{events-ok}
 use Rattle.calls_one_by_one.specs.Joined.{eventLists, Good, good-final}
 use Rattle.guests.specs.Guests.{Guest}
 use Rattle.guests.specs.Reading as of-values
-use Rattle.calls_guests.specs.Shifts.{written-whole, written-count, written-back, written-ok, lent-written, shifted-bytes}
+use Rattle.calls_guests.specs.Shifts.{lent-written, shifted-bytes}
 
 -- ---- the counterpart of a Run, and of Runs, where s is the state that the call before left on the linked image
 
@@ -74,31 +71,6 @@ handed image table state events space h =
       few = leb-true (eventsIn events) eventCount (count .1);
       room = eqb-true (length space) (answerSize * eventsIn events) (refusal-zero _ 9 0 (omega arith) (nine .0));
     }
-
--- a Run from the bytes of a machine that keeps the rules, with events that are accepted, is accepted
-accepted-from : (image table : List ℕ) (s : Machine) (l : List Event) (space : List ℕ) → Checked image table → Good image table s
-    → Each (Accepted image) l → length l ≤ eventCount → length space ≡ answerSize * length l
-    → runReturn image table (encode s) (blocks eventBytes l) space ≡ 0
-unfolding runReturn stateLengthFault stateFault eventsLengthFault eventFault answersLengthFault firstOf
-accepted-from image table s l space checked g a few room =
-    let n : eventsIn (blocks eventBytes l) ≡ length l = written-count image l a in
-    let size : length (blocks eventBytes l) ≡ eventSize * length l = written-whole image l a in
-    let formed = encoded-well-formed image table s (g .sized) (g .sound) in
-    let ok = no-fault (eventAtOk image (blocks eventBytes l)) (length l) badEventNumber (written-ok image l a) in
-    let own : List ℕ =
-    stateLengthFault (encode s) ∷ stateFault image table (encode s) ∷ eventsLengthFault (blocks eventBytes l) ∷ eventFault image
-    (blocks eventBytes l) ∷ answersLengthFault (blocks eventBytes l) space ∷ [] in
-    checked-rest image table own checked
-    ∙ rw (
-      length-encode s,
-      formed,
-      n,
-      eq-eqb (length (blocks eventBytes l)) (eventSize * length l) size,
-      le-leb (length l) eventCount few,
-      ok,
-      eq-eqb (length space) (answerSize * length l) room,
-    )
-    refl
 
 -- ---- a guest's Runs
 
@@ -145,17 +117,18 @@ module _ (d : ℕ) (own other L table : List ℕ) (guest : Guest d own other L t
       let a = events-accepted own (r .events) (ok .whole) (ok .each) in
       let a′ = there s both l a in
       let n : length mapped ≡ eventsIn (r .events) = length-map l (shiftEvent d) ∙ length-events (r .events) in
-      let accepted′ : runReturn L table (encode (shiftMachine d s)) (blocks eventBytes mapped) (r .space) ≡ 0 =
-      accepted-from L table (shiftMachine d s) mapped (r .space) checked (both .shifted) a′ (rw n (given .few)) (rw n (given .room)) in
-      let values : eventsFrom (blocks eventBytes mapped) ≡ mapped = written-back L mapped a′ in
+      let ran : RunOf L table (encode (shiftMachine d s)) (r .space) mapped =
+      run-of L table (encode (shiftMachine d s)) (r .space) mapped
+      (encoded-taken L table (shiftMachine d s) checked (both .shifted .sized) (both .shifted .sound)) a′ (rw n (given .few))
+      (rw n (given .room)) in
       record {
         events = a;
-        accepted = rw (k .sameTable) accepted′;
+        accepted = rw (k .sameTable) (ran .accepted);
         bytes = shifted-bytes d L table (r .events) (lent-written own (r .events) (ok .whole) (ok .each) b) a′;
-        values = values;
+        values = written-back L mapped a′;
         own-left = rw (k .sameImage, k .sameTable, k .sameState, same, machine-back s (both .alone .sized));
-        left = rw (k .sameTable, accepted′, machine-back (shiftMachine d s) (both .shifted .sized), values)
-            (ap encode (reading s both l a .state));
+        left =
+            rw (k .sameTable, ran .left, machine-back (shiftMachine d s) (both .shifted .sized)) (ap encode (reading s both l a .state));
       }
 
   -- any number of Runs

@@ -12,14 +12,15 @@ use Rattle.rules.specs.Link.{shiftMachine, shiftEvent, shiftEvents}
 use Rattle.rules.specs.Calls.{stateLengthFault, wordsLengthFault, checkReturn, freshReturn, freshState, linkReturn, linkOut}
 use Rattle.fields.specs.Each.{Each}
 use Rattle.laws.specs.Faults.{checked-rest}
+use Rattle.event_runs.specs.Written.{each-sized}
 use Rattle.calls_one_by_one.specs.CallList.{Run, returned, Follow, Calls, eventList}
 use Rattle.calls_one_by_one.specs.Joined.{good-fresh}
 use Rattle.calls_one_by_one.specs.Whole as whole
 use Rattle.guests.specs.Passes.{linked-passes}
 use Rattle.guests.specs.Guests.{Guest}
-use Rattle.calls_guests.specs.Shifts.{each-sized}
+use Rattle.calls_guests.specs.Shifts.{all-shifted}
 use Rattle.calls_guests.specs.Guests.{IsGuest, SameEvents, GuestReading}
-use Rattle.calls_guests.specs.Reading.{joint, each, event-bytes, all-shifted, guest-of, guest-reading}
+use Rattle.calls_guests.specs.Reading.{guest-of, guest-reading}
 use Rattle.calls_guests.specs.Counterparts.{counterparts, CounterpartsAccepted, counterparts-accepted}
 
 -- the counterparts of a guest's Runs, after the Fresh of the linked image
@@ -72,13 +73,13 @@ module _ (first second table out : List ℕ) (accepted : linkReturn first second
 
   same-events : SameEvents d runs (linkedRuns d L table words state runs)
   same-events =
-      let own-events = joint own table words state runs alone in
-      let values : joint L table words state (linkedRuns d L table words state runs) calls-there ≡ map (shiftEvent d) own-events =
+      let own-events = whole.joint own table words state runs alone in
+      let values : whole.joint L table words state (linkedRuns d L table words state runs) calls-there ≡ map (shiftEvent d) own-events =
       rw start-there (all .values) in
-      event-bytes L table words state (linkedRuns d L table words state runs) calls-there
+      whole.event-bytes L table words state (linkedRuns d L table words state runs) calls-there
       ∙ ap (map eventBytes) values
-      ∙ sym (all-shifted d own-events (each-sized own own-events (each own table words state runs alone)))
-      ∙ sym (ap (map (shiftEvents d)) (event-bytes own table words state runs alone))
+      ∙ sym (all-shifted d own-events (each-sized own own-events (whole.all own table words state runs alone .each)))
+      ∙ sym (ap (map (shiftEvents d)) (whole.event-bytes own table words state runs alone))
       ∙ map-map (shiftEvents d) (λ (n : ByteEntry). n .event) (eventList runs)
 
   -- EVERY LIST OF A GUEST'S CALLS HAS ITS COUNTERPART ON THE LINKED IMAGE

@@ -1,8 +1,8 @@
 -- A guest's reading, of the calls: `guest-reading`, and `first-guest-state`. And nothing of the other guest is touched:
 -- `other-words-stay`, `other-locks-free`.
-use mathlib.Core.Path.{_≡_, refl, sym, ap, ap₂, _∙_, subst}
+use mathlib.Core.Path.{_≡_, sym, ap, _∙_, subst}
 use mathlib.Core.Bool.{true}
-use mathlib.Core.List.{List, [], _∷_, map, map-map}
+use mathlib.Core.List.{List, map, map-map}
 use Prim.Native.Nat.{ℕ}
 use lib.ListN.{take}
 use lib.Seq.{take-at}
@@ -10,74 +10,25 @@ use Rattle.rules.specs.Sizes.{wordTotal, wordsSize}
 use Rattle.rules.specs.Bytes.{le16, blocks, pad}
 use Rattle.rules.specs.Machine.{Machine, fresh, window}
 use Rattle.rules.specs.Encoding.{encode, wordsFrom, machineFrom}
-use Rattle.rules.specs.Events.{Event, eventBytes, eventFrom}
+use Rattle.rules.specs.Events.{Event, eventBytes}
 use Rattle.rules.specs.Answers.{answerBytes}
 use Rattle.rules.specs.Steps.{rulesBy, answers, final}
-use Rattle.rules.specs.Order.{Entry, log, events, ByteEntry}
+use Rattle.rules.specs.Order.{ByteEntry}
 use Rattle.rules.specs.Link.{names, shiftMachine, shiftEvent, shiftState, shiftEvents}
 use Rattle.rules.specs.Calls.{freshState, linkReturn, linkOut}
 use Rattle.fields.specs.Each.{Each}
-use Rattle.laws.specs.EventLists.{log-events, log-answers}
 use Rattle.encoding.specs.Lengths.{length-words}
-use Rattle.encoding.specs.Events.{SizedEvent}
 use Rattle.soundness.specs.StaysWellFormed.{Accepted}
-use Rattle.one_by_one.specs.ByteOrder.{bytesOf}
-use Rattle.calls_one_by_one.specs.CallList.{Run, lastLeft, Calls, eventList, answersOf}
+use Rattle.event_runs.specs.Written.{each-sized, same-events}
+use Rattle.calls_one_by_one.specs.CallList.{Run, lastLeft, Calls, eventList}
 use Rattle.calls_one_by_one.specs.Whole as whole
 use Rattle.guests.specs.Reading as of-values
 use Rattle.guests.specs.Unshifted.{machine-same, events-same}
 use Rattle.guests.specs.OtherBlocks.{NotOwn, Free}
 use Rattle.guests.specs.Guests as values
 use Rattle.guests.specs.Guests.{Guest, first-guest, second-guest}
-use Rattle.calls_guests.specs.Shifts.{each-sized, reread, shift-one}
+use Rattle.calls_guests.specs.Shifts.{all-shifted}
 use Rattle.calls_guests.specs.Guests.{IsGuest, the-first, the-second, SameEvents, GuestReading}
-
--- ---- one list of calls, as values
-
-module _ (image table words state : List ℕ) (runs : List Run) (calls : Calls image table words state runs) where
-  abbrev pub joint : List Event
-  joint = whole.joint image table words state runs calls
-
-  pub each : Each (Accepted image) joint
-  each = whole.all image table words state runs calls .each
-
-  abbrev begun : Machine
-  begun = fresh (wordsFrom words)
-
-  events-written : (l : List Entry) → map (λ (n : ByteEntry). n .event) (map bytesOf l) ≡ map eventBytes (events l)
-  events-written [] = refl
-  events-written (n ∷ l) = ap (λ z. eventBytes (n .event) ∷ z) (events-written l)
-
-  answers-written : (l : List Entry) → answersOf (map bytesOf l) ≡ map answerBytes (map (λ (n : Entry). n .answer) l)
-  answers-written [] = refl
-  answers-written (n ∷ l) = ap (λ z. answerBytes (n .answer) ∷ z) (answers-written l)
-
-  pub event-bytes : map (λ (n : ByteEntry). n .event) (eventList runs) ≡ map eventBytes joint
-  event-bytes =
-      ap (map (λ (n : ByteEntry). n .event)) (whole.entries image table words state runs calls)
-      ∙ events-written (log (rulesBy image table) begun joint)
-      ∙ ap (map eventBytes) (log-events (rulesBy image table) begun joint)
-
-  pub answer-bytes : answersOf (eventList runs) ≡ map answerBytes (answers (rulesBy image table) begun joint)
-  answer-bytes =
-      ap answersOf (whole.entries image table words state runs calls)
-      ∙ answers-written (log (rulesBy image table) begun joint)
-      ∙ ap (map answerBytes) (log-answers (rulesBy image table) begun joint)
-
--- ---- the shifted events of a list
-
-all-reread : (l : List Event) → Each SizedEvent l → map eventFrom (map eventBytes l) ≡ l
-all-reread [] z = refl
-all-reread (e ∷ l) z = ap₂ (λ x y. x ∷ y) (reread e (z .0)) (all-reread l (z .1))
-
-pub all-shifted : (d : ℕ) (l : List Event) → Each SizedEvent l
-    → map (shiftEvents d) (map eventBytes l) ≡ map eventBytes (map (shiftEvent d) l)
-all-shifted d [] z = refl
-all-shifted d (e ∷ l) z = ap₂ (λ x y. x ∷ y) (shift-one d e (z .0)) (all-shifted d l (z .1))
-
--- two event lists whose bytes are the same
-same-events : (l m : List Event) → Each SizedEvent l → Each SizedEvent m → map eventBytes l ≡ map eventBytes m → l ≡ m
-same-events l m z y e = sym (all-reread l z) ∙ ap (map eventFrom) e ∙ all-reread m y
 
 -- ---- the words of a state
 
@@ -98,24 +49,24 @@ module _ (first second table out : List ℕ) (accepted : linkReturn first second
   module _ (d : ℕ) (own other : List ℕ) (guest : IsGuest first second d own other) (words state state′ : List ℕ) (runs runs′ : List Run)
       (alone : Calls own table words state runs) (linked : Calls L table words state′ runs′) (same : SameEvents d runs runs′) where
     abbrev own-events : List Event
-    own-events = joint own table words state runs alone
+    own-events = whole.joint own table words state runs alone
 
     own-accepted : Each (Accepted own) own-events
-    own-accepted = each own table words state runs alone
+    own-accepted = whole.all own table words state runs alone .each
 
     reads : of-values.GuestReading d own L table (fresh (wordsFrom words)) (fresh (wordsFrom words)) own-events
     reads = values.reads-as-alone d own other L table (guest-of d own other guest) (wordsFrom words) own-events own-accepted
 
-    linked-events : joint L table words state′ runs′ linked ≡ map (shiftEvent d) own-events
+    linked-events : whole.joint L table words state′ runs′ linked ≡ map (shiftEvent d) own-events
     linked-events =
-        same-events (joint L table words state′ runs′ linked) (map (shiftEvent d) own-events)
-        (each-sized L (joint L table words state′ runs′ linked) (each L table words state′ runs′ linked))
+        same-events (whole.joint L table words state′ runs′ linked) (map (shiftEvent d) own-events)
+        (each-sized L (whole.joint L table words state′ runs′ linked) (whole.all L table words state′ runs′ linked .each))
         (each-sized L (map (shiftEvent d) own-events)
         (values.accepted-there d own other L table (guest-of d own other guest) (wordsFrom words) own-events own-accepted))
-        (sym (event-bytes L table words state′ runs′ linked)
+        (sym (whole.event-bytes L table words state′ runs′ linked)
         ∙ same
         ∙ sym (map-map (shiftEvents d) (λ (n : ByteEntry). n .event) (eventList runs))
-        ∙ ap (map (shiftEvents d)) (event-bytes own table words state runs alone)
+        ∙ ap (map (shiftEvents d)) (whole.event-bytes own table words state runs alone)
         ∙ all-shifted d own-events (each-sized own own-events own-accepted))
 
     left-shifted : whole.last L table words state′ runs′ linked ≡ shiftMachine d (whole.last own table words state runs alone)
@@ -126,10 +77,10 @@ module _ (first second table out : List ℕ) (accepted : linkReturn first second
     unfolding shiftState
     guest-reading = record {
       answers =
-          answer-bytes L table words state′ runs′ linked
+          whole.answer-bytes L table words state′ runs′ linked
           ∙ ap (λ z. map answerBytes (answers (rulesBy L table) (fresh (wordsFrom words)) z)) linked-events
           ∙ ap (map answerBytes) (reads .answers)
-          ∙ sym (answer-bytes own table words state runs alone);
+          ∙ sym (whole.answer-bytes own table words state runs alone);
       words =
           ap (take wordsSize) (whole.last-bytes L table words state′ runs′ linked ∙ ap encode left-shifted)
           ∙ words-of (shiftMachine d (whole.last own table words state runs alone))
@@ -168,12 +119,12 @@ module _ (first second table out : List ℕ) (accepted : linkReturn first second
       (same : map (λ (n : ByteEntry). n .event) (eventList runs′) ≡ map (λ (n : ByteEntry). n .event) (eventList runs)) where
     unshifted : SameEvents 0 runs runs′
     unshifted =
-        let l = joint first table words state runs alone in
+        let l = whole.joint first table words state runs alone in
         same
-        ∙ event-bytes first table words state runs alone
+        ∙ whole.event-bytes first table words state runs alone
         ∙ ap (map eventBytes) (sym (events-same l))
-        ∙ sym (all-shifted 0 l (each-sized first l (each first table words state runs alone)))
-        ∙ sym (ap (map (shiftEvents 0)) (event-bytes first table words state runs alone))
+        ∙ sym (all-shifted 0 l (each-sized first l (whole.all first table words state runs alone .each)))
+        ∙ sym (ap (map (shiftEvents 0)) (whole.event-bytes first table words state runs alone))
         ∙ map-map (shiftEvents 0) (λ (n : ByteEntry). n .event) (eventList runs)
 
     -- THE FIRST GUEST'S STATE BYTES ARE THE VERY ONES, where the event bytes are

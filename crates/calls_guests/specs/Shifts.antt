@@ -1,69 +1,61 @@
--- A list of events whose bytes a guest's image accepts, with its labels shifted: as many events, of the shifted values, in bytes, and
--- accepted by the linked image.
-use mathlib.Core.Path.{_≡_, refl}
+-- A list of events whose bytes a guest's image accepts, with its labels shifted: it is the list of the shifted values, in bytes.
+use mathlib.Core.Path.{_≡_, refl, ap₂}
 use mathlib.Core.Bool.{true}
-use mathlib.Core.List.{List, [], _∷_, append-nil, map}
-use Prim.Native.Nat.{ℕ, _*_, _<_}
+use mathlib.Core.List.{List, [], _∷_, _++_, append-nil, map}
+use Prim.Native.Nat.{ℕ, zero, suc, _+_, _*_, _<_}
 use native.Mathlib.Omega.{arith}
-use lib.ListN.{length, getD, drop, length-drop}
+use lib.ListN.{length, take, drop, length-drop}
 use Rattle.rules.specs.Sizes.{eventSize}
 use Rattle.rules.specs.Bytes.{blocks, chunks}
-use Rattle.rules.specs.Events.{stepping, Event, arrive, turn, eventBytes, eventFrom, eventsIn, eventAtOk, eventsFrom}
+use Rattle.rules.specs.Encoding.{signalBytes}
+use Rattle.rules.specs.Events.{Event, arrive, turn, eventBytes, eventFrom, eventsIn, eventAtOk, eventsFrom}
 use Rattle.rules.specs.Link.{shiftEvent, shiftEvents}
-use Rattle.fields.specs.Each.{Each, each-at}
-use Rattle.fields.specs.Blocks.{length-blocks, chunks-blocks, block-drop}
+use Rattle.fields.specs.Each.{Each}
 use Rattle.image.specs.Records.{labels-small}
 use Rattle.encoding.specs.Lengths.{length-event}
 use Rattle.encoding.specs.Numbers.{AreBytes, bytes-drop}
 use Rattle.encoding.specs.Runs.{each-chunks}
-use Rattle.encoding.specs.Events.{SizedEvent, event-back, event-forth}
-use Rattle.soundness.specs.Members.{each-map}
+use Rattle.encoding.specs.Events.{SizedEvent, event-forth}
 use Rattle.soundness.specs.StaysWellFormed.{Accepted}
-use Rattle.calls_one_by_one.specs.Whole.{accepted-sized}
+use Rattle.event_runs.specs.Written.{event-reread}
 use Rattle.guests.specs.Reading.{accepted-below}
-use Rattle.calls_guests.specs.Written.{event-ok, Written, blocks-bytes, LabelFits, written-shift, bytes-take}
 
--- ---- events, written down and read again
-
-pub each-sized : (image : List ℕ) (l : List Event) → Each (Accepted image) l → Each SizedEvent l
-each-sized image l h = each-map (Accepted image) SizedEvent l (accepted-sized image) h
-
-pub reread : (e : Event) → SizedEvent e → eventFrom (eventBytes e) ≡ e
-reread e z = rw (append-nil (eventBytes e)) at (event-back e z [])
+-- ---- the shifted events of a list
 
 -- the bytes of one event, shifted
-pub shift-one : (d : ℕ) (e : Event) → SizedEvent e → shiftEvents d (eventBytes e) ≡ eventBytes (shiftEvent d e)
+shift-one : (d : ℕ) (e : Event) → SizedEvent e → shiftEvents d (eventBytes e) ≡ eventBytes (shiftEvent d e)
 unfolding shiftEvents eventsFrom chunks blocks
 shift-one d e z =
     let one : eventsIn (eventBytes e) ≡ 1 = rw (length-event e) refl in
-    rw (one, reread e z) (append-nil (eventBytes (shiftEvent d e)))
+    rw (one, event-reread e z) (append-nil (eventBytes (shiftEvent d e)))
 
--- ---- a list of them, and nothing behind it
+pub all-shifted : (d : ℕ) (l : List Event) → Each SizedEvent l
+    → map (shiftEvents d) (map eventBytes l) ≡ map eventBytes (map (shiftEvent d) l)
+all-shifted d [] z = refl
+all-shifted d (e ∷ l) z = ap₂ (λ x y. x ∷ y) (shift-one d e (z .0)) (all-shifted d l (z .1))
 
-module _ (image : List ℕ) (l : List Event) (accepted : Each (Accepted image) l) where
-  abbrev bytes : List ℕ
-  bytes = blocks eventBytes l
+-- ---- bytes
 
-  pub written-whole : length bytes ≡ eventSize * length l
-  written-whole = length-blocks eventBytes eventSize length-event l
+bytes-append : (xs ys : List ℕ) → AreBytes xs → AreBytes ys → AreBytes (xs ++ ys)
+bytes-append [] ys h k i = k i
+bytes-append (x ∷ xs) ys h k zero = h 0
+bytes-append (x ∷ xs) ys h k (suc i) = bytes-append xs ys (λ j. h (suc j)) k i
 
-  pub written-count : eventsIn bytes ≡ length l
-  written-count = omega (arith, written-whole)
+-- a part of bytes is bytes
+bytes-take : (n : ℕ) (s : List ℕ) → AreBytes s → AreBytes (take n s)
+bytes-take zero s h i = omega arith
+bytes-take (suc n) [] h i = omega arith
+bytes-take (suc n) (x ∷ s) h zero = h 0
+bytes-take (suc n) (x ∷ s) h (suc i) = bytes-take n s (λ j. h (suc j)) i
 
-  pub written-back : eventsFrom bytes ≡ l
-  unfolding eventsFrom
-  written-back =
-      rw (written-count, ← append-nil bytes)
-      (chunks-blocks eventBytes eventFrom eventSize length-event SizedEvent event-back l [] (each-sized image l accepted))
+-- every byte of an event is below 256
+abbrev pub Written : Event → Type 0
+Written e = AreBytes (eventBytes e)
 
-  pub written-ok : (i : ℕ) → i < length l → eventAtOk image bytes i ≡ true
-  unfolding eventAtOk
-  written-ok i h =
-      let none : Event = turn stepping 0 in
-      rw (← append-nil bytes, block-drop eventBytes eventSize length-event none [] [] l (eventSize * i) i (omega arith) h)
-      (event-ok image (getD l i none) _ (each-at (Accepted image) l i none accepted h))
-
--- ---- a guest's events, shifted
+blocks-bytes : (l : List Event) → Each Written l → AreBytes (blocks eventBytes l)
+unfolding blocks
+blocks-bytes [] h i = omega arith
+blocks-bytes (e ∷ l) h i = bytes-append (eventBytes e) (blocks eventBytes l) (h .0) (blocks-bytes l (h .1)) i
 
 -- events that are lent in bytes and break no rule, as their values are written
 pub lent-written : (image events : List ℕ) → length events ≡ eventSize * eventsIn events
@@ -74,6 +66,22 @@ lent-written image events whole ok b =
     let at = drop (eventSize * i) events in
     rw (event-forth image at (simp length-drop (omega arith)) (ok i h) (bytes-drop events (eventSize * i) b))
     (bytes-take eventSize at (bytes-drop events (eventSize * i) b)))
+
+-- ---- shifted, they are bytes too
+
+-- an arrival's label that still fits after the shift
+abbrev LabelFits : ℕ → Event → Type 0
+LabelFits d (arrive g) = g .label + d < 65536
+LabelFits d (turn k t) = Unit {0}
+
+written-shift : (d : ℕ) (e : Event) → LabelFits d e → Written e → Written (shiftEvent d e)
+unfolding eventBytes signalBytes
+written-shift d (arrive g) f h zero = h 0
+written-shift d (arrive g) f h (suc zero) = h 1
+written-shift d (arrive g) f h (suc (suc zero)) = omega arith
+written-shift d (arrive g) f h (suc (suc (suc zero))) = omega arith
+written-shift d (arrive g) f h (suc (suc (suc (suc i)))) = h (suc (suc (suc (suc i))))
+written-shift d (turn k t) f h i = h i
 
 -- below 512, a label has room for a shift
 module _ (d : ℕ) (L table : List ℕ) where

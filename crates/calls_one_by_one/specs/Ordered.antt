@@ -1,17 +1,18 @@
 -- From the second order of the bytes back to values: the events that it reads and the answers that it has are those of the second order of
 -- the values.
 use mathlib.Core.Path.{_≡_, refl, sym, ap, _∙_}
-use mathlib.Core.List.{List, [], _∷_, map, append-nil}
+use mathlib.Core.List.{List, [], _∷_, map}
 use Prim.Native.Nat.{ℕ}
 use Rattle.rules.specs.Machine.{Machine}
 use Rattle.rules.specs.Events.{stepping, cutting, Event, arrive, turn, eventBytes, eventFrom}
 use Rattle.rules.specs.Answers.{answerBytes}
 use Rattle.rules.specs.Steps.{Rules, answers}
-use Rattle.rules.specs.Order.{Entry, rowOf, order, events, log, byteOrder}
+use Rattle.rules.specs.Order.{Entry, rowOf, order, events, log, ByteEntry, byteOrder}
 use Rattle.fields.specs.Each.{Each}
 use Rattle.laws.specs.EventLists.{log-answers}
 use Rattle.one_by_one.specs.ByteOrder.{bytesOf, order-over, byte-order}
-use Rattle.encoding.specs.Events.{SizedEvent, event-back}
+use Rattle.encoding.specs.Events.{SizedEvent}
+use Rattle.event_runs.specs.Written.{event-reread}
 use Rattle.calls_one_by_one.specs.CallList.{eventsOf, answersOf}
 
 -- ---- events, written down and read again
@@ -31,9 +32,7 @@ order-reread l = order-over reread _ _ _ _ (λ n. refl) (λ n. row-reread (n .ev
 
 reread-same : (l : List Entry) → Each SizedEvent (events l) → map reread l ≡ l
 reread-same [] z = refl
-reread-same (n ∷ l) z =
-    let e : eventFrom (eventBytes (n .event)) ≡ n .event = rw (append-nil (eventBytes (n .event))) at (event-back (n .event) (z .0) []) in
-    rw (e, reread-same l (z .1)) refl
+reread-same (n ∷ l) z = rw (event-reread (n .event) (z .0), reread-same l (z .1)) refl
 
 reread-events : (l : List Entry) → eventsOf (map bytesOf l) ≡ events (map reread l)
 reread-events [] = refl
@@ -46,11 +45,15 @@ pub events-ordered : (l : List Entry) → Each SizedEvent (events l) → eventsO
 events-ordered l z =
     ap eventsOf (sym (byte-order l)) ∙ reread-events (order l) ∙ ap events (order-reread l ∙ ap order (reread-same l z))
 
--- ---- answers
+-- ---- the bytes of events and of answers
 
-answer-bytes : (l : List Entry) → map answerBytes (map (λ (n : Entry). n .answer) l) ≡ answersOf (map bytesOf l)
-answer-bytes [] = refl
-answer-bytes (n ∷ l) = ap (λ (z : List (List ℕ)). answerBytes (n .answer) ∷ z) (answer-bytes l)
+pub events-written : (l : List Entry) → map (λ (n : ByteEntry). n .event) (map bytesOf l) ≡ map eventBytes (events l)
+events-written [] = refl
+events-written (n ∷ l) = ap (λ (z : List (List ℕ)). eventBytes (n .event) ∷ z) (events-written l)
+
+pub answers-written : (l : List Entry) → answersOf (map bytesOf l) ≡ map answerBytes (map (λ (n : Entry). n .answer) l)
+answers-written [] = refl
+answers-written (n ∷ l) = ap (λ (z : List (List ℕ)). answerBytes (n .answer) ∷ z) (answers-written l)
 
 pub answers-ordered : (R : Rules) (s : Machine) (l : List Entry) → log R s (events (order l)) ≡ order l
     → map answerBytes (answers R s (events (order l))) ≡ answersOf (byteOrder (map bytesOf l))
@@ -58,4 +61,4 @@ answers-ordered R s l e =
     let a : answers R s (events (order l)) ≡ map (λ (n : Entry). n .answer) (order l) =
     sym (log-answers R s (events (order l))) ∙ ap (map (λ (n : Entry). n .answer)) e
     in
-    ap (map answerBytes) a ∙ answer-bytes (order l) ∙ ap answersOf (byte-order l)
+    ap (map answerBytes) a ∙ sym (answers-written (order l)) ∙ ap answersOf (byte-order l)

@@ -7,39 +7,35 @@ use borrow.Author.Tests.{eqb-true}
 use Rattle.rules.specs.Check.{Checked, firstOf}
 use Rattle.rules.specs.Machine.{Machine, fresh}
 use Rattle.rules.specs.Encoding.{encode, wordsFrom, machineFrom}
-use Rattle.rules.specs.Events.{Event, arrive, turn}
+use Rattle.rules.specs.Events.{Event, eventBytes}
 use Rattle.rules.specs.Answers.{answerBytes}
 use Rattle.rules.specs.Steps.{Rules, rulesBy, answers, final}
-use Rattle.rules.specs.Order.{Entry, order, orderBy, notesBy, events, log, byteOrder}
-use Rattle.rules.specs.Calls.{freshReturn, freshState, runReturn, stateLengthFault, stateFault, eventsLengthFault, eventFault}
-use Rattle.rules.specs.Calls.{answersLengthFault}
+use Rattle.rules.specs.Order.{Entry, order, orderBy, notesBy, events, log, ByteEntry, byteOrder}
+use Rattle.rules.specs.Calls.{freshReturn, freshState, runReturn, eventsLengthFault, eventFault, answersLengthFault}
 use Rattle.fields.specs.Each.{Each}
-use Rattle.laws.specs.Faults.{checked-of, checked-rest}
+use Rattle.laws.specs.Faults.{checked-of}
 use Rattle.one_by_one.specs.Reading.{AllValid}
 use Rattle.soundness.specs.CheckedRules.{checked-laws}
 use Rattle.one_by_one.specs.Calls as values
-use Rattle.laws.specs.EventLists.{log-events}
+use Rattle.laws.specs.EventLists.{log-events, log-answers}
 use Rattle.one_by_one.specs.Calls.{logs, logs-flatten, finals-flatten}
 use Rattle.one_by_one.specs.ByteOrder.{bytesOf}
 use Rattle.encoding.specs.Events.{SizedEvent}
 use Rattle.encoding.specs.Machines.{machine-back}
-use Rattle.soundness.specs.Members.{each-map}
 use Rattle.soundness.specs.StaysWellFormed.{Accepted, accepted-valid}
 use Rattle.soundness.specs.StaysSized.{sized-final}
 use Rattle.soundness.specs.States.{Ready, fresh-leaves-ready, run-leaves-ready}
+use Rattle.event_runs.specs.Written.{each-sized}
+use Rattle.event_runs.specs.Runs.{run-return}
 use Rattle.calls_one_by_one.specs.CallList.{Run, returned, stateLeft, accepted, next, lastLeft, Follow, Calls, eventList, eventsOf}
 use Rattle.calls_one_by_one.specs.CallList.{answersOf, lossesOf, OneByOneCalls, NoChange}
 use Rattle.calls_one_by_one.specs.Joined.{eventLists, Good, good-fresh, Joined, joined}
-use Rattle.calls_one_by_one.specs.Ordered.{events-listed, events-ordered, answers-ordered}
+use Rattle.calls_one_by_one.specs.Ordered.{events-listed, events-ordered, events-written, answers-written, answers-ordered}
 
--- what the reading of values asks of events that the image accepts: their threads are 0 to 7, and their bytes have room for them
+-- what the reading of values asks of events that the image accepts: their threads are 0 to 7
 pub all-valid : (image : List ℕ) (l : List Event) → Each (Accepted image) l → AllValid l
 all-valid image [] h = tt
 all-valid image (e ∷ l) h = (accepted-valid image e (h .0), all-valid image l (h .1))
-
-pub accepted-sized : (image : List ℕ) (e : Event) → Accepted image e → SizedEvent e
-accepted-sized image (arrive g) h = h .1
-accepted-sized image (turn k t) h = tt
 
 -- each accepted call leaves a state that is accepted again
 module _ (image table : List ℕ) where
@@ -103,6 +99,16 @@ module _ (image table words state : List ℕ) (runs : List Run) (calls : Calls i
   pub entries : eventList runs ≡ map bytesOf (log R first joint)
   entries = all .entries ∙ ap (map bytesOf) (logs-flatten R first (eventLists runs))
 
+  -- the bytes of its events are theirs, and those of its answers the rules'
+  pub event-bytes : map (λ (n : ByteEntry). n .event) (eventList runs) ≡ map eventBytes joint
+  event-bytes =
+      ap (map (λ (n : ByteEntry). n .event)) entries
+      ∙ events-written (log R first joint)
+      ∙ ap (map eventBytes) (log-events R first joint)
+
+  pub answer-bytes : answersOf (eventList runs) ≡ map answerBytes (answers R first joint)
+  answer-bytes = ap answersOf entries ∙ answers-written (log R first joint) ∙ ap (map answerBytes) (log-answers R first joint)
+
   abbrev noted : List Entry
   noted = logs R first (eventLists runs)
 
@@ -114,7 +120,7 @@ module _ (image table words state : List ℕ) (runs : List Run) (calls : Calls i
       values.calls-one-by-one R (checked-laws image table checked) (wordsFrom words) (eventLists runs) (all-valid image joint (all .each))
 
   noted-sized : Each SizedEvent (events noted)
-  noted-sized = subst (Each SizedEvent) (sym noted-events) (each-map (Accepted image) SizedEvent joint (accepted-sized image) (all .each))
+  noted-sized = subst (Each SizedEvent) (sym noted-events) (each-sized image joint (all .each))
 
   pub listed : eventsOf (eventList runs) ≡ joint
   listed = ap eventsOf (all .entries) ∙ events-listed noted noted-sized ∙ noted-events
@@ -153,9 +159,4 @@ module _ (image table words state : List ℕ) (runs : List Run) (calls : Calls i
   pub next-return : (events space : List ℕ)
       → runReturn image table (lastLeft start runs) events space ≡ firstOf
       (eventsLengthFault events ∷ eventFault image events ∷ answersLengthFault events space ∷ [])
-  unfolding runReturn firstOf
-  next-return events space =
-      let own : List ℕ = eventsLengthFault events ∷ eventFault image events ∷ answersLengthFault events space ∷ [] in
-      let more : List ℕ = stateLengthFault (lastLeft start runs) ∷ stateFault image table (lastLeft start runs) ∷ own in
-      let rest : firstOf more ≡ firstOf own = rw (accepted-again .size, accepted-again .formed) refl in
-      checked-rest image table more checked ∙ rest
+  next-return events space = run-return image table (lastLeft start runs) events space checked accepted-again
