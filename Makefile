@@ -104,7 +104,8 @@ map:
 	dot -Tsvg -o docs/map.svg docs/map.dot
 
 # what the library asks of a host and of the system; the demo's output is held to a file
-CASES = $(sort $(basename $(foreach set,base 102 104 105 106 107,$(wildcard crates/trials/data/$(set)/*.image))))
+SETS = $(shell cut -d ' ' -f 1 crates/trials/data/sets.txt)
+CASES = $(sort $(basename $(foreach set,$(SETS),$(wildcard crates/trials/data/$(set)/*.image))))
 HOST_TESTS = header header++ words-safe explanations-safe plain-safe lending lending-safe pictures-safe instructions
 host: $(addprefix build/,$(HOST_TESTS) stack demo-safe bench faulting)
 	sh tests/progress.sh

@@ -37,6 +37,10 @@ report 'docs/map.dot is not what `make map` makes of crates.txt' "$(awk -f tools
 report 'crates that docs/map.svg does not show' \
     "$(for crate in $crates; do grep -q "<title>$crate</title>" docs/map.svg || echo "$crate"; done)"
 
+# a set that is not in the list would not be tried
+report 'sets of vectors that sets.txt does not have' \
+    "$(cd crates/trials/data && for index in */index.txt; do grep -q "^${index%/*} " sets.txt || echo "${index%/*}"; done)"
+
 # no path of one machine
 report 'paths of one machine' "$(git grep -nE '(^|[^[:alnum:]_.])/(work|root|home)/[A-Za-z]' -- . ':!tests/style.sh')"
 

@@ -14,7 +14,7 @@ use crate::text::begins;
 ghost use Rattle.io.specs.Counts.{Counts};
 
 // Reads a file, as far as `into` goes, and says how many bytes.
-pub fn read(path: &[u8], into: &mut [u8]) -> usize
+fn read(path: &[u8], into: &mut [u8]) -> usize
     ensures { λ r. ⌜ Counts r (now (into .exit)) ⌝ }
 {
     let fd = os::open_read(path);
@@ -27,20 +27,25 @@ pub fn read(path: &[u8], into: &mut [u8]) -> usize
     n
 }
 
-// Reads the file that `n` bytes of `path` name into the part of `memory` from `from`.
-fn read_part(path: &[u8; 32], n: usize, memory: &mut [u8], from: usize) -> usize {
+// The first `n` bytes of a path, of which there are at most 32.
+fn cut(path: &[u8; 32], n: usize) -> &[u8] {
+    let all = &path[..];
     if 32 < n {
-        return 0;
+        return all;
     }
+    &all[0..n]
+}
+
+// Reads a file into the part of `memory` from `from`.
+fn read_part(path: &[u8], memory: &mut [u8], from: usize) -> usize {
     if memory.len() < PART {
         return 0;
     }
     if memory.len() - PART < from {
         return 0;
     }
-    let all = &path[..];
     let to = from + PART;
-    read(&all[0..n], &mut memory[from..to])
+    read(path, &mut memory[from..to])
 }
 
 // Adds the first word of `text` to a path that ends at `at`, and says where it then ends.
@@ -61,6 +66,34 @@ fn put(path: &mut [u8; 32], at: usize, text: &[u8]) -> usize {
     to
 }
 
+// Puts the first word of `folder`, `/` and the first word of `file` into a path, and says where it then ends.
+fn put_both(path: &mut [u8; 32], folder: &[u8], file: &[u8]) -> usize {
+    let end = put(path, 0, folder);
+    let slash = put(path, end, b"/");
+    put(path, slash, file)
+}
+
+// Whether the file in `folder` can be read.
+pub fn is_there(folder: &[u8], file: &[u8]) -> bool {
+    let mut path = [0u8; 32];
+    let n = put_both(&mut path, folder, file);
+    let fd = os::open_read(cut(&path, n));
+    if fd < 0 {
+        return false;
+    }
+    libc::close(fd);
+    true
+}
+
+// Reads the file in `folder`, as far as `into` goes, and says how many bytes.
+pub fn read_in(folder: &[u8], file: &[u8], into: &mut [u8]) -> usize
+    ensures { λ r. ⌜ Counts r (now (into .exit)) ⌝ }
+{
+    let mut path = [0u8; 32];
+    let n = put_both(&mut path, folder, file);
+    read(cut(&path, n), into)
+}
+
 // Reads a buffer of the case in `folder` that `line` begins with from its file.
 fn load_buffer(
     folder: &[u8],
@@ -71,12 +104,11 @@ fn load_buffer(
 ) {
     if buffer < BUFFERS {
         let mut path = [0u8; 32];
-        let case = put(&mut path, 0, folder);
-        let dot = put(&mut path, case, line);
+        let dot = put_both(&mut path, folder, line);
         let extension = put(&mut path, dot, b".");
         let word = name(buffer);
         let n = put(&mut path, extension, &word);
-        lengths[buffer] = read_part(&path, n, memory, buffer * PART);
+        lengths[buffer] = read_part(cut(&path, n), memory, buffer * PART);
     }
 }
 

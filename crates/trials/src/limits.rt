@@ -32,7 +32,7 @@ fn exits(memory: &mut Memory, buffer: usize, block: u8) {
 
 // Every image length from 0 to 43,176: 84 × n passes for n 1 to 512, and no other.
 pub fn image_lengths(memory: &mut Memory, lengths: &mut Lengths) -> Tally {
-    load(b"", b"limits", memory, lengths);
+    load(b".", b"limits", memory, lengths);
     exits(memory, IMAGE, 0);
     let mut tally = Tally::new();
     let mut n: usize = 0;
@@ -58,7 +58,7 @@ fn linked(memory: &Memory, lengths: &mut Lengths, n: usize, m: usize) -> u32
 
 // Every count of the first image's records from 1 to 511: 512 records pass together, and 513 do not.
 pub fn link_counts(memory: &mut Memory, lengths: &mut Lengths) -> Tally {
-    load(b"", b"limits", memory, lengths);
+    load(b".", b"limits", memory, lengths);
     exits(memory, FIRST, 0);
     exits(memory, SECOND, 1);
     let mut tally = Tally::new();

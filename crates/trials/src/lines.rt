@@ -3,7 +3,7 @@
 use crate::claims::agrees;
 use crate::edits::apply;
 use crate::files::load;
-use crate::files::read;
+use crate::files::read_in;
 use crate::memory::Lengths;
 use crate::memory::Memory;
 use crate::tally::Tally;
@@ -52,18 +52,15 @@ fn try_text(
     tally
 }
 
-// The folder of a path, with the `/` after it.
-fn folder(path: &[u8]) -> &[u8] {
-    let end = after(path, 0, b'/');
-    if path.len() <= end {
-        return &path[..0];
-    }
-    &path[0..end]
-}
-
-// Tries each line of a file that names `call`, on the cases in the file's folder.
-pub fn try_file(path: &[u8], call: &[u8], memory: &mut Memory, lengths: &mut Lengths) -> Tally {
+// Tries each line of the file in `folder` that names `call`, on the cases in that folder.
+pub fn try_file(
+    folder: &[u8],
+    file: &[u8],
+    call: &[u8],
+    memory: &mut Memory,
+    lengths: &mut Lengths,
+) -> Tally {
     let mut text = [0u8; TEXT];
-    let n = read(path, &mut text);
-    try_text(folder(path), &text[..n], call, memory, lengths)
+    let n = read_in(folder, file, &mut text);
+    try_text(folder, &text[..n], call, memory, lengths)
 }

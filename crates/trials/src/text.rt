@@ -18,7 +18,9 @@ pub fn next(text: &[u8], at: usize, b: u8) -> usize
 }
 
 // The same from any place.
-pub fn after(text: &[u8], at: usize, b: u8) -> usize {
+pub fn after(text: &[u8], at: usize, b: u8) -> usize
+    ensures { λ r. ⌜ r ≤ length (now (text .entry)) ⌝ }
+{
     if at < text.len() {
         next(text, at, b)
     } else {
