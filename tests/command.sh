@@ -135,7 +135,7 @@ cp old kept
 head -c 9632 left >short-state
 cat left empty "$table" >long-state
 
-for subject in arguments check show link run refused outputs inputs streams signals state waits locks upgrade terminal; do
+for subject in arguments check show link run refused outputs inputs streams signals state waits locks upgrade printed terminal; do
     . "$tests/$subject.sh"
 done
 

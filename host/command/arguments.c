@@ -108,22 +108,24 @@ static bool is_output(const struct option *output, const struct option *option, 
     return true;
 }
 
-/* Whether what is printed goes to a file that is read; a sentence if so. */
-static bool is_printed_to(const char *path)
+/* Whether what is printed goes to a file that is read or written; a sentence if so. */
+static bool is_printed_to(const char *path, bool is_input)
 {
     bool is_so = !is_quiet && is_standard_output(path);
     if (is_so)
-        complain("standard output is the same file as %s, which is read", name_in_messages(path));
+        complain("standard output is the same file as %s, which is %s", name_in_messages(path),
+                 is_input ? "read" : "written");
     return is_so;
 }
 
-/* Whether a file that an option names, or an argument if that is NULL, is no output but its own. */
+/* Whether a file that an option names, or an argument if that is NULL, is no output but its own, and nothing is
+ * printed into it. */
 static bool is_apart(const struct option *options, const struct option *option, const char *path)
 {
     for (const struct option *output = options; output->name != NULL; output++)
         if (is_output(output, option, path))
             return false;
-    return (option != NULL && option->read == NULL) || !is_printed_to(path);
+    return !is_printed_to(path, option == NULL || option->read != NULL);
 }
 
 bool are_apart(const struct option *options, const char **others, int count)
@@ -164,7 +166,7 @@ int take_words(int argc, char **argv, const struct option *options, const char *
 int take_arguments(int argc, char **argv, const struct option *options, const char **others, int limit)
 {
     int count = take_words(argc, argv, options, others, limit);
-    return are_apart(options, others, count) ? count : -1;
+    return count >= 0 && are_apart(options, others, count) ? count : -1;
 }
 
 bool are_so_many(int count, int wanted)

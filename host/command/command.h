@@ -39,7 +39,8 @@ struct option {
 int take_words(int argc, char **argv, const struct option *options, const char **others, int limit);
 
 /* Whether no file written is one of the files read, the others and those of options, but for the
- * one that it may replace, or another one written; a sentence if not. */
+ * one that it may replace, or another one written, and nothing is printed into any of them; a sentence
+ * if not. */
 bool are_apart(const struct option *options, const char **others, int count);
 
 /* As take_words, where the others are names of files to be read, apart from what is written. */

@@ -29,6 +29,8 @@ static bool is_found(const char *path, struct stat *found)
 bool lead_to_same_file(const char *one, const char *other)
 {
     struct stat first, second;
+    if (strcmp(one, other) == 0)
+        return true;
     if (is_found(one, &first) && is_found(other, &second))
         return are_same_file(&first, &second);
     if (is_standard_input(one) || is_standard_input(other))
@@ -52,6 +54,13 @@ static int open_in_place(struct output *output)
     free(output->target);
     output->target = NULL;
     output->descriptor = open(output->path, O_WRONLY | O_TRUNC | O_NOCTTY | O_CLOEXEC);
+    return output->descriptor < 0 ? errno : 0;
+}
+
+/* Standard output's own file is written from where it stands, so that what is in it already stays. */
+static int open_standard_output(struct output *output)
+{
+    output->descriptor = fcntl(STDOUT_FILENO, F_DUPFD_CLOEXEC, 0);
     return output->descriptor < 0 ? errno : 0;
 }
 
@@ -94,6 +103,8 @@ static int begin(struct output *output)
         return errno;
     if (exists && !S_ISREG(found.st_mode))
         return open_in_place(output);
+    if (is_standard_output(output->path))
+        return open_standard_output(output);
     output->target = resolve_target(output->path);
     if (output->target == NULL)
         return errno;

@@ -7,8 +7,8 @@
 #include <stddef.h>
 #include <sys/types.h>
 
-/* A file in the making. What stood under its name stays until it is put in place. A pipe or a
- * device is written as it goes, and what it got cannot be taken back. */
+/* A file in the making. What stood under its name stays until it is put in place. A pipe, a device or
+ * standard output's file is written as it goes, and what it got cannot be taken back. */
 struct output {
     const char *path; /* as it was named */
     int descriptor;

@@ -91,5 +91,17 @@ tried 'standard input twice, once in an option' 2 'stands for one file alone' \
     run "$image" "$table" - --state -
 tried 'standard input as an output' 2 '--out wants a file to write, and - is standard input' \
     run "$image" "$table" "$words" "$events" --out -
+one_line() {
+    name=$1 pattern=$2
+    shift 2
+    "$plex" "$@" <old >said 2>&1
+    holds "$name: status" [ $? = 2 ]
+    holds "$name: no '$pattern'" grep -qe "$pattern" said
+    holds "$name: more than one line and the use" [ "$(wc -l <said)" = 2 ]
+}
+one_line 'wrong use, and standard input as an output' '^plex: --out wants a file to write' \
+    run "$image" "$table" "$words" "$events" --answers old --out -
+one_line 'wrong use, and one file twice' '^plex: there is no option --nothing here$' \
+    run "$image" "$table" "$words" "$events" --out x --answers x --nothing
 head -c 40 "$image" | "$plex" check - "$table" >said 2>&1
 holds 'a short image from standard input' grep -q 'standard input: 40 bytes; an image is' said

@@ -39,6 +39,8 @@ tried 'before anything is read' 2 '--out read.events is the same file as read.ev
     run nowhere nowhere nowhere read.events --out read.events
 tried 'a file that is not there yet' 2 '--out ./nowhere is the same file as nowhere, which is read' \
     run nowhere "$table" "$words" "$events" --out ./nowhere
+tried 'a file in no folder' 2 '--out nowhere/x is the same file as nowhere/x, which is read' \
+    run nowhere/x "$table" "$words" "$events" --out nowhere/x
 tried 'another file of two' 2 '--answers read.words is the same file as read.words, which is read' \
     run read.image read.table read.words read.events --out new --answers read.words
 tried 'an output that is two files' 2 '--out read.state is the same file as read.state, which is read' \
