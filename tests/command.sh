@@ -108,7 +108,7 @@ altered() {
 # the files that more than one subject uses: 4,500 events; the case after them; the case after its
 # eighth event, where the audit waits for North's job; East's guest alone with a value of 25, a step
 # before its job ends, where it holds a signal; East's image with a packing in place of the meter's unpacking;
-# the case's table as format 2 had it, without locks, and widened again, each block with the lock of its own
+# the case's table as format 2 and before had it, without locks, and widened again, each block with the lock of its own
 # number; and files that are to stay as they are
 : >empty
 repeated "$events" 300 many

@@ -169,13 +169,22 @@ int take_arguments(int argc, char **argv, const struct option *options, const ch
     return count >= 0 && are_apart(options, others, count) ? count : -1;
 }
 
+bool are_one_or_other(int count, int fewer, int more)
+{
+    struct line wanted = {0};
+    bool are_so = count == fewer || count == more;
+    add(&wanted, "%d", fewer);
+    if (more != fewer)
+        add(&wanted, " or %d", more);
+    if (count >= 0 && !are_so)
+        complain("there %s %d %s, and %s are wanted%s", count == 1 ? "is" : "are", count, count == 1 ? "file" : "files",
+                 wanted.text, count < fewer ? ": some are missing" : "");
+    return are_so;
+}
+
 bool are_so_many(int count, int wanted)
 {
-    if (count > wanted)
-        complain("there are %d files, and %d are wanted", count, wanted);
-    else if (count >= 0 && count < wanted)
-        complain("there are %d files, and %d are wanted: some are missing", count, wanted);
-    return count == wanted;
+    return are_one_or_other(count, wanted, wanted);
 }
 
 bool is_out_named(const char *out, const char *what)

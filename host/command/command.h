@@ -46,8 +46,9 @@ bool are_apart(const struct option *options, const char **others, int count);
 /* As take_words, where the others are names of files to be read, apart from what is written. */
 int take_arguments(int argc, char **argv, const struct option *options, const char **others, int limit);
 
-/* Whether the count of other arguments is the one wanted; a sentence if not. */
+/* Whether the count of other arguments is the one wanted, or one of two; a sentence if not. */
 bool are_so_many(int count, int wanted);
+bool are_one_or_other(int count, int fewer, int more);
 
 /* Whether a file is named for what is written; a sentence if not. */
 bool is_out_named(const char *out, const char *what);
@@ -101,6 +102,9 @@ uint32_t records_of(const struct file *image);
 
 /* The groups of the image and the table; none if the table does not have its length. */
 struct groups groups_of(const struct lent *lent);
+
+/* How many bytes a file has, of which limit + 1 were read if it is longer; 0 if it is longer and they are not known. */
+uint64_t length_of(const struct file *file, size_t limit);
 
 /* A sentence about a file of the wrong length, of which limit + 1 bytes were read if it is longer. */
 void report_length(const struct file *file, size_t limit, const char *expected);

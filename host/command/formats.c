@@ -5,7 +5,7 @@
 
 #include <string.h>
 
-/* Format 2: rows of thread and kind, and lock b guarded block b. */
+/* Format 2 and before: rows of thread and kind, and lock b guarded block b. */
 enum { ROW_SIZE_2 = 2, TABLE_SIZE_2 = 32 };
 
 /* Format 1: threads held no signals, and their records ended before the held count. */
@@ -30,8 +30,8 @@ static void lengthen_state(uint8_t *today, const uint8_t *bytes)
 }
 
 static const struct former_format former_formats[] = {
-    {TABLE, TABLE_SIZE_2, 2, widen_table},
-    {STATE, STATE_SIZE_1, 1, lengthen_state},
+    {TABLE, TABLE_SIZE_2, "format 2 or before", widen_table},
+    {STATE, STATE_SIZE_1, "format 1", lengthen_state},
 };
 enum { FORMER_FORMATS = sizeof former_formats / sizeof former_formats[0] };
 
@@ -46,7 +46,8 @@ static void explain_table(struct line *why, const uint8_t *table)
 }
 
 const struct format formats[KINDS] = {
-    [TABLE] = {"table", PLEX_TABLE_SIZE, "a table is 48 bytes", explain_table},
+    [TABLE] = {"table", PLEX_TABLE_SIZE, "a block table is 48 bytes: thread, kind and lock of 16 blocks",
+               explain_table},
     [STATE] = {"state", PLEX_STATE_SIZE, "a state is 9,633 bytes", explain_state_alone},
 };
 
@@ -58,7 +59,7 @@ enum kind find_kind(const char *name)
     return kind;
 }
 
-const struct former_format *find_former(enum kind kind, size_t size)
+const struct former_format *find_former(enum kind kind, uint64_t size)
 {
     for (size_t i = 0; i < FORMER_FORMATS; i++)
         if (former_formats[i].kind == kind && former_formats[i].size == size)
@@ -70,6 +71,6 @@ void add_former_lengths(struct line *line, enum kind kind)
 {
     for (size_t i = 0; i < FORMER_FORMATS; i++)
         if (former_formats[i].kind == kind)
-            add(line, "%sa %s of format %d is %s bytes", line->length == 0 ? "" : ", ", formats[kind].name,
-                former_formats[i].version, amount_of(former_formats[i].size).text);
+            add(line, "%sa %s of %s is %s bytes", line->length == 0 ? "" : ", ", formats[kind].name,
+                former_formats[i].versions, amount_of(former_formats[i].size).text);
 }

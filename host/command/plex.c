@@ -1,4 +1,4 @@
-/* The command plex: the library's five calls on files. */
+/* The command plex: the library's calls on files. */
 #define _POSIX_C_SOURCE 200809L
 
 #include "command.h"
@@ -46,18 +46,19 @@ static const struct part {
      "The event file may have any length, and may be a pipe: what its events say is printed as they\n"
      "come. The files named by --out and --answers are put in place only after every event was\n"
      "carried out and the summary printed, both or none.\n"},
-    {"state", state_command, "[IMAGE TABLE] STATE", "shows a state, and tells whether it is well formed",
+    {"state", state_command, "[IMAGE TABLE] STATE",
+     "shows a state; with image and table, tells whether it is well formed",
      "Shows a state: threads with their held signals, locks held, queues, trees with their pending\n"
      "signals, and the shared words that are not 0. With its image and table, says block and statement\n"
      "at the label and the return labels of each running thread, which blocks the locks guard, and\n"
      "whether the state is well formed.\n"},
-    {"waits", waits_command, "IMAGE TABLE STATE [--dot|--svg FILE]",
+    {"waits", waits_command, "IMAGE TABLE STATE [--dot] [--svg FILE]",
      "says which thread waits for which, and what opens a ring",
      "Says which thread waits for which lock and thread, and which blocks these locks guard. A ring is\n"
      "said once, with the thread to cut and the one to step then, which opens it; the status is 3.\n"
      "\n"
-     "  --dot       print the waits as a Graphviz graph instead\n"
-     "  --svg FILE  draw a picture of the waits instead\n"},
+     "  --dot       print a Graphviz graph of the waits instead\n"
+     "  --svg FILE  draw a picture of the waits into a file; without --dot, nothing is printed then\n"},
     {"upgrade", upgrade_command, "table|state FILE --out FILE", "takes over a table or a state of a former format",
      "Makes of a table of format 2 or before, which has 32 bytes, or of a state of format 1, which has\n"
      "7,929 bytes, one of today's format: block b gets lock b, and each thread gets no held signal. A\n"
@@ -107,6 +108,7 @@ static int help_command(int argc, char **argv)
     static const struct option no_options[] = {{0}};
     const char *name;
     int count = take_words(argc, argv, no_options, &name, 1);
+    is_quiet = false; /* who asks for help gets it, as by --help */
     const struct part *part = count == 1 ? find_part(name) : NULL;
     if (part != NULL)
         print_help_of(part);
@@ -120,6 +122,11 @@ static int help_command(int argc, char **argv)
 static bool is_help(const char *argument)
 {
     return strcmp(argument, "--help") == 0 || strcmp(argument, "-h") == 0;
+}
+
+static bool is_version(const char *argument)
+{
+    return strcmp(argument, "--version") == 0;
 }
 
 static bool asks_for_help(int argc, char **argv)
@@ -159,13 +166,15 @@ static int carry_out_all(int argc, char **argv)
     const struct part *part = argc < 2 ? NULL : find_part(argv[1]);
     if (part != NULL)
         return carry_out(part, argc - 2, argv + 2);
-    if (argc >= 2 && is_help(argv[1])) {
+    if (argc == 2 && is_help(argv[1])) {
         print_help();
         return DONE;
     }
-    if (argc >= 2 && strcmp(argv[1], "--version") == 0)
+    if (argc == 2 && is_version(argv[1]))
         return print_versions();
-    if (argc >= 2)
+    if (argc > 2 && (is_help(argv[1]) || is_version(argv[1])))
+        complain("%s is one argument too many", argv[2]);
+    else if (argc >= 2)
         complain("there is no part %s", argv[1]);
     fprintf(stderr, "Use: plex check|show|link|run|state|waits|upgrade|help ARGUMENTS; see plex --help\n");
     return MISUSED;

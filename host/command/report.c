@@ -63,30 +63,36 @@ void free_lent(struct lent *lent)
     free(lent->events.bytes);
 }
 
+uint64_t length_of(const struct file *file, size_t limit)
+{
+    return file->size > limit ? file->whole : file->size;
+}
+
 void report_length(const struct file *file, size_t limit, const char *expected)
 {
-    uint64_t size = file->size > limit ? file->whole : file->size;
+    uint64_t size = length_of(file, limit);
     bool is_known = file->size <= limit || size > limit;
     complain("%s: %s%s bytes; %s", file->path, is_known ? "" : "more than ", amount_of(is_known ? size : limit).text,
              expected);
 }
 
 /* A table or a state of the wrong length, which may be that of a former format. */
-static void report_kind_length(const struct file *file, enum kind kind, const char *expected)
+static void report_kind_length(const struct file *file, enum kind kind)
 {
     const struct format *format = &formats[kind];
     const struct former_format *former = find_former(kind, file->size);
     if (former == NULL)
-        report_length(file, format->size, expected);
+        report_length(file, format->size, format->length);
     else
-        complain("%s: %s bytes; a %s of format %d; %s: plex upgrade %s takes it over", file->path,
-                 amount_of(file->size).text, format->name, former->version, format->length, format->name);
+        complain("%s: %s bytes, as a %s had in %s; today's has %s: plex upgrade %s takes it over", file->path,
+                 amount_of(file->size).text, format->name, former->versions, amount_of(format->size).text,
+                 format->name);
 }
 
 bool is_state_long(const struct file *state)
 {
     if (state->size != PLEX_STATE_SIZE)
-        report_kind_length(state, STATE, formats[STATE].length);
+        report_kind_length(state, STATE);
     return state->size == PLEX_STATE_SIZE;
 }
 
@@ -163,7 +169,7 @@ static void report(const struct lent *lent, uint32_t number, uint32_t place)
         report_length(&lent->image, LONGEST_IMAGE, "an image is 84 bytes a record, 1 to 512 records");
         break;
     case PLEX_BAD_TABLE_LENGTH:
-        report_kind_length(&lent->table, TABLE, "a block table is 48 bytes: thread, kind and lock of 16 blocks");
+        report_kind_length(&lent->table, TABLE);
         break;
     case PLEX_BAD_TABLE_FIELD:
         report_row(lent, place);

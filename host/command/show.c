@@ -58,7 +58,7 @@ int show_command(int argc, char **argv)
     struct lent lent = {0};
     int count = take_arguments(argc, argv, no_options, paths, 2);
     bool has_table = count > 1;
-    if (!are_so_many(count, has_table ? 2 : 1))
+    if (!are_one_or_other(count, 1, 2))
         return MISUSED;
     bool done = lend(&lent.image, paths[0], LONGEST_IMAGE) &&
                 (!has_table || lend(&lent.table, paths[1], PLEX_TABLE_SIZE)) && show_image(&lent, has_table);

@@ -174,7 +174,7 @@ static bool are_files_of_state(int count)
 {
     if (count == 2)
         complain("there are 2 files, and 1 or 3 are wanted: STATE alone, or IMAGE TABLE STATE");
-    return count != 2 && are_so_many(count, count > 1 ? 3 : 1);
+    return count != 2 && are_one_or_other(count, 1, 3);
 }
 
 int state_command(int argc, char **argv)

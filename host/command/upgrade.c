@@ -5,16 +5,21 @@
 
 #include <stdlib.h>
 
-/* A length that no former format has. */
+/* A length that no former format of the kind has, but perhaps one of the other kind. */
 static void report_other_length(const struct file *file, enum kind kind)
 {
     struct line line = {0};
+    enum kind other = kind == TABLE ? STATE : TABLE;
+    const struct former_format *former = find_former(other, length_of(file, formats[kind].size));
     if (file->size == formats[kind].size) {
         complain("%s: %s bytes; a %s of format %d already: there is nothing to take over", file->path,
                  amount_of(file->size).text, formats[kind].name, PLEX_FORMAT_VERSION);
         return;
     }
     add_former_lengths(&line, kind);
+    if (former != NULL)
+        add(&line, "; a %s of %s has this length: plex upgrade %s takes it over", formats[other].name, former->versions,
+            formats[other].name);
     report_length(file, formats[kind].size, line.text);
 }
 
@@ -27,7 +32,7 @@ static bool take_over(const struct file *file, const struct former_format *forme
     former->take_over(today, file->bytes);
     format->explain(&why, today);
     if (why.length != 0)
-        complain("%s: no %s of format %d\n      %s", file->path, format->name, former->version, why.text);
+        complain("%s: no %s of %s\n      %s", file->path, format->name, former->versions, why.text);
     return why.length == 0;
 }
 
@@ -44,8 +49,8 @@ static bool upgrade(const struct file *file, enum kind kind, const char *out)
         return false;
     bool is_whole = complete(&output, out, today, formats[kind].size);
     if (is_whole)
-        print("%supgraded%s: %s, a %s of format %d, from %s, of format %d\n", colour_on(stdout, GREEN),
-              colour_off(stdout), out, formats[kind].name, PLEX_FORMAT_VERSION, file->path, former->version);
+        print("%supgraded%s: %s, a %s of format %d, from %s, of %s\n", colour_on(stdout, GREEN), colour_off(stdout),
+              out, formats[kind].name, PLEX_FORMAT_VERSION, file->path, former->versions);
     return put_in_place(&output, is_whole);
 }
 

@@ -286,6 +286,10 @@ static int write_case(const char *folder)
 
 int main(int argc, char **argv)
 {
+    if (argc > 2) {
+        fprintf(stderr, "demo: %s is one argument too many\nUse: demo [FOLDER]\n", argv[2]);
+        return 2;
+    }
     make_case(&field);
     if (!link_images())
         return 1;

@@ -17,6 +17,9 @@ tried 'run without its files' 1 'a: cannot be read: No such file' run a b c d
 tried 'state without its file' 1 'a: cannot be read: No such file' state a
 tried 'waits without its files' 1 'a: cannot be read: No such file' waits a b c
 tried 'run with words and a state' 2 'there are 4 files, and 3 are wanted' run a b c d --state e
+tried 'check with one file' 2 '^plex: there is 1 file, and 2 are wanted: some are missing$' check a
+tried 'show without a file' 2 '^plex: there are 0 files, and 1 or 2 are wanted: some are missing$' show
+tried 'state without a file' 2 '^plex: there are 0 files, and 1 or 3 are wanted: some are missing$' state
 tried 'run without a file for --out' 2 'wants the name of a file' run a b c d --out
 tried 'nor after =' 2 '--out wants the name of a file' run a b c d --out=
 tried 'a value for a flag' 2 '--summary has no value' run a b c d --summary=yes
@@ -34,6 +37,11 @@ tried 'help of few letters' 0 'plex waits IMAGE TABLE STATE' -h
 tried 'help of a part of few letters' 0 '^Use: plex run ' run -h
 tried 'no help after --' 1 '^plex: --help: cannot be read' show -- --help
 tried 'the version' 0 '^plex \([0-9][0-9.]*\), library \1, format [0-9][0-9]*$' --version
+tried 'the version, and more' 2 '^plex: x is one argument too many$' --version x
+tried 'help, and more' 2 '^plex: run is one argument too many$' --help run
+"$demo" . x >said 2>&1
+holds 'the demo with two folders: status' [ $? = 2 ]
+holds 'the demo with two folders' grep -q '^demo: x is one argument too many$' said
 
 # ---- help as a part: the same as --help
 "$plex" --help >helped
@@ -46,6 +54,8 @@ done
 holds 'a line on each part' [ "$(grep -A 1 '^  plex ' helped | grep -c '^      [a-z]')" = 8 ]
 tried 'the part help' 0 '^      lists an image as statements, block by block$' help
 same 'the part help' said helped
+tried 'the part help, quiet' 0 '^Use: plex PART' help --quiet
+same 'the part help, quiet' said helped
 tried 'help of no part' 2 'there is no part walk' help walk
 tried 'help of two parts' 2 'run is one argument too many' help check run
 for part in $parts help; do

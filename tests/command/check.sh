@@ -19,8 +19,8 @@ head -c 47 "$table" >short
 tried 'short table' 1 'short: 47 bytes; a block table is 48 bytes: thread, kind and lock of' check "$image" short
 head -c 49 "$image" >long
 tried 'long table' 1 'long: 49 bytes; a block table is 48' check "$image" long
-tried 'a table of format 2' 1 \
-    '^plex: former-table: 32 bytes; a table of format 2; a table is 48 bytes: plex upgrade table takes it over$' \
+tried 'a table of a former format' 1 \
+    '^plex: former-table: 32 bytes, as a table had in format 2 or before; today.s has 48: plex upgrade table takes it over$' \
     check "$image" former-table
 tried 'its number' 1 'refused with number 2, place 0' check "$image" former-table
 

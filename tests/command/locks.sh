@@ -1,7 +1,7 @@
-# One lock for several blocks, and tables of format 2.
-# former PART ARGUMENT..: it refuses the table of format 2
+# One lock for several blocks, and tables of format 2 or before.
+# former PART ARGUMENT..: it refuses the table of format 2 or before
 former() {
-    tried "$1" 1 'former-table: 32 bytes; a table of format 2; a table is 48 bytes: plex upgrade table takes' "$@" --quiet
+    tried "$1" 1 'former-table: 32 bytes, as a table had in format 2 or before; today.s has 48: plex upgrade table takes' "$@" --quiet
     holds "$1: number 2" grep -q 'refused with number 2, place 0' said
 }
 former check "$image" former-table
@@ -10,9 +10,9 @@ former run "$image" former-table "$words" "$events"
 former link "$image" "$east" former-table --out kept
 former state "$image" former-table waiting
 former waits "$image" former-table waiting
-tried 'a table of format 2, with a trace' 1 'former-table: 32 bytes; a table of format 2; a table is 48 bytes' \
+tried 'a table of a former format, with a trace' 1 'former-table: 32 bytes, as a table had in format 2 or before; today.s has 48' \
     run "$image" former-table "$events" --state waiting
-same 'a table of format 2: the file of --out' kept old
+same 'a table of a former format: the file of --out' kept old
 
 # ---- widened, it is the same machine as before: a wait names the lock that has the block's number
 tried 'a wait without groups' 0 'waiting for lock 1 of block 1; at label 9, locks 4,' \

@@ -20,7 +20,7 @@ refused 'long words' 'long: 513 bytes; initial words' "$image" "$table" long "$e
 refused 'short state' 'short-state: 9,632 bytes; a state is 9,633' \
     "$image" "$table" "$events" --state short-state
 head -c 7929 left >former-state
-refused 'a state of the formats before' 'former-state: 7,929 bytes; a state of format 1; a state is 9,633 bytes' \
+refused 'a state of the formats before' 'former-state: 7,929 bytes, as a state had in format 1; today.s has 9,633: plex' \
     "$image" "$table" "$events" --state former-state
 refused 'long state' 'long-state: 9,681 bytes; a state is 9,633 bytes' "$image" "$table" "$events" \
     --state long-state

@@ -18,7 +18,7 @@ holds 'the length of a state of format 1' [ "$(wc -c <former-apart)" = 7929 ]
 # former_state PART ARGUMENT..
 former_state() {
     tried "$* of a former state" 1 \
-        '^plex: former-apart: 7,929 bytes; a state of format 1; a state is 9,633 bytes: plex upgrade state takes it over$' "$@"
+        '^plex: former-apart: 7,929 bytes, as a state had in format 1; today.s has 9,633: plex upgrade state takes it over$' "$@"
 }
 former_state state former-apart
 former_state state "$image" lone-table former-apart
@@ -29,7 +29,7 @@ same 'run of a former state: the file of --out' kept old
 
 # ---- taken over
 rm -f widened lengthened
-tried 'a table' 0 '^upgraded: widened, a table of format 3, from former-table, of format 2$' \
+tried 'a table' 0 '^upgraded: widened, a table of format 3, from former-table, of format 2 or before$' \
     upgrade table former-table --out widened
 same 'a table' widened lone-table
 tried 'a state' 0 '^upgraded: lengthened, a state of format 3, from former-apart, of format 1$' \
@@ -52,14 +52,18 @@ not_taken() {
 look_around
 not_taken 'a table of today' '48 bytes; a table of format 3 already: there is nothing to take over$' table lone-table
 not_taken 'a state of today' '9,633 bytes; a state of format 3 already: there is nothing to take over$' state apart
-not_taken 'no bytes' '0 bytes; a table of format 2 is 32 bytes$' table empty
-not_taken 'a table for a state' '32 bytes; a state of format 1 is 7,929 bytes$' state former-table
-not_taken 'a state for a table' '7,929 bytes; a table of format 2 is 32 bytes$' table former-apart
+not_taken 'no bytes' '0 bytes; a table of format 2 or before is 32 bytes$' table empty
+not_taken 'a table for a state' \
+    '32 bytes; a state of format 1 is 7,929 bytes; a table of format 2 or before has this length: plex upgrade table takes it' \
+    state former-table
+not_taken 'a state for a table' \
+    '7,929 bytes; a table of format 2 or before is 32 bytes; a state of format 1 has this length: plex upgrade state takes it' \
+    table former-apart
 not_taken 'a file too long' '9,681 bytes; a state of format 1 is 7,929 bytes$' state long-state
 nothing_left 'files of other lengths'
 for size in 31 33 47; do
     head -c "$size" lone-table >other
-    not_taken "a table of $size bytes" "$size bytes; a table of format 2 is 32 bytes$" table other
+    not_taken "a table of $size bytes" "$size bytes; a table of format 2 or before is 32 bytes$" table other
 done
 for size in 7,928 7,930 9,632; do
     head -c "$(echo "$size" | tr -d ,)" apart >other
@@ -76,10 +80,10 @@ not_allowed() {
     not_taken "a $kind with $*" "no $kind of format $format$" "$kind" bad
     holds "a $kind with $*: no '$why'" grep -qe "^      $why" said
 }
-not_allowed table former-table 2 'block 5: its thread is 8, and threads are 0 to 7$' 10:10
-not_allowed table former-table 2 'block 6: its kind is 2, and kinds are 0 (FD) and 1 (CMX)$' 13:2
-not_allowed table former-table 2 'block 0: its thread is 255' 0:377 31:2
-not_allowed table former-table 2 'block 15: its kind is 2' 31:2
+not_allowed table former-table '2 or before' 'block 5: its thread is 8, and threads are 0 to 7$' 10:10
+not_allowed table former-table '2 or before' 'block 6: its kind is 2, and kinds are 0 (FD) and 1 (CMX)$' 13:2
+not_allowed table former-table '2 or before' 'block 0: its thread is 255' 0:377 31:2
+not_allowed table former-table '2 or before' 'block 15: its kind is 2' 31:2
 not_allowed state former-apart 1 'thread 2 is idle, and its other fields are not all 0$' 664:1
 not_allowed state former-apart 1 'thread 7 is idle, and its other fields are not all 0$' 1111:1
 not_allowed state former-apart 1 'thread 0 has 9 return labels, and a thread has at most 8$' 516:11
