@@ -42,7 +42,7 @@ SOURCES_one_by_one = examples/one_by_one.c $(COMMON)
 SOURCES_guests = examples/guests.c $(COMMON)
 SOURCES_scheduler = $(wildcard examples/scheduler/*.c) host/common/build.c
 FLAGS_bench = -O3
-FLAGS_header = -Wpedantic -Wc++-compat
+FLAGS_header = -Wpedantic -Wc++-compat -Wsign-conversion
 FLAGS_stack = -Wl,-z,now
 FLAGS_faulting = -g -O0
 FLAGS_plex_other = -Dplex_version=other_version
@@ -57,7 +57,7 @@ build/%-race: $$(SOURCES_$$*) $(HEADERS) $(LIBRARY) | build
 	$(COMPILE) -g -fsanitize=thread -o $@ $(SOURCES_$*) $(LIBRARY) $(LDLIBS)
 
 build/header++: $(SOURCES_header) $(HEADERS) $(LIBRARY) | build
-	$(CXX) $(CXXFLAGS) -Wpedantic -Wold-style-cast -Iinclude -o $@ -x c++ $(SOURCES_header) -x none $(LIBRARY)
+	$(CXX) $(CXXFLAGS) -Wpedantic -Wold-style-cast -Wsign-conversion -Iinclude -o $@ -x c++ $(SOURCES_header) -x none $(LIBRARY)
 
 build/%: $$(SOURCES_$$*) $(HEADERS) $(LIBRARY) | build
 	$(COMPILE) -o $@ $(SOURCES_$*) $(LIBRARY) $(LDLIBS)

@@ -207,8 +207,13 @@ enum {
     PLEX_BAD_OUTPUT_LENGTH = 15  /* the output is not as long as both images together */
 };
 
-#define PLEX_NUMBER(result) (((result)&0xFFFFFFFFu) >> 16)
-#define PLEX_PLACE(result) ((result)&0xFFFFu)
+#ifdef __cplusplus
+#define PLEX_NUMBER(result) (static_cast<uint32_t>(result) >> 16)
+#define PLEX_PLACE(result) (static_cast<uint32_t>(result) & 0xFFFFu)
+#else
+#define PLEX_NUMBER(result) ((uint32_t)(result) >> 16)
+#define PLEX_PLACE(result) ((uint32_t)(result)&0xFFFFu)
+#endif
 
 /* ---- The calls. */
 

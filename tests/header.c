@@ -60,7 +60,7 @@ static void carry_out(void)
     expect("met", met[0] == 3 && met[1] == PLEX_UNMET && met[PLEX_MET_SIZE - 1] == PLEX_UNMET);
 }
 
-void run_afresh(const char *what, const uint8_t *records, size_t size, int count, uint8_t code, uint8_t detail)
+void run_afresh(const char *what, const uint8_t *records, size_t size, size_t count, uint8_t code, uint8_t detail)
 {
     const uint8_t *last = answers + PLEX_ANSWER_SIZE * (count - 1);
     expect(what, plex_fresh(records, size, table, sizeof table, words, sizeof words, state, sizeof state) == 0 &&

@@ -16,7 +16,7 @@ void put_operand(uint8_t *record, int index, uint8_t kind, uint16_t value);
 
 /* One Run of an image from a fresh machine with the words: what it answers to the last of so many events, an arrival at
  * label 0 and steps of thread 0. */
-void run_afresh(const char *what, const uint8_t *records, size_t size, int count, uint8_t code, uint8_t detail);
+void run_afresh(const char *what, const uint8_t *records, size_t size, size_t count, uint8_t code, uint8_t detail);
 
 /* Subtraction, division and packed decimal. */
 void calculate(void);

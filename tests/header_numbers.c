@@ -25,10 +25,11 @@ HOLDS(PLEX_TREE_SIGNALS + PLEX_PENDING_MAX * PLEX_SIGNAL_SIZE == PLEX_TREE_SIZE)
 HOLDS(PLEX_SIGNAL_VALUES + 2 * PLEX_REGISTERS == PLEX_SIGNAL_SIZE);
 HOLDS(PLEX_EVENT_SIGNAL + PLEX_SIGNAL_SIZE == PLEX_EVENT_SIZE);
 
-/* A return value taken apart, whatever the type that a host keeps it in. */
+/* A return value taken apart, whatever the type that a host keeps it in, into numbers of 32 bits. */
 HOLDS(PLEX_NUMBER(65536u * PLEX_BAD_RECORD + 511) == PLEX_BAD_RECORD && PLEX_NUMBER(65535) == 0 &&
       PLEX_NUMBER(-1) == 65535);
 HOLDS(PLEX_PLACE(65536u * PLEX_BAD_RECORD + 511) == 511 && PLEX_PLACE(-1) == 65535);
+HOLDS(sizeof PLEX_NUMBER(UINT64_MAX) == 4 && sizeof PLEX_PLACE(UINT64_MAX) == 4 && PLEX_NUMBER(UINT64_MAX) == 65535);
 
 /* The library's version is a number that the preprocessor compares. */
 #if PLEX_VERSION_NUMBER < 9 * 256
