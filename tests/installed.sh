@@ -34,10 +34,11 @@ for call in $calls; do
     done
 done
 
-# the commands of the guide for hosts, in a folder that has the installed examples
+# the commands of the guide for hosts, in a folder that has a copy of the installed examples
 rm -rf build/examples
 mkdir build/examples
-ln -s "$papers/examples" build/examples/
+cp -R "$papers/examples" build/examples/
+grep -q 'Copy `examples` to a folder of yours' "$papers/HOSTS.md" || { echo 'installed: HOSTS.md builds where it stands'; exit 1; }
 sed -n 's/^    \(cc .*\)/\1/p' "$papers/HOSTS.md" >build/examples/commands
 (cd build/examples && sh -e ./commands && ./guests >guests.txt && ./one_by_one >one_by_one.txt && [ -x scheduler ]) ||
     { echo 'installed: the examples are not built as HOSTS.md says'; exit 1; }
