@@ -111,3 +111,9 @@ tried 'a picture that cannot be written' 1 '/dev/full: cannot be written: No spa
 "$plex" waits "$image" "$table" waiting --dot --svg kept >/dev/full 2>said
 holds 'a graph to a full standard output: status' [ $? = 1 ]
 same 'a graph to a full standard output: the picture' kept old
+
+# ---- a graph and a picture by one command, as help says
+tried 'help of both' 0 '^Use: plex waits IMAGE TABLE STATE \[--dot\] \[--svg FILE\]$' help waits
+tried 'both' 0 '^digraph waits {$' waits "$image" "$table" waiting --dot --svg picture-2
+drawn 'a picture alone' 0 "$image" "$table" waiting
+same 'the picture of both' picture-2 picture
