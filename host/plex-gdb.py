@@ -10,18 +10,18 @@ import gdb
 from gdb.unwinder import Unwinder, register_unwinder
 
 FUNCTIONS = {
-    "image_check::record_fault",
-    "image_check::table_fault",
+    "check_image::record_fault",
+    "check_image::table_fault",
+    "check_signals::signals_good",
+    "check_state::faults::machine_fault",
     "plex_check",
     "plex_fresh",
     "plex_link",
     "plex_run",
     "plex_version",
     "plex_walk",
-    "signal_check::signals_good",
-    "state::locks::other_holder",
-    "state_check::faults::machine_fault",
-    "walk::walk_on",
+    "state_shared::locks::other_holder",
+    "walk_threads::walk_on",
 }
 
 # the registers that a call leaves as they were

@@ -18,7 +18,7 @@ if [ -n "$moving" ]; then
 fi
 # a run's bytes are compared with the kinds, and with their limits, all at once; a loop byte by byte has one such instruction at most, of a
 # test of zeros
-vectors=$(echo "$code" | awk '/^[0-9a-f]+ <.*>:$/ { is_check = $2 == "<image_check::record_fault>:" }
+vectors=$(echo "$code" | awk '/^[0-9a-f]+ <.*>:$/ { is_check = $2 == "<check_image::record_fault>:" }
     is_check && /%xmm/ && $2 ~ /^(pcmpeqb|psubusb|pminub|pmaxub)$/' | wc -l)
 if [ "$vectors" -lt 8 ]; then
     echo "compiled: the check of records has $vectors instructions that compare 16 bytes at once: its loop over a run is no vector code"

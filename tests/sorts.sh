@@ -10,8 +10,8 @@ cp -r "$root/crates/rules" "$copy/rules"
 rm -rf "$copy/rules/must-fail" "$copy/rules/proofs"
 printf 'pub mod tried;\n' >>"$copy/rules/src/lib.rt"
 # the crate that it stands on
-below=$root/target/rlib/decimals.rlib
-[ -d "$below" ] || (cd "$root" && rt check decimals >/dev/null) || exit 1
+below=$root/target/rlib/rules_decimal.rlib
+[ -d "$below" ] || (cd "$root" && rt check rules_decimal >/dev/null) || exit 1
 
 # made NAME: an expression of that sort
 made() {
@@ -27,7 +27,7 @@ made() {
 # tried BODY: what the compiler says of a function with this body
 tried() {
     printf 'use crate::sorts;\n\npub fn tried() {\n    %s\n}\n' "$1" >"$copy/rules/src/tried.rt"
-    rt check "$copy/rules" --extern decimals="$below" 2>&1 | head -n 3
+    rt check "$copy/rules" --extern rules_decimal="$below" 2>&1 | head -n 3
 }
 
 passed=0

@@ -22,17 +22,17 @@ use Rattle.rules.specs.Calls.{stateLengthFault, stateFault, eventsLengthFault, 
 use Rattle.rules.specs.Calls.{threadFault, metLengthFault, freshReturn, freshState, runReturn, runState, runAnswers, walkFault, walkReturn}
 use Rattle.rules.specs.Calls.{walkMet, outputLengthFault, linkReturn, linkOut}
 use Rattle.rules.specs.Link.{linked}
-use Rattle.laws.specs.Logic.{and-both}
-use Rattle.laws.specs.Faults.{first-of-zero, refusal-zero, fault-free, checked-of}
-use Rattle.laws.specs.Passed.{both-passed}
-use Rattle.encoding.specs.Sized.{Sized}
-use Rattle.encoding.specs.Numbers.{AreBytes}
-use Rattle.encoding.specs.Machines.{machine-forth, machine-sized}
-use Rattle.encoding.specs.Encoded.{encodes}
-use Rattle.soundness.specs.Sound.{sound-of}
-use Rattle.step_ready.specs.Ready.{Ready}
-use Rattle.engine.specs.Runs.{Events}
-use Rattle.linking.specs.Linkable.{Linkable, linkable-of}
+use Rattle.lemmas_rules.specs.Logic.{and-both}
+use Rattle.lemmas_rules.specs.Faults.{first-of-zero, refusal-zero, fault-free, checked-of}
+use Rattle.lemmas_rules.specs.Passed.{both-passed}
+use Rattle.lemmas_encoding.specs.Sized.{Sized}
+use Rattle.lemmas_encoding.specs.Numbers.{AreBytes}
+use Rattle.lemmas_encoding.specs.Machines.{machine-forth, machine-sized}
+use Rattle.lemmas_encoding.specs.Encoded.{encodes}
+use Rattle.lemmas_invariant.specs.Sound.{sound-of}
+use Rattle.step_contract.specs.Ready.{Ready}
+use Rattle.run_events.specs.Runs.{Events}
+use Rattle.image_link.specs.Linkable.{Linkable, linkable-of}
 
 -- the state of a call that is not refused is one that an event can be carried out on
 machine-lent : (image table state more : List ℕ) → AreBytes state

@@ -1,15 +1,15 @@
 // The calls that a host makes, on byte slices and numbers. Each returns one number: but for the version 0, or 65,536 × number + place of
 // the first refusal.
-use engine::run;
-use event_check::faults::run_fault;
-use fresh_state::fresh;
-use image_check::image_fault;
-use link_check::link_fault;
-use linking::link;
+use check_events::faults::run_fault;
+use check_image::image_fault;
+use check_link::link_fault;
+use check_state::faults::fresh_fault;
+use check_state::faults::walk_fault;
+use image_link::link;
 use rules::sorts::thread_of;
-use state_check::faults::fresh_fault;
-use state_check::faults::walk_fault;
-use walk::walk;
+use run_events::run;
+use state_fresh::fresh;
+use walk_threads::walk;
 ghost use mathlib.Core.Path.{_≡_};
 ghost use Rattle.rules.specs.Calls.{checkReturn, freshReturn, freshState, runReturn, runState, runAnswers, walkReturn, walkMet};
 ghost use Rattle.rules.specs.Calls.{linkReturn, linkOut};

@@ -9,8 +9,8 @@ use Prim.Native.Nat.{ℕ, _+_, _*_, _≤_, _<_}
 use native.Mathlib.Omega.{arith}
 use lib.ListN.{length, getD}
 use borrow.Author.Tests.{lt-ltb, le-ltb, le-leb, eq-eqb}
-use Rattle.decimals.specs.WrittenOut as written
-use Rattle.decimals.specs.WrittenOut.{Below, all-decimal, one-above}
+use Rattle.rules_decimal.specs.WrittenOut as written
+use Rattle.rules_decimal.specs.WrittenOut.{Below, all-decimal, one-above}
 use Rattle.rules.specs.Image.{recordAt, opcode, operator, blockField, entry, operands, kind}
 use Rattle.rules.specs.Statements.{shape, optional, assignmentBy, assignmentOf, statementOf}
 use Rattle.rules.specs.Check.{assignOk, headOk}

@@ -7,7 +7,7 @@ use mathlib.Core.List.{List, [], _∷_, _++_, map}
 use Prim.Native.Nat.{ℕ, _+_, _-_, _*_, _/_, _%_}
 use lib.ListN.{length, getD, set, drop}
 use lib.Dec.{eqb, leb, ltb}
-use Rattle.decimals.specs.Packed.{pack, packed, unpack, sum}
+use Rattle.rules_decimal.specs.Packed.{pack, packed, unpack, sum}
 use Rattle.rules.specs.Sizes.{returnCount, heldCount, pendingCount}
 use Rattle.rules.specs.Codes.{absentRegisterCode, returnsFullCode, pendingFullCode, heldFullCode, belowZeroCode, zeroDivisorCode}
 use Rattle.rules.specs.Codes.{notDecimalCode}

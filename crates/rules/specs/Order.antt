@@ -1,4 +1,5 @@
--- "The one-by-one reading": the second order of an event list, made from the events and their answers, and from nothing else.
+-- "The one-by-one reading": the second order of an event list, made from the events and their answers, and from nothing else. In the
+-- field's terms it is a serial order of the jobs, and demand 3 is serializability: the serial order leaves the same state and answers.
 use mathlib.Core.List.{List, [], _∷_, _++_, flatten}
 use Prim.Native.Nat.{ℕ, zero, suc}
 use lib.ListN.{getD, set, replicate, take, drop}

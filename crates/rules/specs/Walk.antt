@@ -1,4 +1,4 @@
--- "The walk along waits".
+-- "The walk along waits": a way through the wait-for graph, in which a ring is a deadlock.
 use mathlib.Core.Bool.{Bool, true, false, cond}
 use mathlib.Core.Logic.{ite, _⊎_, inl, inr}
 use mathlib.Core.Option.{Option, none, some, Option·elim, Option·map}

@@ -1,9 +1,0 @@
-use borrow.Author.Needs.{needs}
-use Rattle.operand_check.proofs.runs.bound_of.Statement.{statement}
-use Rattle.operand_check.proofs.runs.bound_of.Tie as tie
-
-returns : tie.Need-returns
-returns c = rw (c .before .most-of .ensures, c .less-of .ensures)
-
-pub bound-of-spec : {M : Type 1} → statement M
-bound-of-spec = tie.close (tie.spec (λ c κs. search needs) (λ c κs. search needs) returns)
