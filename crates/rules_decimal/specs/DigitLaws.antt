@@ -45,7 +45,7 @@ module _ (b : ℕ) where
   pub length-sums : (c : ℕ) (ds es : List ℕ) → length ds ≡ length es → length (sums b c ds es) ≡ length ds
   length-sums c [] es h = refl
   length-sums c (d ∷ ds) [] h = absurd (omega arith)
-  length-sums c (d ∷ ds) (e ∷ es) h = ap suc (length-sums _ ds es (omega arith))
+  length-sums c (d ∷ ds) (e ∷ es) h = ap suc (length-sums ((d + e + c) / b) ds es (omega arith))
 
   module _ (positive : 0 < b) where
     pub digits-below : (n x : ℕ) → below b (digits b n x) ≡ true
@@ -62,7 +62,7 @@ module _ (b : ℕ) where
     sums-below c [] es = refl
     sums-below c (d ∷ ds) [] = refl
     sums-below c (d ∷ ds) (e ∷ es) =
-        rw (lt-ltb ((d + e + c) % b) b (mod-lt (d + e + c) positive)) (sums-below _ ds es)
+        rw (lt-ltb ((d + e + c) % b) b (mod-lt (d + e + c) positive)) (sums-below ((d + e + c) / b) ds es)
 
     -- digits added with a carry stand for the sum of the numbers and the carry, modulo b ^ n
     pub number-of-sums : (c : ℕ) (ds es : List ℕ) → length ds ≡ length es

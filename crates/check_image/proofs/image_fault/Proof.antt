@@ -27,8 +27,8 @@ returns-3 c =
     (c.first_of.ensures ∙ sym (passed _ _ c.before.before.before.before.before.if1.false
     ∙ passed _ _ c.before.before.before.if2.false))
 
-pub image-fault-spec : {M : Type 1} → statement M
-image-fault-spec =
+pub image_fault_spec : {M : Type 1} → statement M
+image_fault_spec =
     tie.close
     (tie.spec
     (λ c κs. search rules)

@@ -7,5 +7,5 @@ returns : tie.Need-returns
 unfolding image_length_fault
 returns c = simp (c.refuse.ensures, c.before.before.requires)
 
-pub image-length-fault-spec : {M : Type 1} → statement M
-image-length-fault-spec = tie.close (tie.spec (λ c κs. search rules) returns)
+pub image_length_fault_spec : {M : Type 1} → statement M
+image_length_fault_spec = tie.close (tie.spec (λ c κs. search rules) returns)

@@ -16,5 +16,5 @@ returns : tie.Need-returns
 unfolding record_fault
 returns c = simp (c.refuse.ensures, c.before.first-bad-record.ensures, c.before.before.before.requires)
 
-pub record-fault-spec : {M : Type 1} → statement M
-record-fault-spec = tie.close (tie.spec (λ c κs. search rules) refuse-requires returns)
+pub record_fault_spec : {M : Type 1} → statement M
+record_fault_spec = tie.close (tie.spec (λ c κs. search rules) refuse-requires returns)

@@ -13,5 +13,5 @@ returns : tie.Need-returns
 unfolding table_fault
 returns c = simp (c.refuse.ensures, c.before.first-bad-row.ensures)
 
-pub row-fault-spec : {M : Type 1} → statement M
-row-fault-spec = tie.close (tie.spec (λ c κs. search rules) refuse-requires returns)
+pub row_fault_spec : {M : Type 1} → statement M
+row_fault_spec = tie.close (tie.spec (λ c κs. search rules) refuse-requires returns)

@@ -7,5 +7,5 @@ returns : tie.Need-returns
 unfolding table_length_fault
 returns c = simp c.refuse.ensures
 
-pub table-length-fault-spec : {M : Type 1} → statement M
-table-length-fault-spec = tie.close (tie.spec (λ c κs. search rules) returns)
+pub table_length_fault_spec : {M : Type 1} → statement M
+table_length_fault_spec = tie.close (tie.spec (λ c κs. search rules) returns)

@@ -53,8 +53,8 @@ returns c =
     let s = c.before.before.before in
     all_among s.args.image.now c.before.loop.l c.before.loop.set (omega arith) c.before.loop.invariant.1
 
-pub block-set-spec : {M : Type 1} → statement M
-block-set-spec =
+pub block_set_spec : {M : Type 1} → statement M
+block_set_spec =
     tie.close
     (tie.spec
     invariant-loop

@@ -43,8 +43,8 @@ returns-3 c =
     ∙ sym (nested (table_fault a.table.now) (record_faults a.first.now a.second.now))
     ∙ rw (← c.before.before.table-fault.ensures, ← c.before.record-faults.ensures) (sym c.first-of2.ensures))
 
-pub images-fault-spec : {M : Type 1} → statement M
-images-fault-spec =
+pub images_fault_spec : {M : Type 1} → statement M
+images_fault_spec =
     tie.close
     (tie.spec
     (λ c κs. search rules)

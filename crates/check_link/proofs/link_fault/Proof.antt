@@ -41,8 +41,8 @@ returns-2 c =
     c.own-fault.ensures ∙ sym (after xs (link_faults a.first.now a.second.now a.out.now)
     (sym c.before.before.images-fault.ensures ∙ c.before.if1.false))
 
-pub link-fault-spec : {M : Type 1} → statement M
-link-fault-spec =
+pub link_fault_spec : {M : Type 1} → statement M
+link_fault_spec =
     tie.close
     (tie.spec
     (λ c κs. search rules)

@@ -23,8 +23,8 @@ returns c =
     rw (← c.before.before.before.before.shared-block-fault.ensures, ← many, ← exact)
     (rw c.before.first_of.ensures at c.first-of2.ensures ∙ nested _ _)
 
-pub own-fault-spec : {M : Type 1} → statement M
-own-fault-spec =
+pub own_fault_spec : {M : Type 1} → statement M
+own_fault_spec =
     tie.close
     (tie.spec
     (λ c κs. search rules)

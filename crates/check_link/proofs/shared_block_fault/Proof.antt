@@ -12,6 +12,6 @@ returns c =
     let other = c.before.block-set2 in
     rw (c.refuse.ensures, shared s.args.first.now s.args.second.now _ _ s.requires.1 one.ensures other.ensures)
 
-pub shared-block-fault-spec : {M : Type 1} → statement M
-shared-block-fault-spec =
+pub shared_block_fault_spec : {M : Type 1} → statement M
+shared_block_fault_spec =
     tie.close (tie.spec (λ c κs. search rules) (λ c κs. search rules) (λ c κs. search rules) returns)

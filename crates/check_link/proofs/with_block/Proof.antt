@@ -7,5 +7,5 @@ use Rattle.check_link.proofs.with_block.Tie as tie
 returns : tie.Need-returns
 returns c = rw (c.block-number.ensures, one-mul, mod-eq_of_lt (pow-lt c.before.requires))
 
-pub with-block-spec : {M : Type 1} → statement M
-with-block-spec = tie.close (tie.spec (λ c κs. search rules) (λ c. search rules) (λ c. search rules) returns)
+pub with_block_spec : {M : Type 1} → statement M
+with_block_spec = tie.close (tie.spec (λ c κs. search rules) (λ c. search rules) (λ c. search rules) returns)

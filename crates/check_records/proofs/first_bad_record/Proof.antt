@@ -61,8 +61,8 @@ returns-2 c =
     let s = c.before.before.before in
     none (record_ok s.args.image.now) s.args.n c.before.loop.l c.before.loop.invariant c.loop-test.false
 
-pub first-bad-record-spec : {M : Type 1} → statement M
-first-bad-record-spec =
+pub first_bad_record_spec : {M : Type 1} → statement M
+first_bad_record_spec =
     tie.close
     (tie.spec
     invariant-loop

@@ -9,5 +9,5 @@ returns c = sym (found _ _ c.if1.true)
 returns-2 : tie.Need-returns-2
 returns-2 c = sym (passed _ _ c.if1.false ∙ last _)
 
-pub first-of-spec : {M : Type 1} → statement M
-first-of-spec = tie.close (tie.spec returns returns-2)
+pub first_of_spec : {M : Type 1} → statement M
+first_of_spec = tie.close (tie.spec returns returns-2)

@@ -36,8 +36,8 @@ returns c =
     let l = c.before.loop in
     tested-all true (absent_zero (drop a.at a.s.now)) register_count l.r l.ok l.invariant c.loop-test.false
 
-pub absent-zero-spec : {M : Type 1} → statement M
-absent-zero-spec =
+pub absent_zero_spec : {M : Type 1} → statement M
+absent_zero_spec =
     tie.close
     (tie.spec
     invariant-loop

@@ -17,8 +17,8 @@ returns-2 c =
     simp (c.absent-zero.ensures, c.before.get32.ensures, c.before.before.all-zero.ensures)
     (sym (running-few a.s.now a.at n.result n.ensures.0 c.before.before.before.if1.false))
 
-pub running-tidy-spec : {M : Type 1} → statement M
-running-tidy-spec =
+pub running_tidy_spec : {M : Type 1} → statement M
+running_tidy_spec =
     tie.close
     (tie.spec
     (λ c. search rules)

@@ -34,8 +34,8 @@ returns-2 c =
     simp (c.signal-tidy.ensures, c.before.entry-field.ensures, here d)
     (sym (signal-at-label a.image.now a.external a.s.now a.at))
 
-pub signal-good-spec : {M : Type 1} → statement M
-signal-good-spec =
+pub signal_good_spec : {M : Type 1} → statement M
+signal_good_spec =
     tie.close
     (tie.spec
     (λ c κs. search rules)

@@ -16,8 +16,8 @@ returns-2 c =
     let n = c.before.before.get8 in
     c.all-zero.ensures ∙ sym (signal-few a.s.now a.at n.result n.ensures.0 c.before.if1.false)
 
-pub signal-tidy-spec : {M : Type 1} → statement M
-signal-tidy-spec =
+pub signal_tidy_spec : {M : Type 1} → statement M
+signal_tidy_spec =
     tie.close
     (tie.spec
     (λ c. search rules)

@@ -42,8 +42,8 @@ returns-2 c =
     ∙ rw c.before.before.all-zero.ensures (sym (signals-few a.image.now a.external a.s.now a.at a.most k.result
     k.ensures.0 c.before.before.before.if1.false))
 
-pub signals-good-spec : {M : Type 1} → statement M
-signals-good-spec =
+pub signals_good_spec : {M : Type 1} → statement M
+signals_good_spec =
     tie.close
     (tie.spec
     invariant-loop

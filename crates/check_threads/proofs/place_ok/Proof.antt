@@ -57,8 +57,8 @@ returns-2 c =
     )
     (sym (place_is a.image.now a.table.now a.t.0 a.locks a.l.0 (below d)))
 
-pub place-ok-spec : {M : Type 1} → statement M
-place-ok-spec =
+pub place_ok_spec : {M : Type 1} → statement M
+place_ok_spec =
     tie.close
     (tie.spec
     (λ c κs. search rules)

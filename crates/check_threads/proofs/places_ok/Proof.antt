@@ -60,8 +60,8 @@ returns c =
       c.before.before.before.before.before.get8.ensures.0,
     ) (sym (places-at a.image.now a.table.now a.t.0 a.s.now a.at))
 
-pub places-ok-spec : {M : Type 1} → statement M
-places-ok-spec =
+pub places_ok_spec : {M : Type 1} → statement M
+places_ok_spec =
     tie.close
     (tie.spec
     invariant-loop

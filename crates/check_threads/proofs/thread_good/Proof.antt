@@ -44,8 +44,8 @@ returns-4 c =
     (d.before.before.before.before.before.before.before.get16.ensures ∙ e)) (sym d.before.before.running-tidy.ensures
     ∙ not-false _ d.before.if3.false)))
 
-pub thread-good-spec : {M : Type 1} → statement M
-thread-good-spec =
+pub thread_good_spec : {M : Type 1} → statement M
+thread_good_spec =
     tie.close
     (tie.spec
     (λ c κs. search rules)

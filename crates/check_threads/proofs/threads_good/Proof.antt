@@ -39,8 +39,8 @@ returns c =
     tested-all true (thread_at_good a.image.now a.table.now a.state.now) thread_count l.t l.ok l.invariant
     c.loop-test.false
 
-pub threads-good-spec : {M : Type 1} → statement M
-threads-good-spec =
+pub threads_good_spec : {M : Type 1} → statement M
+threads_good_spec =
     tie.close
     (tie.spec
     invariant-loop

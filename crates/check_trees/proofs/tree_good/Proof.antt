@@ -9,5 +9,5 @@ returns c =
     let a = c.before.before.before.before.args in
     simp (c.signals-good.ensures, c.before.get8.ensures.0) (sym (tree-at a.image.now a.s.now a.at))
 
-pub tree-good-spec : {M : Type 1} → statement M
-tree-good-spec = tie.close (tie.spec (λ c κs. search rules) (λ c. search rules) (λ c κs. search rules) returns)
+pub tree_good_spec : {M : Type 1} → statement M
+tree_good_spec = tie.close (tie.spec (λ c κs. search rules) (λ c. search rules) (λ c κs. search rules) returns)

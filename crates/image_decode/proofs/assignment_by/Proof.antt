@@ -28,8 +28,8 @@ returns c = simp (
   c.before.before.before.before.destinations-of.ensures.1,
 )
 
-pub assignment-by-spec : {M : Type 1} → statement M
-assignment-by-spec =
+pub assignment_by_spec : {M : Type 1} → statement M
+assignment_by_spec =
     tie.close
     (tie.spec
     (λ c κs. search rules)

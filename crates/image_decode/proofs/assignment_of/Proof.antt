@@ -14,6 +14,6 @@ returns-2 c =
     let s = c.before.before.before.before in
     c.assignment-by2.ensures ∙ shaped s.args.o s.args.r.now c.before.before.shape_of.ensures c.before.if1.false
 
-pub assignment-of-spec : {M : Type 1} → statement M
-assignment-of-spec =
+pub assignment_of_spec : {M : Type 1} → statement M
+assignment_of_spec =
     tie.close (tie.spec (λ c κs. search rules) (λ c κs. search rules) (λ c κs. search rules) returns returns-2)

@@ -7,8 +7,8 @@ returns : tie.Need-returns
 unfolding condition_of
 returns c = simp (c.operand-at2.ensures, c.before.Operand-at.ensures, c.before.before.relation-of.ensures)
 
-pub condition-of-spec : {M : Type 1} → statement M
-condition-of-spec =
+pub condition_of_spec : {M : Type 1} → statement M
+condition_of_spec =
     tie.close
     (tie.spec
     (λ c. search rules)

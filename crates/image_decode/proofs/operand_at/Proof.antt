@@ -7,8 +7,8 @@ returns : tie.Need-returns
 unfolding operand_at
 returns c = simp (c.operand-of.ensures, c.before.value-at.ensures, c.before.before.kind_at.ensures)
 
-pub operand-at-spec : {M : Type 1} → statement M
-operand-at-spec =
+pub operand_at_spec : {M : Type 1} → statement M
+operand_at_spec =
     tie.close
     (tie.spec
     (λ c κs. search rules)

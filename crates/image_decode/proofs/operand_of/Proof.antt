@@ -15,5 +15,5 @@ returns-3 : tie.Need-returns-3
 unfolding operand_of
 returns-3 c = simp (ne_eqb _ 1 c.match.rest.0.1, ne_eqb _ 2 c.match.rest.1)
 
-pub operand-of-spec : {M : Type 1} → statement M
-operand-of-spec = tie.close (tie.spec returns returns-2 returns-3)
+pub operand_of_spec : {M : Type 1} → statement M
+operand_of_spec = tie.close (tie.spec returns returns-2 returns-3)

@@ -54,8 +54,8 @@ returns-10 c =
       ne_eqb _ 15 no.1,
     )
 
-pub operation-at-spec : {M : Type 1} → statement M
-operation-at-spec =
+pub operation_at_spec : {M : Type 1} → statement M
+operation_at_spec =
     tie.close
     (tie.spec
     (λ c κs. search rules)

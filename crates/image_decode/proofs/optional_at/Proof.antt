@@ -11,8 +11,8 @@ returns-2 : tie.Need-returns-2
 unfolding optional
 returns-2 c = rw c.if1.false
 
-pub optional-at-spec : {M : Type 1} → statement M
-optional-at-spec =
+pub optional_at_spec : {M : Type 1} → statement M
+optional_at_spec =
     tie.close
     (tie.spec
     (λ c κs. search rules)

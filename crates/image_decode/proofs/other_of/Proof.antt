@@ -49,8 +49,8 @@ returns-9 c =
       ),
     ) (no.1, tt))
 
-pub other-of-spec : {M : Type 1} → statement M
-other-of-spec =
+pub other_of_spec : {M : Type 1} → statement M
+other_of_spec =
     tie.close
     (tie.spec
     (λ c. search rules)

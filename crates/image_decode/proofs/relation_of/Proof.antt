@@ -11,5 +11,5 @@ returns-2 : tie.Need-returns-2
 unfolding relation_of
 returns-2 c = simp (ne_eqb _ 1 c.if1.false)
 
-pub relation-of-spec : {M : Type 1} → statement M
-relation-of-spec = tie.close (tie.spec returns returns-2)
+pub relation_of_spec : {M : Type 1} → statement M
+relation_of_spec = tie.close (tie.spec returns returns-2)

@@ -26,8 +26,8 @@ returns-7 c = rw c.enum-told7.given.1
 returns-8 : tie.Need-returns-8
 returns-8 c = rw c.enum-told8.given.1
 
-pub shape-of-spec : {M : Type 1} → statement M
-shape-of-spec =
+pub shape_of_spec : {M : Type 1} → statement M
+shape_of_spec =
     tie.close
     (tie.spec
     (λ c. search rules)

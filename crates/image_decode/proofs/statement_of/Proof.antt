@@ -21,8 +21,8 @@ returns-2 c = rw (
   c.assignment-of.ensures,
 )
 
-pub statement-of-spec : {M : Type 1} → statement M
-statement-of-spec =
+pub statement_of_spec : {M : Type 1} → statement M
+statement_of_spec =
     tie.close
     (tie.spec
     (λ c. search rules)

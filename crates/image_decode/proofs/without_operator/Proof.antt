@@ -8,5 +8,5 @@ returns c = rw (eq-eqb _ 0 c.if1.true)
 returns-2 : tie.Need-returns-2
 returns-2 c = rw (ne_eqb _ 0 c.if1.false)
 
-pub without-operator-spec : {M : Type 1} → statement M
-without-operator-spec = tie.close (tie.spec returns returns-2)
+pub without_operator_spec : {M : Type 1} → statement M
+without_operator_spec = tie.close (tie.spec returns returns-2)

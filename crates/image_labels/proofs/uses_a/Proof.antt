@@ -10,5 +10,5 @@ is-in-requires c κs = (uses-of _ c.before.before.requires.1).small
 returns : tie.Need-returns
 returns c = c.is-in.ensures ∙ (uses-of _ c.before.before.before.requires.1).a
 
-pub uses-a-spec : {M : Type 1} → statement M
-uses-a-spec = tie.close (tie.spec (λ c. search rules) is-in-requires returns)
+pub uses_a_spec : {M : Type 1} → statement M
+uses_a_spec = tie.close (tie.spec (λ c. search rules) is-in-requires returns)

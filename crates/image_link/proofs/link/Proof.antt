@@ -134,8 +134,8 @@ returns c =
     let s = at.before.before.before.before.before in
     c.before.loop.invariant.1 ∙ all-shifted s.args.first.now s.args.second.now _ _ (omega arith) (omega arith) (omega arith)
 
-pub link-spec : {M : Type 1} → statement M
-link-spec =
+pub link_spec : {M : Type 1} → statement M
+link_spec =
     tie.close
     (tie.spec
     invariant-loop

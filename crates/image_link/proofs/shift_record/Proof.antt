@@ -46,8 +46,8 @@ returns c =
     (labels-stored s.args.r.now s.requires.1 _ _ s.args.out.now s.args.at _ _ s.requires.0 s.requires.2
     (omega arith) (omega arith))
 
-pub shift-record-spec : {M : Type 1} → statement M
-shift-record-spec =
+pub shift_record_spec : {M : Type 1} → statement M
+shift_record_spec =
     tie.close
     (tie.spec
     (λ c κs. search rules)

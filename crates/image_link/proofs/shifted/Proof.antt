@@ -8,6 +8,6 @@ returns c = rw (c.label_of.ensures, c.before.label-number.ensures, c.before.befo
 returns-2 : tie.Need-returns-2
 returns-2 c = rw c.if1.false
 
-pub shifted-spec : {M : Type 1} → statement M
-shifted-spec =
+pub shifted_spec : {M : Type 1} → statement M
+shifted_spec =
     tie.close (tie.spec (λ c κs. search rules) (λ c. search rules) (λ c κs. search rules) returns returns-2)

@@ -16,5 +16,5 @@ returns c =
           (omega arith),
     )
 
-pub field-ok-spec : {M : Type 1} → statement M
-field-ok-spec = tie.close (tie.spec (λ c κs. search rules) (λ c κs. search rules) returns)
+pub field_ok_spec : {M : Type 1} → statement M
+field_ok_spec = tie.close (tie.spec (λ c κs. search rules) (λ c κs. search rules) returns)

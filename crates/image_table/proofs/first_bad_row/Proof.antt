@@ -33,8 +33,8 @@ loop-again c =
 returns-2 : tie.Need-returns-2 invariant-loop decreases-loop
 returns-2 c = none _ block_count _ c.before.loop.invariant c.loop-test.false
 
-pub first-bad-row-spec : {M : Type 1} → statement M
-first-bad-row-spec =
+pub first_bad_row_spec : {M : Type 1} → statement M
+first_bad_row_spec =
     tie.close
     (tie.spec
     invariant-loop

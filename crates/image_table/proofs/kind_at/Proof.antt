@@ -11,5 +11,5 @@ returns c =
     let s = c.before.before in
     simp (c.field_at.ensures, field_is s.args.table.now s.args.b.0 kind_field s.requires.1 s.requires.0 (omega arith))
 
-pub kind-at-spec : {M : Type 1} → statement M
-kind-at-spec = tie.close (tie.spec (λ c κs. search rules) returns)
+pub kind_at_spec : {M : Type 1} → statement M
+kind_at_spec = tie.close (tie.spec (λ c κs. search rules) returns)

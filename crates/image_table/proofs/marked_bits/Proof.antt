@@ -11,5 +11,5 @@ returns c =
     or-none (bit_and c.before.get64.result marks) (bit_and c.get642.result marks)
     ∙ rw (c.before.get64.ensures, c.get642.ensures)
 
-pub marked-bits-spec : {M : Type 1} → statement M
-marked-bits-spec = tie.close (tie.spec (λ c κs. search rules) (λ c. search rules) (λ c κs. search rules) returns)
+pub marked_bits_spec : {M : Type 1} → statement M
+marked_bits_spec = tie.close (tie.spec (λ c κs. search rules) (λ c. search rules) (λ c κs. search rules) returns)

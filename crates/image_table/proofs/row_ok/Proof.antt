@@ -14,5 +14,5 @@ returns c =
     simp (c.field-ok3.ensures, c.before.field-ok2.ensures, c.before.before.field-ok.ensures, and-true)
     (and_assoc (ok thread_field) (ok kind_field) (ok lock_field))
 
-pub row-ok-spec : {M : Type 1} → statement M
-row-ok-spec = tie.close (tie.spec (λ c κs. search rules) (λ c κs. search rules) (λ c κs. search rules) returns)
+pub row_ok_spec : {M : Type 1} → statement M
+row_ok_spec = tie.close (tie.spec (λ c κs. search rules) (λ c κs. search rules) (λ c κs. search rules) returns)

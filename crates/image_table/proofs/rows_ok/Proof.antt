@@ -12,5 +12,5 @@ returns c =
     c.before.marked-bits2.result c.marked-bits3.result c.before.before.marked-bits.ensures
     c.before.marked-bits2.ensures c.marked-bits3.ensures
 
-pub rows-ok-spec : {M : Type 1} → statement M
-rows-ok-spec = tie.close (tie.spec (λ c κs. search rules) (λ c κs. search rules) (λ c κs. search rules) returns)
+pub rows_ok_spec : {M : Type 1} → statement M
+rows_ok_spec = tie.close (tie.spec (λ c κs. search rules) (λ c κs. search rules) (λ c κs. search rules) returns)

@@ -12,5 +12,5 @@ returns c =
     let read = field_is s.args.table.now s.args.b.0 thread_field s.requires.1 s.requires.0 (omega arith) in
     simp (c.thread-of.ensures, c.before.field_at.ensures, read)
 
-pub thread-at-spec : {M : Type 1} → statement M
-thread-at-spec = tie.close (tie.spec (λ c κs. search rules) (λ c κs. search rules) returns)
+pub thread_at_spec : {M : Type 1} → statement M
+thread_at_spec = tie.close (tie.spec (λ c κs. search rules) (λ c κs. search rules) returns)

@@ -7,5 +7,5 @@ returns : tie.Need-returns
 unfolding check_return
 returns c = c.image-fault.ensures
 
-pub plex-check-spec : {M : Type 1} → statement M
-plex-check-spec = tie.close (tie.spec (λ c κs. search rules) returns)
+pub plex_check_spec : {M : Type 1} → statement M
+plex_check_spec = tie.close (tie.spec (λ c κs. search rules) returns)

@@ -24,8 +24,8 @@ returns-2 c =
     sym c.before.before.before.before.before.fresh-fault.ensures ∙ c.before.before.before.before.if1.false in
     (sym h, c.before.before.fresh.ensures ∙ sym (fresh-state a.image.now a.table.now a.words.now a.state.now h))
 
-pub plex-fresh-spec : {M : Type 1} → statement M
-plex-fresh-spec =
+pub plex_fresh_spec : {M : Type 1} → statement M
+plex_fresh_spec =
     tie.close
     (tie.spec
     (λ c κs. search rules)

@@ -24,8 +24,8 @@ returns-2 c =
     sym c.before.before.before.before.before.link-fault.ensures ∙ c.before.before.before.before.if1.false in
     (sym h, c.before.before.link.ensures ∙ sym (link-out a.first.now a.second.now a.table.now a.out.now h))
 
-pub plex-link-spec : {M : Type 1} → statement M
-plex-link-spec =
+pub plex_link_spec : {M : Type 1} → statement M
+plex_link_spec =
     tie.close
     (tie.spec
     (λ c κs. search rules)

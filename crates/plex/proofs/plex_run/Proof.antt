@@ -33,8 +33,8 @@ returns-2 c =
     ∙ sym (run-answers a.image.now a.table.now a.state.now a.events.now a.answers.now h) in
     (sym h, (x, y))
 
-pub plex-run-spec : {M : Type 1} → statement M
-plex-run-spec =
+pub plex_run_spec : {M : Type 1} → statement M
+plex_run_spec =
     tie.close
     (tie.spec
     (λ c κs. search rules)

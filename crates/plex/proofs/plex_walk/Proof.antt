@@ -58,8 +58,8 @@ returns-2 c =
           ∙ rw e (sym (walk-met a.image.now a.table.now a.state.now a.thread a.met.now h)),
     )
 
-pub plex-walk-spec : {M : Type 1} → statement M
-plex-walk-spec =
+pub plex_walk_spec : {M : Type 1} → statement M
+plex_walk_spec =
     tie.close
     (tie.spec
     walk-fault-requires

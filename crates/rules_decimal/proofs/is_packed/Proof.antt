@@ -6,5 +6,5 @@ use Rattle.rules_decimal.proofs.is_packed.Tie as tie
 returns : tie.Need-returns
 returns c = none-above-nine c.args.x (omega arith)
 
-pub is-packed-spec : {M : Type 1} → statement M
-is-packed-spec = tie.close (tie.spec returns)
+pub is_packed_spec : {M : Type 1} → statement M
+is_packed_spec = tie.close (tie.spec returns)

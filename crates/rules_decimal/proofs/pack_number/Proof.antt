@@ -7,8 +7,8 @@ use Rattle.rules_decimal.proofs.pack_number.Tie as tie
 returns : tie.Need-returns
 returns c = four-packed c.args.x (omega arith)
 
-pub pack-number-spec : {M : Type 1} → statement M
-pack-number-spec =
+pub pack_number_spec : {M : Type 1} → statement M
+pack_number_spec =
     tie.close
     (tie.spec
     (λ c. search rules)

@@ -7,8 +7,8 @@ use Rattle.rules_decimal.proofs.unpack_number.Tie as tie
 returns : tie.Need-returns
 returns c = four-unpacked c.args.x (omega arith)
 
-pub unpack-number-spec : {M : Type 1} → statement M
-unpack-number-spec =
+pub unpack_number_spec : {M : Type 1} → statement M
+unpack_number_spec =
     tie.close
     (tie.spec
     (λ c. search rules)

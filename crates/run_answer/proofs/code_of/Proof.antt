@@ -3,9 +3,9 @@ use Rattle.rules.specs.Answers.{code}
 use Rattle.run_answer.proofs.code_of.Statement.{statement}
 use Rattle.run_answer.proofs.code_of.Tie as tie
 
-pub code-of-spec : {M : Type 1} → statement M
+pub code_of_spec : {M : Type 1} → statement M
 unfolding code
-code-of-spec =
+code_of_spec =
     tie.close
     (tie.spec
     (λ c. search rules)

@@ -3,9 +3,9 @@ use Rattle.rules.specs.Answers.{detail}
 use Rattle.run_answer.proofs.detail_of.Statement.{statement}
 use Rattle.run_answer.proofs.detail_of.Tie as tie
 
-pub detail-of-spec : {M : Type 1} → statement M
+pub detail_of_spec : {M : Type 1} → statement M
 unfolding detail
-detail-of-spec =
+detail_of_spec =
     tie.close
     (tie.spec
     (λ c. search rules)

@@ -41,8 +41,8 @@ returns-2 c =
     let a = c.before.before.before.before.args.a in
     rw (c.join162.ensures, c.before.before.code_of_lem.ensures, c.before.detail-of.ensures) (joined (code a) (detail a) (small a))
 
-pub number-of-spec : {M : Type 1} → statement M
-number-of-spec =
+pub number_of_spec : {M : Type 1} → statement M
+number_of_spec =
     tie.close
     (tie.spec
     (λ c. search rules)

@@ -63,8 +63,8 @@ returns-3 c =
     subst (λ (x : Event). Done (reply_to s.args.image.now s.args.table.now s.args.state.now x)
     c.before.before.cut-job.new.1.1.0 c.before.before.cut-job.result) e c.before.before.cut-job.ensures
 
-pub event-spec : {M : Type 1} → statement M
-event-spec =
+pub event_spec : {M : Type 1} → statement M
+event_spec =
     tie.close
     (tie.spec
     (λ c. search rules)

@@ -46,8 +46,8 @@ returns c =
       c.before.before.before.before.before.before.before.before.before.before.before.shared-slice-known.given j,
     )) (rw e at l.invariant.2)
 
-pub fresh-spec : {M : Type 1} → statement M
-fresh-spec =
+pub fresh_spec : {M : Type 1} → statement M
+fresh_spec =
     tie.close
     (tie.spec
     invariant-loop

@@ -10,7 +10,7 @@ returns c =
     let p = c.before.before.requires in
     oldest-read p.0 _ p.1 _ refl p.2 c.read-signal.ensures
 
-pub oldest-spec : {M : Type 1} → statement M
-oldest-spec =
+pub oldest_spec : {M : Type 1} → statement M
+oldest_spec =
     tie.close
     (tie.spec (λ c. omega arith) (λ c. search rules) (λ c. search rules) (λ c κs. omega arith) returns)

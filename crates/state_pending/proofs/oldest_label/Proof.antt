@@ -11,6 +11,6 @@ returns c =
     let p = c.before.before.before.requires in
     c.label_of.ensures ∙ ap label (c.before.get16.ensures ∙ label-read p.0 _ p.1 _ refl p.2)
 
-pub oldest-label-spec : {M : Type 1} → statement M
-oldest-label-spec =
+pub oldest_label_spec : {M : Type 1} → statement M
+oldest_label_spec =
     tie.close (tie.spec (λ c. omega arith) (λ c. search rules) (λ c. search rules) (λ c κs. omega arith) (λ c κs. search rules) returns)

@@ -31,8 +31,8 @@ returns c =
     ∙ (counted c.before.before.before.before.before.before.before.before.before.before.before).0) p.2 refl
     c.before.before.before.before.before.before.remove.ensures c.before.before.put8.ensures
 
-pub take-oldest-spec : {M : Type 1} → statement M
-take-oldest-spec =
+pub take_oldest_spec : {M : Type 1} → statement M
+take_oldest_spec =
     tie.close
     (tie.spec
     (λ c. omega arith)

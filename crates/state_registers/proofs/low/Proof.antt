@@ -14,5 +14,5 @@ sub-result c = let h = small c in rw (one-mul, mod-eq_of_lt h) (omega (arith, po
 returns : tie.Need-returns
 returns c = let h = small c in rw (one-mul, mod-eq_of_lt h)
 
-pub low-spec : {M : Type 1} → statement M
-low-spec = tie.close (tie.spec (λ c. omega arith) sub-result returns)
+pub low_spec : {M : Type 1} → statement M
+low_spec = tie.close (tie.spec (λ c. omega arith) sub-result returns)

@@ -8,5 +8,5 @@ use Rattle.state_registers.proofs.with_bit.Tie as tie
 returns : tie.Need-returns
 returns c = let h : 2 ^ c.args.register < 4294967296 = omega (arith, pow-lt c.requires) in rw (one-mul, mod-eq_of_lt h)
 
-pub with-bit-spec : {M : Type 1} → statement M
-with-bit-spec = tie.close (tie.spec (λ c. omega arith) (λ c. omega arith) returns)
+pub with_bit_spec : {M : Type 1} → statement M
+with_bit_spec = tie.close (tie.spec (λ c. omega arith) (λ c. omega arith) returns)

@@ -11,8 +11,8 @@ returns c =
     let at = c.before.before.before.before.before.before.before.args.at in
     cc (drop-drop 3 at s, get_or-drop at s 2 0)
 
-pub read-signal-spec : {M : Type 1} → statement M
-read-signal-spec =
+pub read_signal_spec : {M : Type 1} → statement M
+read_signal_spec =
     tie.close
     (tie.spec
     (λ c. omega arith)

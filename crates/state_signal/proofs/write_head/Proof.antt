@@ -10,8 +10,8 @@ returns c =
     let label = rw number at c.before.before.before.before.before.before.put16.ensures in
     put_then _ _ _ _ _ label c.before.before.put8.ensures refl
 
-pub write-head-spec : {M : Type 1} → statement M
-write-head-spec =
+pub write_head_spec : {M : Type 1} → statement M
+write_head_spec =
     tie.close
     (tie.spec
     (λ c κs. omega arith)

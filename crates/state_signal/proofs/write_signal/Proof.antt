@@ -20,8 +20,8 @@ returns c =
     let head = c.before.before.before.before.before.before.before.before.write-head.ensures in
     put_then _ _ _ _ _ head c.before.before.put16s.ensures refl ∙ rw (value-bytes s.args.g (long s) s.requires.1)
 
-pub write-signal-spec : {M : Type 1} → statement M
-write-signal-spec =
+pub write_signal_spec : {M : Type 1} → statement M
+write_signal_spec =
     tie.close
     (tie.spec
     (λ c κs. omega arith)

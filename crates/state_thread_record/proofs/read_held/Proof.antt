@@ -14,5 +14,5 @@ returns c =
     let at = thread_place c.before.before.before.args.t.0 in
     cc (c.before.record-at.ensures, drop-drop held_count_place at s, get_or-drop (at + held_count_place) s 0 0, add-zero (at + held_count_place))
 
-pub read-held-spec : {M : Type 1} → statement M
-read-held-spec = tie.close (tie.spec (λ c κs. search rules) (λ c. search rules) (λ c κs. search rules) returns)
+pub read_held_spec : {M : Type 1} → statement M
+read_held_spec = tie.close (tie.spec (λ c κs. search rules) (λ c. search rules) (λ c κs. search rules) returns)

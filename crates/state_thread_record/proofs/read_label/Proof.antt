@@ -7,5 +7,5 @@ returns : tie.Need-returns
 unfolding raw_thread
 returns c = cc c.before.before.record-at.ensures
 
-pub read-label-spec : {M : Type 1} → statement M
-read-label-spec = tie.close (tie.spec (λ c κs. search rules) (λ c κs. search rules) (λ c κs. search rules) returns)
+pub read_label_spec : {M : Type 1} → statement M
+read_label_spec = tie.close (tie.spec (λ c κs. search rules) (λ c κs. search rules) (λ c κs. search rules) returns)

@@ -20,8 +20,8 @@ returns c =
       drop-drop (2 * k) (at + registers_place) b,
     ) (rw c.before.record-at.ensures at c.get16.ensures)
 
-pub read-register-spec : {M : Type 1} → statement M
-read-register-spec =
+pub read_register_spec : {M : Type 1} → statement M
+read_register_spec =
     tie.close
     (tie.spec
     (λ c κs. search rules)

@@ -43,8 +43,8 @@ returns c =
       signals = signals i;
     }
 
-pub read-thread-spec : {M : Type 1} → statement M
-read-thread-spec =
+pub read_thread_spec : {M : Type 1} → statement M
+read_thread_spec =
     tie.close
     (tie.spec
     (λ c κs. search rules)

@@ -28,8 +28,8 @@ returns c =
     (rw at at c.before.before.before.before.before.before.before.before.before.before.write-head.ensures)
     (rw at at c.before.before.before.before.before.before.put32.ensures) (rw at at c.before.before.put16.ensures)
 
-pub write-assigned-spec : {M : Type 1} → statement M
-write-assigned-spec =
+pub write_assigned_spec : {M : Type 1} → statement M
+write_assigned_spec =
     tie.close
     (tie.spec
     (λ c κs. search rules)

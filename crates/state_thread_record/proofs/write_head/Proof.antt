@@ -10,8 +10,8 @@ returns c =
     let locks = put_then _ _ _ _ _ label c.before.before.before.before.before.before.before.put162.ensures refl in
     put_then _ _ _ _ _ locks c.before.before.put8.ensures refl
 
-pub write-head-spec : {M : Type 1} → statement M
-write-head-spec =
+pub write_head_spec : {M : Type 1} → statement M
+write_head_spec =
     tie.close
     (tie.spec
     (λ c κs. search rules)

@@ -20,8 +20,8 @@ returns c =
     let f = rw (part-all s.args.w.signals held_size (sized s)) at c.before.before.copy.ensures in
     put_then _ _ _ _ _ c.before.before.before.before.before.before.before.before.put8.ensures f (omega arith)
 
-pub write-held-spec : {M : Type 1} → statement M
-write-held-spec =
+pub write_held_spec : {M : Type 1} → statement M
+write_held_spec =
     tie.close
     (tie.spec
     (λ c. search rules)

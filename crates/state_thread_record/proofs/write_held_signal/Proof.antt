@@ -31,8 +31,8 @@ returns c =
     p.8 (length-signal _) p.9 (rw at at c.before.before.before.before.before.before.before.before.before.before.write-head.ensures) (rw at at c.before.before.before.before.before.before.put8.ensures) (rw at at
     c.before.before.write-signal.ensures)
 
-pub write-held-signal-spec : {M : Type 1} → statement M
-write-held-signal-spec =
+pub write_held_signal_spec : {M : Type 1} → statement M
+write_held_signal_spec =
     tie.close
     (tie.spec
     (λ c κs. search rules)

@@ -18,8 +18,8 @@ returns c =
     let head = c.before.before.before.before.before.before.before.before.write-head.ensures in
     put_then _ _ _ _ _ head c.before.before.put16s.ensures refl
 
-pub write-labels-spec : {M : Type 1} → statement M
-write-labels-spec =
+pub write_labels_spec : {M : Type 1} → statement M
+write_labels_spec =
     tie.close
     (tie.spec
     (λ c κs. search rules)

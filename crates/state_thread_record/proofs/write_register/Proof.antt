@@ -31,8 +31,8 @@ returns c =
     stored_one b a.t.0 bytes p.0 p.1 a.w (sized s).0 (sized s).1 p.6 a.register a.value p.2 p.4 p.5 head
     (rw at at c.before.before.before.before.before.before.put32.ensures) (rw at at c.before.before.put16.ensures)
 
-pub write-register-spec : {M : Type 1} → statement M
-write-register-spec =
+pub write_register_spec : {M : Type 1} → statement M
+write_register_spec =
     tie.close
     (tie.spec
     (λ c κs. search rules)

@@ -18,8 +18,8 @@ returns c =
     let present = c.before.before.before.before.before.before.before.before.put32.ensures in
     put_then _ _ _ _ _ present c.before.before.put16s.ensures (omega arith)
 
-pub write-registers-spec : {M : Type 1} → statement M
-write-registers-spec =
+pub write_registers_spec : {M : Type 1} → statement M
+write_registers_spec =
     tie.close
     (tie.spec
     (λ c. search rules)

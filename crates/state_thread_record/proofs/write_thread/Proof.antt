@@ -16,8 +16,8 @@ returns c =
     (stored-all s.args.w (sized s).0 (sized s).1 _ _ c.before.before.before.before.before.before.before.before.before.before.write-labels.ensures c.before.before.before.before.before.before.write-registers.ensures
     c.before.before.write-held.ensures)
 
-pub write-thread-spec : {M : Type 1} → statement M
-write-thread-spec =
+pub write_thread_spec : {M : Type 1} → statement M
+write_thread_spec =
     tie.close
     (tie.spec
     (λ c κs. search rules)

@@ -27,8 +27,8 @@ returns c =
     (rw at at c.before.before.before.before.before.before.write-labels.ensures) (rw at at
     c.before.before.write-registers.ensures)
 
-pub write-without-held-spec : {M : Type 1} → statement M
-write-without-held-spec =
+pub write_without_held_spec : {M : Type 1} → statement M
+write_without_held_spec =
     tie.close
     (tie.spec
     (λ c κs. search rules)

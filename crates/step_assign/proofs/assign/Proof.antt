@@ -31,8 +31,8 @@ returns-2 c =
     assigned-stepped s.requires.0 s.args.a s.requires.1 results.result.first results.result.second
     (results.ensures.values if1.false) store-results.ensures
 
-pub assign-spec : {M : Type 1} → statement M
-assign-spec =
+pub assign_spec : {M : Type 1} → statement M
+assign_spec =
     tie.close
     (tie.spec
     results-of-requires

@@ -39,8 +39,8 @@ returns-7 c = rw c.before.enum-told7.given.1 c.unpacking.ensures
 returns-8 : tie.Need-returns-8
 returns-8 c = rw c.before.enum-told8.given.1 c.decimal-sum.ensures
 
-pub computed-spec : {M : Type 1} → statement M
-computed-spec =
+pub computed_spec : {M : Type 1} → statement M
+computed_spec =
     tie.close
     (tie.spec
     (λ c. search rules)

@@ -33,8 +33,8 @@ returns-3 c =
     let s = left.before in
     left-not-decimal s.args.p s.args.q _ (sym left.is-packed.ensures ∙ c.before.if1.false) c.no-result2.ensures
 
-pub decimal-sum-spec : {M : Type 1} → statement M
-decimal-sum-spec =
+pub decimal_sum_spec : {M : Type 1} → statement M
+decimal_sum_spec =
     tie.close
     (tie.spec
     (λ c κs. search rules)

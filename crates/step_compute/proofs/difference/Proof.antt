@@ -13,5 +13,5 @@ returns-2 c =
     let s = c.before.before in
     not-below-zero s.args.p s.args.q _ c.before.if1.false c.one-result.ensures
 
-pub difference-spec : {M : Type 1} → statement M
-difference-spec = tie.close (tie.spec (λ c κs. search rules) (λ c κs. search rules) returns returns-2)
+pub difference_spec : {M : Type 1} → statement M
+difference_spec = tie.close (tie.spec (λ c κs. search rules) (λ c κs. search rules) returns returns-2)

@@ -6,5 +6,5 @@ use Rattle.step_compute.proofs.no_result.Tie as tie
 returns : tie.Need-returns
 returns c = computes_none _ _ refl c.requires
 
-pub no-result-spec : {M : Type 1} → statement M
-no-result-spec = tie.close (tie.spec returns)
+pub no_result_spec : {M : Type 1} → statement M
+no_result_spec = tie.close (tie.spec returns)

@@ -6,5 +6,5 @@ use Rattle.step_compute.proofs.one_result.Tie as tie
 returns : tie.Need-returns
 returns c = computes-values _ _ refl refl
 
-pub one-result-spec : {M : Type 1} → statement M
-one-result-spec = tie.close (tie.spec returns)
+pub one_result_spec : {M : Type 1} → statement M
+one_result_spec = tie.close (tie.spec returns)

@@ -15,6 +15,6 @@ returns-2 c =
     up-to-9999 s.args.p _ c.before.before.if1.false
     (subst (λ (v : ℕ). Computes (one v) c.one-result.result) c.before.pack-number.ensures c.one-result.ensures)
 
-pub packing-spec : {M : Type 1} → statement M
-packing-spec =
+pub packing_spec : {M : Type 1} → statement M
+packing_spec =
     tie.close (tie.spec (λ c κs. search rules) (λ c κs. search rules) (λ c κs. search rules) returns returns-2)

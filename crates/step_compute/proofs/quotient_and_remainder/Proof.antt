@@ -12,6 +12,6 @@ returns c =
 returns-2 : tie.Need-returns-2
 returns-2 c = let s = c.before in not-by-zero s.args.p s.args.q _ c.if1.false (computes-values _ _ refl refl)
 
-pub quotient-and-remainder-spec : {M : Type 1} → statement M
-quotient-and-remainder-spec =
+pub quotient_and_remainder_spec : {M : Type 1} → statement M
+quotient_and_remainder_spec =
     tie.close (tie.spec (λ c κs. search rules) returns (λ c. search rules) (λ c. search rules) returns-2)

@@ -17,8 +17,8 @@ returns-2 c =
     let test = c.before.before in
     not-decimal test.before.args.p _ (sym test.is-packed.ensures ∙ c.before.if1.false) c.no_result.ensures
 
-pub unpacking-spec : {M : Type 1} → statement M
-unpacking-spec =
+pub unpacking_spec : {M : Type 1} → statement M
+unpacking_spec =
     tie.close
     (tie.spec
     (λ c κs. search rules)

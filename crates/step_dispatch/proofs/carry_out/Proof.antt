@@ -64,8 +64,8 @@ send-tree-requires c κs = (
   sym c.before.before.before.before.before.statement-of.ensures ∙ c.before.before.before.enum-told8.given.1,
 )
 
-pub carry-out-spec : {M : Type 1} → statement M
-carry-out-spec =
+pub carry_out_spec : {M : Type 1} → statement M
+carry_out_spec =
     tie.close
     (tie.spec
     (λ c κs. omega (arith, c.before.before.before.before.requires.readable.long))

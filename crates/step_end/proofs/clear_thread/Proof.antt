@@ -41,8 +41,8 @@ returns-2 c =
     let s = c.before.before.before.before.before.before.before.before in
     cleared s.args.t.0 s.requires.0 s.requires.1 c.before.before.before.end2.ensures c.before.before.write-thread.ensures
 
-pub clear-thread-spec : {M : Type 1} → statement M
-clear-thread-spec =
+pub clear_thread_spec : {M : Type 1} → statement M
+clear_thread_spec =
     tie.close
     (tie.spec
     (λ c κs. search rules)

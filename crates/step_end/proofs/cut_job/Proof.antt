@@ -38,5 +38,5 @@ returns-2 c =
     done (finished R a.t.0 m) WasCut (cut-running R m a.t.0 a.w.locks _ e) refl
     c.before.before.finish.ensures
 
-pub cut-job-spec : {M : Type 1} → statement M
-cut-job-spec = tie.close (tie.spec (λ c κs. search rules) returns finish-requires (λ c. search rules) returns-2)
+pub cut_job_spec : {M : Type 1} → statement M
+cut_job_spec = tie.close (tie.spec (λ c κs. search rules) returns finish-requires (λ c. search rules) returns-2)

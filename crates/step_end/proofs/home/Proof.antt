@@ -43,6 +43,6 @@ returns-2 c =
     home_some s.args.image.now s.args.table.now p c.thread-at.result.0 l
     (rw (c.thread-at.ensures, c.before.block_at.ensures, c.before.before.oldest-label.ensures) refl)
 
-pub home-spec : {M : Type 1} → statement M
-home-spec = tie.close (tie.spec pending-requires (λ c κs. search rules) returns oldest-label-requires block-at-requires thread-at-requires
+pub home_spec : {M : Type 1} → statement M
+home_spec = tie.close (tie.spec pending-requires (λ c κs. search rules) returns oldest-label-requires block-at-requires thread-at-requires
     returns-2)

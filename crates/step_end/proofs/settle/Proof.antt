@@ -32,5 +32,5 @@ returns c =
     ∙ settled_is s.args.image.now s.args.table.now m t to.result.0 i.result i.ensures l to.ensures in
     subst (λ (q : Machine). Encodes e.new.0 q) f e.ensures.0
 
-pub settle-spec : {M : Type 1} → statement M
-settle-spec = tie.close (tie.spec (λ c κs. search rules) home-requires end-tree-requires (λ c. search rules) returns)
+pub settle_spec : {M : Type 1} → statement M
+settle_spec = tie.close (tie.spec (λ c κs. search rules) home-requires end-tree-requires (λ c. search rules) returns)

@@ -6,5 +6,5 @@ use Rattle.step_end.proofs.trapped.Tie as tie
 returns : tie.Need-returns
 returns c = (refl, c.before.before.finish.ensures)
 
-pub trapped-spec : {M : Type 1} → statement M
-trapped-spec = tie.close (tie.spec (λ c κs. c.before.before.before.before.requires) (λ c. search rules) returns)
+pub trapped_spec : {M : Type 1} → statement M
+trapped_spec = tie.close (tie.spec (λ c κs. c.before.before.before.before.requires) (λ c. search rules) returns)

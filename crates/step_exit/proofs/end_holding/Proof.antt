@@ -102,8 +102,8 @@ returns c =
     let q = through c.before.before.before.before.before.before in
     (omega (arith, q.count, ap length (lost-there h)), left h q.bytes c.before.before.clear-thread.ensures)
 
-pub end-holding-spec : {M : Type 1} → statement M
-end-holding-spec =
+pub end_holding_spec : {M : Type 1} → statement M
+end_holding_spec =
     tie.close
     (tie.spec
     (λ c κs. search rules)

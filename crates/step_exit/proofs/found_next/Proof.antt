@@ -27,5 +27,5 @@ returns-2 c =
     let s = c.before.before.before.before in
     rw (le-ltb s.args.i s.args.count (omega (arith, c.if1.false))) ((refl, omega arith), s.requires.0)
 
-pub found-next-spec : {M : Type 1} → statement M
-found-next-spec = tie.close (tie.spec found-tree-requires (λ c. search rules) returns returns-2)
+pub found_next_spec : {M : Type 1} → statement M
+found_next_spec = tie.close (tie.spec found-tree-requires (λ c. search rules) returns returns-2)

@@ -46,8 +46,8 @@ returns-2 c =
     rw (c.before.before.before.thread-at.ensures, c.before.before.before.before.block_at.ensures) in
     tree-lost s.requires u to (sym c.before.room.ensures ∙ c.if1.false)
 
-pub found-tree-spec : {M : Type 1} → statement M
-found-tree-spec =
+pub found_tree_spec : {M : Type 1} → statement M
+found_tree_spec =
     tie.close
     (tie.spec
     block-at-requires

@@ -11,5 +11,5 @@ returns c =
     let s = c.before.before.before.before.before.before in
     (refl, job-written s.args.t.0 s.requires.0 s.requires.1 move-on.ensures write-thread.ensures)
 
-pub go-on-spec : {M : Type 1} → statement M
-go-on-spec = tie.close (tie.spec (λ c κs. search rules) (λ c κs. search rules) (λ c. search rules) returns)
+pub go_on_spec : {M : Type 1} → statement M
+go_on_spec = tie.close (tie.spec (λ c κs. search rules) (λ c κs. search rules) (λ c. search rules) returns)

@@ -19,5 +19,5 @@ returns c =
     let s = c.before.before.before.before.before.before.before.before.before in
     skipped s.requires.0 s.requires.1 (ap (λ l. l.0) label-a.ensures) go_on.ensures.0 go_on.ensures.1
 
-pub skip-spec : {M : Type 1} → statement M
-skip-spec = tie.close (tie.spec (λ c κs. search rules) go-on-requires (λ c. search rules) returns)
+pub skip_spec : {M : Type 1} → statement M
+skip_spec = tie.close (tie.spec (λ c κs. search rules) go-on-requires (λ c. search rules) returns)

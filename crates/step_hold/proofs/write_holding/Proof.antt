@@ -9,5 +9,5 @@ returns c =
     let hold = c.before.before.before.hold.ensures in
     job-written s.args.t.0 s.requires.0 s.requires.1 hold c.before.before.write-thread.ensures
 
-pub write-holding-spec : {M : Type 1} → statement M
-write-holding-spec = tie.close (tie.spec (λ c κs. search rules) (λ c κs. search rules) (λ c. search rules) returns)
+pub write_holding_spec : {M : Type 1} → statement M
+write_holding_spec = tie.close (tie.spec (λ c κs. search rules) (λ c κs. search rules) (λ c. search rules) returns)

@@ -49,8 +49,8 @@ returns-2 c =
     (condition-at s.requires.0 s.args.c s.requires.1 (pair.ensures.values if1.false)) to
     go_on.ensures.0 go_on.ensures.1
 
-pub branch-spec : {M : Type 1} → statement M
-branch-spec =
+pub branch_spec : {M : Type 1} → statement M
+branch_spec =
     tie.close
     (tie.spec
     read-pair-requires

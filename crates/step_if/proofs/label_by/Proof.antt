@@ -8,5 +8,5 @@ returns c = rw c.before.if1.true c.label-a.ensures
 returns-2 : tie.Need-returns-2
 returns-2 c = rw c.before.if1.false c.label-b.ensures
 
-pub label-by-spec : {M : Type 1} → statement M
-label-by-spec = tie.close (tie.spec (λ c κs. search rules) (λ c κs. search rules) returns returns-2)
+pub label_by_spec : {M : Type 1} → statement M
+label_by_spec = tie.close (tie.spec (λ c κs. search rules) (λ c κs. search rules) returns returns-2)

@@ -8,5 +8,5 @@ returns c = rw c.enum_told.given.1
 returns-2 : tie.Need-returns-2
 returns-2 c = rw c.enum-told2.given.1
 
-pub relation-holds-spec : {M : Type 1} → statement M
-relation-holds-spec = tie.close (tie.spec (λ c. search rules) (λ c. search rules) returns returns-2)
+pub relation_holds_spec : {M : Type 1} → statement M
+relation_holds_spec = tie.close (tie.spec (λ c. search rules) (λ c. search rules) returns returns-2)

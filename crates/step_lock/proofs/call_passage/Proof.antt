@@ -26,8 +26,8 @@ returns c =
     call-enters-as s.requires.0 (rw s.requires.2 at c.before.before.before.read-data.ensures) _ s.requires.1
     (rw (c.before.label-a.ensures, c.before.before.call-trap.ensures) at c.passage-to.ensures)
 
-pub call-passage-spec : {M : Type 1} → statement M
-call-passage-spec =
+pub call_passage_spec : {M : Type 1} → statement M
+call_passage_spec =
     tie.close
     (tie.spec
     read-data-requires

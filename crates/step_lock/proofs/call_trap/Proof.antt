@@ -16,5 +16,5 @@ returns-3 : tie.Need-returns-3
 unfolding call_trap
 returns-3 c = rw (c.before.if1.false, lt-leb 8 c.before.before.args.depth (omega arith))
 
-pub call-trap-spec : {M : Type 1} → statement M
-call-trap-spec = tie.close (tie.spec returns returns-2 returns-3)
+pub call_trap_spec : {M : Type 1} → statement M
+call_trap_spec = tie.close (tie.spec returns returns-2 returns-3)

@@ -7,5 +7,5 @@ returns : tie.Need-returns
 unfolding alien
 returns c = simp (c.same-thread.ensures, c.before.thread-at.ensures, c.before.before.kind_at.ensures)
 
-pub is-alien-spec : {M : Type 1} → statement M
-is-alien-spec = tie.close (tie.spec (λ c κs. search rules) (λ c κs. search rules) (λ c κs. search rules) returns)
+pub is_alien_spec : {M : Type 1} → statement M
+is_alien_spec = tie.close (tie.spec (λ c κs. search rules) (λ c κs. search rules) (λ c κs. search rules) returns)

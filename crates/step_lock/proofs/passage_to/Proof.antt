@@ -129,8 +129,8 @@ returns-5 c =
     (sym (passage-on (machine s) (row s) s.args.t.0 s.args.own s.args.earlier l.before.before.if1.false false false false
     (not-alien o.before.before.before.before) (not_own o.before.before) (le-ltb _ thread_count free)))
 
-pub passage-to-spec : {M : Type 1} → statement M
-passage-to-spec =
+pub passage_to_spec : {M : Type 1} → statement M
+passage_to_spec =
     tie.close
     (tie.spec
     returns

@@ -26,8 +26,8 @@ returns c =
     send-enters-as s.requires.0 (rw s.requires.2 at c.before.before.read-data.ensures) _ s.requires.1
     (rw c.before.label-a.ensures at c.passage-to.ensures)
 
-pub send-passage-spec : {M : Type 1} → statement M
-send-passage-spec =
+pub send_passage_spec : {M : Type 1} → statement M
+send_passage_spec =
     tie.close
     (tie.spec
     read-data-requires

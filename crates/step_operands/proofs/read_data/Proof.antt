@@ -118,8 +118,8 @@ returns-2 c =
       rest = λ z. rw e at l.invariant.2;
     }
 
-pub read-data-spec : {M : Type 1} → statement M
-read-data-spec =
+pub read_data_spec : {M : Type 1} → statement M
+read_data_spec =
     tie.close
     (tie.spec
     invariant-loop

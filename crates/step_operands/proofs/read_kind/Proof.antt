@@ -28,8 +28,8 @@ returns-3 : tie.Need-returns-3
 unfolding operand_of
 returns-3 c = simp (ne_eqb _ 1 c.before.match.rest.0.1, ne_eqb _ 2 c.before.match.rest.1) c.read-operand3.ensures
 
-pub read-kind-spec : {M : Type 1} → statement M
-read-kind-spec =
+pub read_kind_spec : {M : Type 1} → statement M
+read_kind_spec =
     tie.close
     (tie.spec
     (λ c κs. search rules)

@@ -63,8 +63,8 @@ returns-4 c =
     let h : w.0.0 < word_count = rw w.1 at s.requires.2 in
     rw (w.1, word_read a.state.now a.block.0 w.0.0 s.requires.1 h) (ap Value c.read_word.ensures)
 
-pub read-operand-spec : {M : Type 1} → statement M
-read-operand-spec =
+pub read_operand_spec : {M : Type 1} → statement M
+read_operand_spec =
     tie.close
     (tie.spec
     (λ c. search rules)

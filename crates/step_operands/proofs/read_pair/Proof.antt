@@ -101,8 +101,8 @@ returns-4 c =
     let f : read (cells s) (other s) ≡ got u = reading-value _ u (second c.before.before.before ∙ c.before.right.given.1) in
     record { values = λ z. pair-both (cells s) (one s) (other s) _ u (left l) f; trapped = λ z. absurd (z refl) }
 
-pub read-pair-spec : {M : Type 1} → statement M
-read-pair-spec =
+pub read_pair_spec : {M : Type 1} → statement M
+read_pair_spec =
     tie.close
     (tie.spec
     (λ c κs. search rules)

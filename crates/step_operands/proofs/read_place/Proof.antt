@@ -13,5 +13,5 @@ returns : tie.Need-returns
 unfolding operand_at
 returns c = rw (← c.before.value-at.ensures, ← c.before.before.kind_at.ensures) c.read-kind.ensures
 
-pub read-place-spec : {M : Type 1} → statement M
-read-place-spec = tie.close (tie.spec (λ c κs. search rules) (λ c κs. search rules) read-kind-requires returns)
+pub read_place_spec : {M : Type 1} → statement M
+read_place_spec = tie.close (tie.spec (λ c κs. search rules) (λ c κs. search rules) read-kind-requires returns)

@@ -89,8 +89,8 @@ returns-8 : tie.Need-returns-8
 returns-8 c =
     answered c.before.before.before.before.before DecimalAdd 1 c.before.enum-told8.given.1 refl _ c.work-out8.ensures
 
-pub results-of-spec : {M : Type 1} → statement M
-results-of-spec =
+pub results_of_spec : {M : Type 1} → statement M
+results_of_spec =
     tie.close
     (tie.spec
     (λ c. search rules)

@@ -31,5 +31,5 @@ returns-2 c =
     both_read (cells s) s.args.o (left s) (right s) pair.result.left pair.result.right _
     (pair.ensures.values c.before.if1.false) c.computed.ensures
 
-pub work-out-spec : {M : Type 1} → statement M
-work-out-spec = tie.close (tie.spec (λ c κs. search rules) (λ c κs. search rules) returns (λ c κs. search rules) returns-2)
+pub work_out_spec : {M : Type 1} → statement M
+work_out_spec = tie.close (tie.spec (λ c κs. search rules) (λ c κs. search rules) returns (λ c κs. search rules) returns-2)

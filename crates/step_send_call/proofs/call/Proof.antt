@@ -12,8 +12,8 @@ call-by-requires c κs =
     let k = c.before.before.before.before.before.before.before.before.before.before.requires in
     (rw c.before.before.before.before.read-thread.ensures k.0, k.1, c.before.call-passage.ensures)
 
-pub call-spec : {M : Type 1} → statement M
-call-spec =
+pub call_spec : {M : Type 1} → statement M
+call_spec =
     tie.close
     (tie.spec
     (λ c κs. search rules)

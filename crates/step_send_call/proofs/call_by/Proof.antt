@@ -51,8 +51,8 @@ returns-4 c =
     let given = c.before.before.before.before.before.enum_told.given.1 in
     own-stepped k.0 k.2 given c.before.before.before.called2.ensures c.before.before.write-thread.ensures
 
-pub call-by-spec : {M : Type 1} → statement M
-call-by-spec =
+pub call_by_spec : {M : Type 1} → statement M
+call_by_spec =
     tie.close
     (tie.spec
     (λ c. search rules)

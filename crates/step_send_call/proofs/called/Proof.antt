@@ -12,6 +12,6 @@ returns c =
     simp (c.before.before.before.label-a.ensures, c.before.before.label-b.ensures, c.before.operand-count.ensures) at
     c.call.ensures
 
-pub called-spec : {M : Type 1} → statement M
-called-spec =
+pub called_spec : {M : Type 1} → statement M
+called_spec =
     tie.close (tie.spec (λ c κs. search rules) (λ c κs. search rules) (λ c κs. search rules) call-requires returns)

@@ -12,8 +12,8 @@ send-by-requires c κs =
     let k = c.before.before.before.before.before.before.before.before.before.before.requires in
     (rw c.before.before.before.before.read-thread.ensures k.0, k.1, c.before.send-passage.ensures)
 
-pub send-direct-spec : {M : Type 1} → statement M
-send-direct-spec =
+pub send_direct_spec : {M : Type 1} → statement M
+send_direct_spec =
     tie.close
     (tie.spec
     (λ c κs. search rules)

@@ -10,5 +10,5 @@ enter-requires c κs =
 returns : tie.Need-returns
 returns c = rw (c.before.before.label-a.ensures, c.before.operand-count.ensures) at c.enter.ensures
 
-pub sent-spec : {M : Type 1} → statement M
-sent-spec = tie.close (tie.spec (λ c κs. search rules) (λ c κs. search rules) enter-requires returns)
+pub sent_spec : {M : Type 1} → statement M
+sent_spec = tie.close (tie.spec (λ c κs. search rules) (λ c κs. search rules) enter-requires returns)

@@ -87,8 +87,8 @@ returns c =
     held-stepped s.requires.0 s.requires.1 s.args.values s.requires.2 _ _ _ label-a.ensures label-b.ensures
     operand-count.ensures s.requires.3 (runs c.before.before.before) c.before.before.write-held-signal.ensures
 
-pub hold-for-tree-spec : {M : Type 1} → statement M
-hold-for-tree-spec =
+pub hold_for_tree_spec : {M : Type 1} → statement M
+hold_for_tree_spec =
     tie.close
     (tie.spec
     (λ c κs. search rules)

@@ -34,8 +34,8 @@ hold-for-tree-requires c κs =
     let free : c.before.before.before.before.read-data.result ≡ 0 = c.before.before.before.if1.false in
     (s.requires.0, s.requires.1, rw free at c.before.before.before.before.read-data.ensures, omega (arith, c.before.if2.false))
 
-pub send-tree-spec : {M : Type 1} → statement M
-send-tree-spec =
+pub send_tree_spec : {M : Type 1} → statement M
+send_tree_spec =
     tie.close
     (tie.spec
     read-data-requires

@@ -16,8 +16,8 @@ returns c =
     let take-oldest = c.before.before.take-oldest.ensures in
     signal-leaves pre started write-holding take-oldest.0 take-oldest.1
 
-pub begin-job-spec : {M : Type 1} → statement M
-begin-job-spec =
+pub begin_job_spec : {M : Type 1} → statement M
+begin_job_spec =
     tie.close
     (tie.spec
     (λ c κs. search rules)

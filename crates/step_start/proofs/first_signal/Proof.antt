@@ -81,8 +81,8 @@ returns-3 c =
     first_goes s.requires.0 s.args.t.0 s.requires.1 (first o.before) o.other-holder.result o.other-holder.ensures
     (omega (arith, c.if2.false))
 
-pub first-signal-spec : {M : Type 1} → statement M
-first-signal-spec =
+pub first_signal_spec : {M : Type 1} → statement M
+first_signal_spec =
     tie.close
     (tie.spec
     (λ c κs. search rules)

@@ -14,5 +14,5 @@ take-requires c κs =
 returns : tie.Need-returns
 returns c = runs_as c.take.ensures refl (ap begin c.before.before.oldest.ensures.0)
 
-pub started-spec : {M : Type 1} → statement M
-started-spec = tie.close (tie.spec (λ c κs. search rules) take-requires returns)
+pub started_spec : {M : Type 1} → statement M
+started_spec = tie.close (tie.spec (λ c κs. search rules) take-requires returns)

@@ -41,8 +41,8 @@ returns c =
     s.args.r.now a s.args.u s.args.v first.result fits.first fits.second first.ensures.0 first.ensures.1
     (rw second.0 (rw block-field.ensures at store-second.ensures))
 
-pub store-both-spec : {M : Type 1} → statement M
-store-both-spec =
+pub store_both_spec : {M : Type 1} → statement M
+store_both_spec =
     tie.close
     (tie.spec
     (λ c κs. search rules)

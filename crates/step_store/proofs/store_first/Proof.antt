@@ -117,8 +117,8 @@ returns-2 c =
           (rw block.ensures at stored),
     )
 
-pub store-first-spec : {M : Type 1} → statement M
-store-first-spec =
+pub store_first_spec : {M : Type 1} → statement M
+store_first_spec =
     tie.close
     (tie.spec
     (λ c κs. search rules)

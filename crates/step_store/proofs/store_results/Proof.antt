@@ -26,8 +26,8 @@ returns-2 c =
     s.args.r.now a s.args.u s.args.v first.result fits.first fits.second first.ensures.0 first.ensures.1
     0 one
 
-pub store-results-spec : {M : Type 1} → statement M
-store-results-spec =
+pub store_results_spec : {M : Type 1} → statement M
+store_results_spec =
     tie.close
     (tie.spec
     (λ c κs. search rules)

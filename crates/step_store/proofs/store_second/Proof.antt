@@ -58,8 +58,8 @@ returns-2 c =
     (word-written _ _ s.pre.0 (word_count * s.args.block.0 + k) s.args.v (omega (arith, s.pre.3))
     c.before.before.write_word.ensures)
 
-pub store-second-spec : {M : Type 1} → statement M
-store-second-spec =
+pub store_second_spec : {M : Type 1} → statement M
+store_second_spec =
     tie.close
     (tie.spec
     assign-register-requires

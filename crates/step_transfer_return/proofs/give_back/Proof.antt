@@ -62,8 +62,8 @@ returns-3 c =
     thread-stepped h.ready s.args.t.0 Moved h.inside law
     (rw operand-count.ensures at return-to-caller.ensures) write-thread.ensures
 
-pub give-back-spec : {M : Type 1} → statement M
-give-back-spec =
+pub give_back_spec : {M : Type 1} → statement M
+give_back_spec =
     tie.close
     (tie.spec
     read-data-requires

@@ -64,8 +64,8 @@ returns-2 c =
     thread-stepped h.ready s.args.t.0 Moved h.inside law (rw (label-a.ensures, operand-count.ensures) at transfer.ensures)
     write-thread.ensures
 
-pub transfer-spec : {M : Type 1} → statement M
-transfer-spec =
+pub transfer_spec : {M : Type 1} → statement M
+transfer_spec =
     tie.close
     (tie.spec
     read-data-requires

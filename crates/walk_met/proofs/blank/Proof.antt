@@ -32,8 +32,8 @@ returns c =
     let e : at.loop.i ≡ thread_count = omega arith in
     at.loop.invariant.2 ∙ rw (drop_of_length-le at.before.args.met.now h, append-nil, e)
 
-pub blank-spec : {M : Type 1} → statement M
-blank-spec =
+pub blank_spec : {M : Type 1} → statement M
+blank_spec =
     tie.close
     (tie.spec
     invariant-loop

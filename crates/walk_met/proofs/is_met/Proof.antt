@@ -48,8 +48,8 @@ returns-2 c =
     let a = c.before.before.before.before.args in
     rw (← t.ensures) (sym (l.invariant.1 ∙ among_none a.met.now t.result a.n l.k c.loop-test.false))
 
-pub is-met-spec : {M : Type 1} → statement M
-is-met-spec =
+pub is_met_spec : {M : Type 1} → statement M
+is_met_spec =
     tie.close
     (tie.spec
     invariant-loop

@@ -107,8 +107,8 @@ walk-on-returns-4 t c =
     let s = c.before.before.before.before.before in
     full _ s.args.met.now s.args.n _ s.requires.1.2 c.if1.false
 
-pub +walk-on-spec : {M : Type 1} → statement M
-+walk-on-spec = close μ-walk-on λ t. walk-on-lts.spec (callees t)
+pub +walk_on_spec : {M : Type 1} → statement M
++walk_on_spec = close μ-walk-on λ t. walk-on-lts.spec (callees t)
     (walk-on-at t)
     walk-on.Post
     (λ c κs. search rules)

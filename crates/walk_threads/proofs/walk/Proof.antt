@@ -25,5 +25,5 @@ returns c =
     from-none (awaits R m) _ a.t.0 _ _ c.before.before.before.before.before.before.blank.ensures
     c.before.before.walk-on.ensures.0 c.before.before.walk-on.ensures.1
 
-pub walk-spec : {M : Type 1} → statement M
-walk-spec = tie.close (tie.spec blank-requires walk-on-requires same_length returns)
+pub walk_spec : {M : Type 1} → statement M
+walk_spec = tie.close (tie.spec blank-requires walk-on-requires same_length returns)

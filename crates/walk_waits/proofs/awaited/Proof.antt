@@ -27,8 +27,8 @@ running-waits-requires c κs =
     c.before.before.before.before.read-thread.ensures
     (sym c.before.before.before.is-idle.ensures ∙ c.before.before.if1.false) c.record_of.ensures.0
 
-pub awaited-spec : {M : Type 1} → statement M
-awaited-spec =
+pub awaited_spec : {M : Type 1} → statement M
+awaited_spec =
     tie.close
     (tie.spec
     (λ c κs. search rules)

@@ -18,8 +18,8 @@ returns-3 c =
     let s = c.before.before.before.before.before.before in
     waits-first s.requires.0 s.args.t.0 s.requires.1 c.before.before.first-signal.ensures _ c.enum-told2.given.1
 
-pub idle-waits-spec : {M : Type 1} → statement M
-idle-waits-spec =
+pub idle_waits_spec : {M : Type 1} → statement M
+idle_waits_spec =
     tie.close
     (tie.spec
     (λ c κs. search rules)

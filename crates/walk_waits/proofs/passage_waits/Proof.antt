@@ -5,8 +5,8 @@ use Rattle.walk_waits.proofs.passage_waits.Tie as tie
 returns-2 : tie.Need-returns-2
 returns-2 c = rw c.before.p.given.1
 
-pub passage-waits-spec : {M : Type 1} → statement M
-passage-waits-spec =
+pub passage_waits_spec : {M : Type 1} → statement M
+passage_waits_spec =
     tie.close
     (tie.spec
     (λ c. search rules)

@@ -30,8 +30,8 @@ returns-3 : tie.Need-returns-3
 returns-3 c = waits-nobody c.before.before.before.before.before.before.requires
     (opcode-other c.before.before.before.before.before.before.args.r.now c.match.rest.0.1 c.match.rest.1)
 
-pub running-waits-spec : {M : Type 1} → statement M
-running-waits-spec =
+pub running_waits_spec : {M : Type 1} → statement M
+running_waits_spec =
     tie.close
     (tie.spec
     (λ c. search rules)

@@ -36,8 +36,8 @@ returns-2 c =
     let l = c.before.loop in
     halved-all a.s.now a.at a.n (a.n / 16 * 8) l.set l.k (omega arith) refl (omega arith) l.invariant
 
-pub all-zero-spec : {M : Type 1} → statement M
-all-zero-spec =
+pub all_zero_spec : {M : Type 1} → statement M
+all_zero_spec =
     tie.close
     (tie.spec
     invariant-loop

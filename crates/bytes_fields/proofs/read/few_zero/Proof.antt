@@ -27,8 +27,8 @@ returns c =
     let l = c.before.loop in
     gathered-all a.s.now a.at a.n l.set l.k l.invariant c.loop-test.false
 
-pub few-zero-spec : {M : Type 1} → statement M
-few-zero-spec =
+pub few_zero_spec : {M : Type 1} → statement M
+few_zero_spec =
     tie.close
     (tie.spec
     invariant-loop

@@ -9,8 +9,8 @@ returns : tie.Need-returns
 unfolding num16
 returns c = rw (get_or-drop, get_or-drop, add-zero) c.join16.ensures
 
-pub get16-spec : {M : Type 1} → statement M
-get16-spec =
+pub get16_spec : {M : Type 1} → statement M
+get16_spec =
     tie.close
     (tie.spec
     (λ c. search rules)

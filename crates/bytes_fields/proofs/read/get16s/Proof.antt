@@ -41,8 +41,8 @@ returns c =
     let e : l.k ≡ length c.before.before.before.before.args.out.now = omega arith in
     sym (take_all l.k l.out c.loop-test.false) ∙ l.invariant.2 ∙ rw e
 
-pub get16s-spec : {M : Type 1} → statement M
-get16s-spec =
+pub get16s_spec : {M : Type 1} → statement M
+get16s_spec =
     tie.close
     (tie.spec
     invariant-loop

@@ -7,5 +7,5 @@ use Rattle.bytes_fields.proofs.read.get32.Tie as tie
 returns : tie.Need-returns
 returns c = rw num32-drop (c.join32.ensures ∙ cc)
 
-pub get32-spec : {M : Type 1} → statement M
-get32-spec = tie.close (tie.spec (λ c κs. search rules) (λ c. search rules) (λ c κs. search rules) (λ c κs. search rules) returns)
+pub get32_spec : {M : Type 1} → statement M
+get32_spec = tie.close (tie.spec (λ c κs. search rules) (λ c. search rules) (λ c κs. search rules) (λ c κs. search rules) returns)

@@ -13,8 +13,8 @@ returns-2 c =
     (many-all a.s.now a.at a.n _ _ _ (omega arith) (omega arith) (omega arith) (omega arith) (omega arith) (omega arith)
     (omega arith))
 
-pub many-zero-spec : {M : Type 1} → statement M
-many-zero-spec =
+pub many_zero_spec : {M : Type 1} → statement M
+many_zero_spec =
     tie.close
     (tie.spec
     (λ c κs. omega arith)

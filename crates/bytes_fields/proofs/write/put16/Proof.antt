@@ -8,7 +8,7 @@ returns : tie.Need-returns
 unfolding put
 returns c = rw add-one
 
-pub put16-spec : {M : Type 1} → statement M
-put16-spec =
+pub put16_spec : {M : Type 1} → statement M
+put16_spec =
     tie.close (tie.spec (λ c. search rules) (λ c. search rules) (λ c. search rules) (λ c. search rules) (λ c. search rules)
     (λ c. search rules) returns)

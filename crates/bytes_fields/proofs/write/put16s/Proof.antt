@@ -39,8 +39,8 @@ returns c =
     let l = c.before.loop in
     l.invariant.2 ∙ rw (take_all l.k _ c.loop-test.false)
 
-pub put16s-spec : {M : Type 1} → statement M
-put16s-spec =
+pub put16s_spec : {M : Type 1} → statement M
+put16s_spec =
     tie.close
     (tie.spec
     invariant-loop

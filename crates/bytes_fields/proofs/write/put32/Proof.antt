@@ -8,8 +8,8 @@ returns : tie.Need-returns
 returns c = put_then _ _ _ _ _ c.before.before.before.before.before.before.put16.ensures c.before.before.put162.ensures
     refl
 
-pub put32-spec : {M : Type 1} → statement M
-put32-spec =
+pub put32_spec : {M : Type 1} → statement M
+put32_spec =
     tie.close
     (tie.spec
     (λ c. search rules)

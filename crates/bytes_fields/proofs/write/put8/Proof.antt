@@ -8,5 +8,5 @@ returns : tie.Need-returns
 unfolding put
 returns c = refl
 
-pub put8-spec : {M : Type 1} → statement M
-put8-spec = tie.close (tie.spec (λ c. search rules) (λ c. search rules) returns)
+pub put8_spec : {M : Type 1} → statement M
+put8_spec = tie.close (tie.spec (λ c. search rules) (λ c. search rules) returns)

@@ -31,8 +31,8 @@ returns c =
     put_then _ _ _ _ _ (rw e at l.invariant.2) c.before.before.clear.ensures
     (rw (length_part a.s.now (a.at + a.n) a.more c.before.before.before.before.before.before.before.requires))
 
-pub remove-spec : {M : Type 1} → statement M
-remove-spec =
+pub remove_spec : {M : Type 1} → statement M
+remove_spec =
     tie.close
     (tie.spec
     invariant-loop

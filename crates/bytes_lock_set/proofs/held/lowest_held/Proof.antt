@@ -11,8 +11,8 @@ returns c = rw c.lock-of.ensures (sym (ap lowest_by (zeros-lowest c.before.befor
 returns-2 : tie.Need-returns-2
 returns-2 c = sym (ap lowest_by (zeros-none c.before.args.set c.if1.false))
 
-pub lowest-held-spec : {M : Type 1} → statement M
-lowest-held-spec =
+pub lowest_held_spec : {M : Type 1} → statement M
+lowest_held_spec =
     tie.close
     (tie.spec
     (λ c. search rules)

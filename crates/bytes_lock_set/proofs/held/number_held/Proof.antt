@@ -6,5 +6,5 @@ use Rattle.bytes_lock_set.proofs.held.number_held.Tie as tie
 returns : tie.Need-returns
 returns c = ones-held c.args.set (omega arith)
 
-pub number-held-spec : {M : Type 1} → statement M
-number-held-spec = tie.close (tie.spec returns)
+pub number_held_spec : {M : Type 1} → statement M
+number_held_spec = tie.close (tie.spec returns)

@@ -35,8 +35,8 @@ returns-2 c =
     let a = (start d).args in
     simp (c.signal-tidy.ensures, c.before.entry-field.ensures, here d) (sym (arrival-at a.image.now a.s.now a.at))
 
-pub arrival-ok-spec : {M : Type 1} → statement M
-arrival-ok-spec =
+pub arrival_ok_spec : {M : Type 1} → statement M
+arrival_ok_spec =
     tie.close
     (tie.spec
     (λ c. search rules)

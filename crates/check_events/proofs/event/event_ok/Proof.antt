@@ -14,8 +14,8 @@ returns-2 c =
     let a = c.before.before.before.before.before.args in
     rw c.arrival-ok.ensures (sym (event-at a.image.now a.events.now a.at ∙ rw c.before.if1.false))
 
-pub event-ok-spec : {M : Type 1} → statement M
-event-ok-spec =
+pub event_ok_spec : {M : Type 1} → statement M
+event_ok_spec =
     tie.close
     (tie.spec
     (λ c. search rules)

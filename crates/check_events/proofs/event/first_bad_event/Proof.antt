@@ -44,8 +44,8 @@ returns-2 c =
     let e : a.m ≡ l.at / event_size = omega arith in
     e ∙ none (event_at_ok a.image.now a.events.now) a.m (l.at / event_size) l.invariant.1 (omega arith)
 
-pub first-bad-event-spec : {M : Type 1} → statement M
-first-bad-event-spec =
+pub first_bad_event_spec : {M : Type 1} → statement M
+first_bad_event_spec =
     tie.close
     (tie.spec
     invariant-loop

@@ -9,8 +9,8 @@ returns c =
     let a = c.before.before.before.args in
     simp (c.all-zero.ensures, c.before.get8.ensures.0) (sym (turn_at a.s.now a.at))
 
-pub turn-ok-spec : {M : Type 1} → statement M
-turn-ok-spec =
+pub turn_ok_spec : {M : Type 1} → statement M
+turn_ok_spec =
     tie.close
     (tie.spec
     (λ c. search rules)

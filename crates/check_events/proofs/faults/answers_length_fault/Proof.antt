@@ -7,8 +7,8 @@ returns : tie.Need-returns
 unfolding answers_length_fault
 returns c = c.refuse.ensures
 
-pub answers-length-fault-spec : {M : Type 1} → statement M
-answers-length-fault-spec =
+pub answers_length_fault_spec : {M : Type 1} → statement M
+answers_length_fault_spec =
     tie.close
     (tie.spec
     (λ c. search rules)

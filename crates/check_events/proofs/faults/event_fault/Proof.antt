@@ -20,8 +20,8 @@ returns : tie.Need-returns
 unfolding event_fault
 returns c = simp (c.refuse.ensures, c.before.first-bad-event.ensures)
 
-pub event-fault-spec : {M : Type 1} → statement M
-event-fault-spec =
+pub event_fault_spec : {M : Type 1} → statement M
+event_fault_spec =
     tie.close
     (tie.spec
     (λ c κs. search rules)

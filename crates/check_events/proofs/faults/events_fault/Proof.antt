@@ -21,8 +21,8 @@ returns-2 c =
     (c.before.before.event-fault.result ∷ c.before.answers-length-fault.result ∷ [])
     (sym c.before.before.before.before.events-length-fault.ensures ∙ c.before.before.before.if1.false)))
 
-pub events-fault-spec : {M : Type 1} → statement M
-events-fault-spec =
+pub events_fault_spec : {M : Type 1} → statement M
+events_fault_spec =
     tie.close
     (tie.spec
     (λ c κs. search rules)

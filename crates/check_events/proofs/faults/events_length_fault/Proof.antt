@@ -7,8 +7,8 @@ returns : tie.Need-returns
 unfolding events_length_fault
 returns c = c.refuse.ensures
 
-pub events-length-fault-spec : {M : Type 1} → statement M
-events-length-fault-spec =
+pub events_length_fault_spec : {M : Type 1} → statement M
+events_length_fault_spec =
     tie.close
     (tie.spec
     (λ c. search rules)

@@ -27,8 +27,8 @@ returns-2 c =
     c.events-fault.ensures ∙ sym (after xs (events_faults a.image.now a.events.now a.answers.now)
     (sym e ∙ c.before.if1.false))
 
-pub run-fault-spec : {M : Type 1} → statement M
-run-fault-spec =
+pub run_fault_spec : {M : Type 1} → statement M
+run_fault_spec =
     tie.close
     (tie.spec
     (λ c κs. search rules)

@@ -26,8 +26,8 @@ returns c =
     let l = c.before.loop in
     scanned-all c.before.before.before.args.state.now l.taken l.ok l.t l.invariant c.loop-test.false
 
-pub locks-apart-spec : {M : Type 1} → statement M
-locks-apart-spec =
+pub locks_apart_spec : {M : Type 1} → statement M
+locks_apart_spec =
     tie.close
     (tie.spec
     invariant-loop

@@ -14,5 +14,5 @@ returns-2 c =
     let a = c.before.before.before.before.args in
     c.before.get162.ensures ∙ sym (running-locks a.s.now a.at (λ e. c.if1.false (c.before.before.get16.ensures ∙ e)))
 
-pub locks-at-spec : {M : Type 1} → statement M
-locks-at-spec = tie.close (tie.spec (λ c κs. search rules) (λ c. search rules) (λ c κs. search rules) returns returns-2)
+pub locks_at_spec : {M : Type 1} → statement M
+locks_at_spec = tie.close (tie.spec (λ c κs. search rules) (λ c. search rules) (λ c κs. search rules) returns returns-2)

@@ -20,5 +20,5 @@ returns-2 c =
     sym (eq-eqb (bit_and a.a a.b) 0 (lowest-none (bit_and a.a a.b) (omega (arith, and_le_l a.a a.b))
     (sym e ∙ c.enum-told2.given.1)))
 
-pub none-in-both-spec : {M : Type 1} → statement M
-none-in-both-spec = tie.close (tie.spec (λ c κs. search rules) (λ c. search rules) (λ c. search rules) returns returns-2)
+pub none_in_both_spec : {M : Type 1} → statement M
+none_in_both_spec = tie.close (tie.spec (λ c κs. search rules) (λ c. search rules) (λ c. search rules) returns returns-2)

@@ -31,6 +31,6 @@ returns-2 c =
     ∙ rest s.args.r.now 5 s.requires.0 (omega (arith, s.requires.1)) (omega arith)
     ∙ sym (all_split (operand_slot_ok s.args.r.now) 0 5 20 ∙ rw good refl)
 
-pub few-ok-spec : {M : Type 1} → statement M
-few-ok-spec =
+pub few_ok_spec : {M : Type 1} → statement M
+few_ok_spec =
     tie.close (tie.spec (λ c κs. search rules) (λ c κs. search rules) returns (λ c κs. search rules) returns-2)

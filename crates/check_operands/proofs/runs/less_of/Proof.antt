@@ -8,5 +8,5 @@ returns c = rw c.if1.true
 returns-2 : tie.Need-returns-2
 returns-2 c = rw (ne_eqb _ 3 c.if1.false)
 
-pub less-of-spec : {M : Type 1} → statement M
-less-of-spec = tie.close (tie.spec returns returns-2)
+pub less_of_spec : {M : Type 1} → statement M
+less_of_spec = tie.close (tie.spec returns returns-2)

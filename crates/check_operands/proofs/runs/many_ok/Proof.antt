@@ -19,7 +19,7 @@ returns c =
     )
     (other-runs s.args.r.now bytes s.args.c s.requires.1)
 
-pub many-ok-spec : {M : Type 1} → statement M
-many-ok-spec =
+pub many_ok_spec : {M : Type 1} → statement M
+many_ok_spec =
     tie.close
     (tie.spec (λ c κs. search rules) (λ c. search rules) (λ c κs. search rules) (λ c κs. search rules) returns)

@@ -8,5 +8,5 @@ returns c = rw c.if1.true
 returns-2 : tie.Need-returns-2
 returns-2 c = rw (ne_eqb _ 1 c.if1.false)
 
-pub most-of-spec : {M : Type 1} → statement M
-most-of-spec = tie.close (tie.spec returns returns-2)
+pub most_of_spec : {M : Type 1} → statement M
+most_of_spec = tie.close (tie.spec returns returns-2)

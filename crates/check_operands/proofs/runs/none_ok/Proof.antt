@@ -8,5 +8,5 @@ returns c =
     let s = c.before.before in
     c.all-zero.ensures ∙ rest s.args.r.now 0 s.requires.0 (omega (arith, s.requires.1)) (omega arith)
 
-pub none-ok-spec : {M : Type 1} → statement M
-none-ok-spec = tie.close (tie.spec (λ c κs. search rules) returns)
+pub none_ok_spec : {M : Type 1} → statement M
+none_ok_spec = tie.close (tie.spec (λ c κs. search rules) returns)

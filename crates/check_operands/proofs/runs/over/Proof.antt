@@ -11,5 +11,5 @@ returns c =
 returns-2 : tie.Need-returns-2
 returns-2 c = sym (le-leb c.before.args.x c.before.args.bound (omega arith))
 
-pub over-spec : {M : Type 1} → statement M
-over-spec = tie.close (tie.spec (λ c. search rules) returns returns-2)
+pub over_spec : {M : Type 1} → statement M
+over_spec = tie.close (tie.spec (λ c. search rules) returns returns-2)

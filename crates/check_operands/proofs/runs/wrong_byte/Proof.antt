@@ -15,5 +15,5 @@ returns-2 : tie.Need-returns-2
 unfolding byte_ok
 returns-2 c = rw c.if1.false refl
 
-pub wrong-byte-spec : {M : Type 1} → statement M
-wrong-byte-spec = tie.close (tie.spec (λ c κs. search rules) (λ c κs. search rules) returns returns-2)
+pub wrong_byte_spec : {M : Type 1} → statement M
+wrong_byte_spec = tie.close (tie.spec (λ c κs. search rules) (λ c κs. search rules) returns returns-2)

@@ -14,8 +14,8 @@ returns c = rw (
   c.wrong-run4.ensures,
 )
 
-pub wrong-rest-spec : {M : Type 1} → statement M
-wrong-rest-spec =
+pub wrong_rest_spec : {M : Type 1} → statement M
+wrong_rest_spec =
     tie.close
     (tie.spec (λ c κs. search rules) (λ c. search rules) (λ c κs. search rules) (λ c. search rules) (λ c κs. search rules)
     (λ c. search rules) (λ c κs. search rules) returns)

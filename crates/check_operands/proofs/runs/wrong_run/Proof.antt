@@ -46,8 +46,8 @@ returns c =
     let test = run_ok s.args.r.now s.args.at s.args.end in
     rw (← l.invariant.2, all_done test run_size l.i (omega arith), and-true)
 
-pub wrong-run-spec : {M : Type 1} → statement M
-wrong-run-spec =
+pub wrong_run_spec : {M : Type 1} → statement M
+wrong_run_spec =
     tie.close
     (tie.spec
     invariant-loop

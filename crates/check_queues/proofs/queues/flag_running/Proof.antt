@@ -50,8 +50,8 @@ returns c =
     sym (take_all l.t l.flags (omega arith)) ∙ l.invariant.2
     ∙ rw e (sym (map-chunks thread_from thread_size flag thread_count (drop threads_place s)))
 
-pub flag-running-spec : {M : Type 1} → statement M
-flag-running-spec =
+pub flag_running_spec : {M : Type 1} → statement M
+flag_running_spec =
     tie.close
     (tie.spec
     invariant-loop

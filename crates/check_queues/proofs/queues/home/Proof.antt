@@ -37,8 +37,8 @@ thread-at-requires c κs =
 returns-2 : tie.Need-returns-2
 returns-2 c = c.thread-at.ensures ∙ rw (found c.before)
 
-pub home-spec : {M : Type 1} → statement M
-home-spec =
+pub home_spec : {M : Type 1} → statement M
+home_spec =
     tie.close
     (tie.spec
     (λ c κs. search rules)

@@ -20,8 +20,8 @@ returns-2 c =
     )
     (sym (homed-some a.image.now a.table.now a.s.now a.at c.before.before.before.before.before.if1.false))
 
-pub is-homed-spec : {M : Type 1} → statement M
-is-homed-spec =
+pub is_homed_spec : {M : Type 1} → statement M
+is_homed_spec =
     tie.close
     (tie.spec
     (λ c. search rules)

@@ -99,8 +99,8 @@ returns-3 c =
     c.all-zero.ensures ∙ passing-all a.image.now a.table.now a.state.now a.count l.unmet l.i l.invariant
     c.before.before.loop-test.false
 
-pub trees-good-spec : {M : Type 1} → statement M
-trees-good-spec =
+pub trees_good_spec : {M : Type 1} → statement M
+trees_good_spec =
     tie.close
     (tie.spec
     invariant-loop

@@ -38,5 +38,5 @@ returns c =
       record-byte image v s.requires entry_place 0 (omega arith),
     )
 
-pub label-ok-spec : {M : Type 1} → statement M
-label-ok-spec = tie.close (tie.spec mul-get16 add-get16 get16-requires (λ c κs. search rules) returns)
+pub label_ok_spec : {M : Type 1} → statement M
+label_ok_spec = tie.close (tie.spec mul-get16 add-get16 get16-requires (λ c κs. search rules) returns)

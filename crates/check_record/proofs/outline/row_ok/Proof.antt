@@ -63,8 +63,8 @@ returns-4 c =
     let s = tests.before.before.before.before.before.before in
     rw (sum-passed tests.before.before, zeros-passed tests, ← s.requires.1, first-passed first, ← s.requires.2) c.label-ok2.ensures
 
-pub row-ok-spec : {M : Type 1} → statement M
-row-ok-spec =
+pub row_ok_spec : {M : Type 1} → statement M
+row_ok_spec =
     tie.close
     (tie.spec
     (λ c κs. search rules)

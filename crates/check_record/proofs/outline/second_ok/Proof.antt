@@ -5,8 +5,8 @@ use Rattle.check_record.proofs.outline.second_ok.Tie as tie
 returns : tie.Need-returns
 returns c = rw (c.before.get162.ensures, c.before.before.get16.ensures)
 
-pub second-ok-spec : {M : Type 1} → statement M
-second-ok-spec =
+pub second_ok_spec : {M : Type 1} → statement M
+second_ok_spec =
     tie.close
     (tie.spec
     (λ c. search rules)

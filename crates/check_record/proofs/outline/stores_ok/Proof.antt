@@ -14,5 +14,5 @@ returns-2 : tie.Need-returns-2
 unfolding stores_ok
 returns-2 c = rw (ne_eqb _ 12 c.if1.false) (sym (and-true _))
 
-pub stores-ok-spec : {M : Type 1} → statement M
-stores-ok-spec = tie.close (tie.spec (λ c. search rules) (λ c κs. search rules) returns returns-2)
+pub stores_ok_spec : {M : Type 1} → statement M
+stores_ok_spec = tie.close (tie.spec (λ c. search rules) (λ c κs. search rules) returns returns-2)

@@ -13,8 +13,8 @@ returns c =
     rw (c.before.before.wide.ensures.0, c.wide2.ensures.0)
     (ap (λ n. eqb n 1) (and_mask (a.sums / 2 ^ summed a.r.now) 1))
 
-pub sum-ok-spec : {M : Type 1} → statement M
-sum-ok-spec =
+pub sum_ok_spec : {M : Type 1} → statement M
+sum_ok_spec =
     tie.close
     (tie.spec (λ c. search rules) (λ c κs. search rules) (λ c. search rules) (λ c κs. search rules) (λ c. search rules)
     (λ c. search rules) (λ c. search rules) (λ c. search rules) returns)

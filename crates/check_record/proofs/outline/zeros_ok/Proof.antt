@@ -6,5 +6,5 @@ use Rattle.check_record.proofs.outline.zeros_ok.Tie as tie
 returns : tie.Need-returns
 returns c = rw c.get64.ensures refl
 
-pub zeros-ok-spec : {M : Type 1} → statement M
-zeros-ok-spec = tie.close (tie.spec (λ c κs. search rules) returns)
+pub zeros_ok_spec : {M : Type 1} → statement M
+zeros_ok_spec = tie.close (tie.spec (λ c κs. search rules) returns)

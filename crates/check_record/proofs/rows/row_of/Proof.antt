@@ -82,8 +82,8 @@ returns-14 c =
     ) in
     rw none c.row-by14.ensures
 
-pub row-of-spec : {M : Type 1} → statement M
-row-of-spec =
+pub row_of_spec : {M : Type 1} → statement M
+row_of_spec =
     tie.close
     (tie.spec
     (λ c. search rules)

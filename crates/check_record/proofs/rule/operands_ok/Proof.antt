@@ -24,8 +24,8 @@ returns-4 c =
     let stores = c.before.before in
     rw (← stores.stores-ok.ensures, not-false stores.stores-ok.result c.before.if3.false) c.few-ok.ensures
 
-pub operands-ok-spec : {M : Type 1} → statement M
-operands-ok-spec =
+pub operands_ok_spec : {M : Type 1} → statement M
+operands_ok_spec =
     tie.close
     (tie.spec
     (λ c. search rules)

@@ -88,8 +88,8 @@ returns-5 c =
     let good = rw (not-false row.row_ok.result c.before.if4.false) at (outlined row) in
     rw (rule s.args.image.now s.args.r.now, ← good) c.operands-ok.ensures
 
-pub rule-ok-spec : {M : Type 1} → statement M
-rule-ok-spec =
+pub rule_ok_spec : {M : Type 1} → statement M
+rule_ok_spec =
     tie.close
     (tie.spec
     (λ c κs. search rules)

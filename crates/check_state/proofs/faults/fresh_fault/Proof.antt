@@ -25,8 +25,8 @@ returns-2 c =
     (c.first_of.ensures ∙ sym (after xs (c.before.before.state-length-fault.result ∷ c.before.words-length-fault.result ∷ [])
     (sym c.before.before.before.before.image-fault.ensures ∙ c.before.before.before.if1.false)))
 
-pub fresh-fault-spec : {M : Type 1} → statement M
-fresh-fault-spec =
+pub fresh_fault_spec : {M : Type 1} → statement M
+fresh_fault_spec =
     tie.close
     (tie.spec
     (λ c κs. search rules)

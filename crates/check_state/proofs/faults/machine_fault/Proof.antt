@@ -50,8 +50,8 @@ returns-3 c =
     ∙ passed (state_length_fault a.state.now) (state_fault a.image.now a.table.now a.state.now ∷ [])
     (sym f ∙ c.before.if2.false) ∙ last (state_fault a.image.now a.table.now a.state.now))
 
-pub machine-fault-spec : {M : Type 1} → statement M
-machine-fault-spec =
+pub machine_fault_spec : {M : Type 1} → statement M
+machine_fault_spec =
     tie.close
     (tie.spec
     (λ c κs. search rules)

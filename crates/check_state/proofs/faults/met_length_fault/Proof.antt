@@ -7,8 +7,8 @@ returns : tie.Need-returns
 unfolding met_length_fault
 returns c = c.refuse.ensures
 
-pub met-length-fault-spec : {M : Type 1} → statement M
-met-length-fault-spec =
+pub met_length_fault_spec : {M : Type 1} → statement M
+met_length_fault_spec =
     tie.close
     (tie.spec
     (λ c κs. search rules)

@@ -8,8 +8,8 @@ returns : tie.Need-returns
 unfolding state_fault
 returns c = c.refuse.ensures ∙ rw c.before.well-formed-2.ensures
 
-pub state-fault-spec : {M : Type 1} → statement M
-state-fault-spec =
+pub state_fault_spec : {M : Type 1} → statement M
+state_fault_spec =
     tie.close
     (tie.spec
     (λ c κs. search rules)

@@ -7,8 +7,8 @@ returns : tie.Need-returns
 unfolding state_length_fault
 returns c = c.refuse.ensures
 
-pub state-length-fault-spec : {M : Type 1} → statement M
-state-length-fault-spec =
+pub state_length_fault_spec : {M : Type 1} → statement M
+state_length_fault_spec =
     tie.close
     (tie.spec
     (λ c κs. search rules)

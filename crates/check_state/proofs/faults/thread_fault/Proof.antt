@@ -7,8 +7,8 @@ returns : tie.Need-returns
 unfolding thread_fault
 returns c = c.refuse.ensures
 
-pub thread-fault-spec : {M : Type 1} → statement M
-thread-fault-spec =
+pub thread_fault_spec : {M : Type 1} → statement M
+thread_fault_spec =
     tie.close
     (tie.spec
     (λ c κs. search rules)

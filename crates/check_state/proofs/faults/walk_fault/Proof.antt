@@ -26,8 +26,8 @@ returns-2 c =
     (c.first_of.ensures ∙ sym (after xs (c.before.before.thread-fault.result ∷ c.before.met-length-fault.result ∷ [])
     (sym c.before.before.before.before.machine-fault.ensures ∙ c.before.before.before.if1.false)))
 
-pub walk-fault-spec : {M : Type 1} → statement M
-walk-fault-spec =
+pub walk_fault_spec : {M : Type 1} → statement M
+walk_fault_spec =
     tie.close
     (tie.spec
     (λ c κs. search rules)

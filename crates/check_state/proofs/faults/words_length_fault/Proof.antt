@@ -7,8 +7,8 @@ returns : tie.Need-returns
 unfolding words_length_fault
 returns c = c.refuse.ensures
 
-pub words-length-fault-spec : {M : Type 1} → statement M
-words-length-fault-spec =
+pub words_length_fault_spec : {M : Type 1} → statement M
+words_length_fault_spec =
     tie.close
     (tie.spec
     (λ c κs. search rules)

@@ -34,8 +34,8 @@ returns-2 c =
     (sym (state-few a.image.now a.table.now a.state.now c.before.before.before.before.before.get8.result
     c.before.before.before.before.before.get8.ensures.0 c.before.before.before.before.if1.false))
 
-pub well-formed-spec : {M : Type 1} → statement M
-well-formed-spec =
+pub well_formed_spec : {M : Type 1} → statement M
+well_formed_spec =
     tie.close
     (tie.spec
     (λ c κs. search rules)

@@ -12,5 +12,5 @@ returns : tie.Need-returns
 returns c = c.Block-of.ensures ∙ ap (λ (n : ℕ). block n) (get_d_any c.before.before.before.args.r.now block_place 0 block_count
     (omega arith))
 
-pub block-field-spec : {M : Type 1} → statement M
-block-field-spec = tie.close (tie.spec (λ c. search rules) (λ c κs. search rules) returns)
+pub block_field_spec : {M : Type 1} → statement M
+block_field_spec = tie.close (tie.spec (λ c. search rules) (λ c κs. search rules) returns)

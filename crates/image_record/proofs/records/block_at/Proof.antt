@@ -23,8 +23,8 @@ returns c =
           c.before.before.before.before.requires block_place block_count (omega arith),
     )
 
-pub block-at-spec : {M : Type 1} → statement M
-block-at-spec =
+pub block_at_spec : {M : Type 1} → statement M
+block_at_spec =
     tie.close
     (tie.spec
     (λ c κs. search rules)

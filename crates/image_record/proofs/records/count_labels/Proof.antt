@@ -11,5 +11,5 @@ returns-2 : tie.Need-returns-2
 unfolding labels
 returns-2 c = simp c.if1.false
 
-pub count-labels-spec : {M : Type 1} → statement M
-count-labels-spec = tie.close (tie.spec (λ c. search rules) returns returns-2)
+pub count_labels_spec : {M : Type 1} → statement M
+count_labels_spec = tie.close (tie.spec (λ c. search rules) returns returns-2)

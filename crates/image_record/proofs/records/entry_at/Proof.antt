@@ -17,6 +17,6 @@ returns c =
     let a = c.before.before.before.args in
     simp (c.before.index_of.ensures, record-byte a.image.now a.at.0 c.before.before.before.requires entry_place 0 (omega arith))
 
-pub entry-at-spec : {M : Type 1} → statement M
-entry-at-spec =
+pub entry_at_spec : {M : Type 1} → statement M
+entry_at_spec =
     tie.close (tie.spec (λ c κs. search rules) (λ c. search rules) (λ c. search rules) shared-slice-read-result returns)

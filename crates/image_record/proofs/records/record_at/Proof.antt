@@ -11,8 +11,8 @@ returns c = c.record_of.ensures.0
 returns-2 : tie.Need-returns-2
 returns-2 c = sym (no_record _ _ (omega arith))
 
-pub record-at-spec : {M : Type 1} → statement M
-record-at-spec =
+pub record_at_spec : {M : Type 1} → statement M
+record_at_spec =
     tie.close
     (tie.spec
     (λ c κs. search rules)

@@ -31,6 +31,6 @@ returns c =
     rw (c.before.index_of.ensures, record-taken a.image.now a.at.0 s.requires)
     (refl, length-record a.image.now a.at.0 s.requires)
 
-pub record-of-spec : {M : Type 1} → statement M
-record-of-spec =
+pub record_of_spec : {M : Type 1} → statement M
+record_of_spec =
     tie.close (tie.spec (λ c κs. search rules) mul-from add-result (λ c. search rules) (λ c. search rules) part-result-end returns)

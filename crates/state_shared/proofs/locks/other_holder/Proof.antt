@@ -40,8 +40,8 @@ returns-2 c =
     let s = c.before.before.before in
     none _ thread_count _ c.before.loop.invariant c.loop-test.false ∙ holder-found _ _ s.requires.0 s.args.lock.0 s.args.t.0
 
-pub other-holder-spec : {M : Type 1} → statement M
-other-holder-spec =
+pub other_holder_spec : {M : Type 1} → statement M
+other_holder_spec =
     tie.close
     (tie.spec
     invariant-loop

@@ -27,8 +27,8 @@ returns-2 c =
       c.before.before.before.thread-number.ensures,
     )
 
-pub passed-spec : {M : Type 1} → statement M
-passed-spec =
+pub passed_spec : {M : Type 1} → statement M
+passed_spec =
     tie.close
     (tie.spec
     (λ c κs. search rules)

@@ -26,8 +26,8 @@ returns c =
     let m = c.before.before.append-tree.ensures in
     (m.0, m.1 ∙ rw (read c.before.before.before).0)
 
-pub append-spec : {M : Type 1} → statement M
-append-spec =
+pub append_spec : {M : Type 1} → statement M
+append_spec =
     tie.close
     (tie.spec
     (λ c κs. omega arith)

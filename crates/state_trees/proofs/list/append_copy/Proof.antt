@@ -15,8 +15,8 @@ returns c =
     let w = whole c.before.before.before.before.before.before.before.before.before.before in
     c.before.before.put8.ensures ∙ rw (c.before.before.before.before.before.before.copy.ensures, w)
 
-pub append-copy-spec : {M : Type 1} → statement M
-append-copy-spec =
+pub append_copy_spec : {M : Type 1} → statement M
+append_copy_spec =
     tie.close
     (tie.spec
     (λ c. omega arith)

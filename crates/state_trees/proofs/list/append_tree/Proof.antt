@@ -19,8 +19,8 @@ returns c =
     c.before.before.before.before.before.before.before.before.tree-count.ensures refl
     c.before.before.before.before.before.before.write-tree.ensures c.before.before.put8.ensures
 
-pub append-tree-spec : {M : Type 1} → statement M
-append-tree-spec =
+pub append_tree_spec : {M : Type 1} → statement M
+append_tree_spec =
     tie.close
     (tie.spec
     (λ c κs. search rules)

@@ -29,8 +29,8 @@ returns-2 c =
       λ u e. m.1 ∙ ended-pending (machine_from a.state.now) a.i u e s.requires.1 a.t.0 l,
     )
 
-pub end-tree-spec : {M : Type 1} → statement M
-end-tree-spec =
+pub end_tree_spec : {M : Type 1} → statement M
+end_tree_spec =
     tie.close
     (tie.spec
     (λ c κs. search rules)

@@ -46,8 +46,8 @@ returns-2 c =
     found c.before.before.before.before.before.requires _ t _ c.before.before.before.thread-number.ensures
     c.before.before.get8.ensures.0 (none (elsewhere b t) c.before.before.get8.result l.i l.invariant c.loop-test.false)
 
-pub first-tree-spec : {M : Type 1} → statement M
-first-tree-spec =
+pub first_tree_spec : {M : Type 1} → statement M
+first_tree_spec =
     tie.close
     (tie.spec
     invariant-loop

@@ -23,8 +23,8 @@ returns-2 c =
     let l : length s.trees ≡ i + 1 = omega arith in
     (p.0, sym (ap (with_trees s) (last-stays s.trees i l)))
 
-pub move-to-end-spec : {M : Type 1} → statement M
-move-to-end-spec =
+pub move_to_end_spec : {M : Type 1} → statement M
+move_to_end_spec =
     tie.close
     (tie.spec
     (λ c. omega arith)

@@ -17,8 +17,8 @@ returns c =
     let r = c.before.before.before.before.before.before.remove-tree.ensures in
     tree-moved p.0 _ p.1 _ p.2 p.3 r.0 r.1 c.before.before.append-copy.ensures
 
-pub reinsert-spec : {M : Type 1} → statement M
-reinsert-spec =
+pub reinsert_spec : {M : Type 1} → statement M
+reinsert_spec =
     tie.close
     (tie.spec
     (λ c κs. search rules)

@@ -10,8 +10,8 @@ returns c =
     tree-removed p.0 _ p.1 _ _ p.2 refl c.before.before.before.before.before.before.remove.ensures
     c.before.before.put8.ensures
 
-pub remove-tree-spec : {M : Type 1} → statement M
-remove-tree-spec =
+pub remove_tree_spec : {M : Type 1} → statement M
+remove_tree_spec =
     tie.close
     (tie.spec
     (λ c. omega arith)

@@ -17,8 +17,8 @@ returns c =
     (omega (arith, length-remove_at a.i s.trees b.requires.1))
     (rw c.before.before.before.thread-number.ensures at c.before.before.put8.ensures)
 
-pub requeue-spec : {M : Type 1} → statement M
-requeue-spec =
+pub requeue_spec : {M : Type 1} → statement M
+requeue_spec =
     tie.close
     (tie.spec
     (λ c κs. search rules)

@@ -14,5 +14,5 @@ returns c =
     let l = (machine_from c.before.before.args.state.now).trees in
     ap (λ (n : ℕ). ltb n tree_count) (c.tree-count.ensures ∙ sym (length-map l (λ (x : Tree). x.thread)))
 
-pub room-spec : {M : Type 1} → statement M
-room-spec = tie.close (tie.spec (λ c κs. search rules) returns)
+pub room_spec : {M : Type 1} → statement M
+room_spec = tie.close (tie.spec (λ c κs. search rules) returns)

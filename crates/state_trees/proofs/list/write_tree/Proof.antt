@@ -12,8 +12,8 @@ returns c =
     let count = put_then _ _ _ _ _ thread c.before.before.before.before.before.before.put82.ensures refl in
     put_then _ _ _ _ _ count c.before.before.write-signal.ensures refl
 
-pub write-tree-spec : {M : Type 1} → statement M
-write-tree-spec =
+pub write_tree_spec : {M : Type 1} → statement M
+write_tree_spec =
     tie.close
     (tie.spec
     (λ c κs. omega arith)

@@ -70,8 +70,8 @@ returns-2 c =
     rw (thread-at.ensures, block_at.ensures, label_of.ensures, get16.ensures) refl in
     full-done s.requires.1 s.requires.2 s.requires.0 t to (sym room.ensures ∙ c.if1.false)
 
-pub arrive-spec : {M : Type 1} → statement M
-arrive-spec =
+pub arrive_spec : {M : Type 1} → statement M
+arrive_spec =
     tie.close
     (tie.spec
     (λ c. omega (arith, c.before.before.before.before.requires.1.room))

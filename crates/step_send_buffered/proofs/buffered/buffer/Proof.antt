@@ -44,8 +44,8 @@ returns c =
     buffered-stepped s.requires.0.0 s.requires.0.1 s.args.values s.requires.0.2 i s.requires.1.0 s.requires.1.1
     moved push.ensures.0 sent go_on.ensures.0
 
-pub buffer-spec : {M : Type 1} → statement M
-buffer-spec =
+pub buffer_spec : {M : Type 1} → statement M
+buffer_spec =
     tie.close
     (tie.spec
     (λ c κs. search rules)

@@ -61,8 +61,8 @@ buffer-requires c κs =
     let l : length (pending_at m first-tree.result) < pending_count = omega (arith, pending.ensures, if2.false) in
     ((s.requires.0, s.requires.1, rw free at read-data.ensures), (first-tree.ensures, l))
 
-pub send-buffered-spec : {M : Type 1} → statement M
-send-buffered-spec =
+pub send_buffered_spec : {M : Type 1} → statement M
+send_buffered_spec =
     tie.close
     (tie.spec
     read-data-requires

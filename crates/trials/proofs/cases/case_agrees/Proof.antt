@@ -8,8 +8,8 @@ invariant-loop line memory lengths at₀ thread₀ at thread = Unit {0}
 abbrev decreases-loop : tie.decreases-loop
 decreases-loop line memory lengths at₀ thread₀ at thread = 8 - thread
 
-pub case-agrees-spec : {M : Type 1} → statement M
-case-agrees-spec =
+pub case_agrees_spec : {M : Type 1} → statement M
+case_agrees_spec =
     tie.close
     (tie.spec
     invariant-loop

@@ -8,8 +8,8 @@ invariant-loop line memory₀ lengths₀ at₀ t5 memory lengths at = Unit {0}
 abbrev decreases-loop : tie.decreases-loop
 decreases-loop line memory₀ lengths₀ at₀ t5 memory lengths at = length line - at
 
-pub apply-spec : {M : Type 1} → statement M
-apply-spec =
+pub apply_spec : {M : Type 1} → statement M
+apply_spec =
     tie.close
     (tie.spec
     invariant-loop

@@ -8,8 +8,8 @@ invariant-loop line at buffer₀ buffer = Unit {0}
 abbrev decreases-loop : tie.decreases-loop
 decreases-loop line at buffer₀ buffer = 9 - buffer
 
-pub buffer-named-spec : {M : Type 1} → statement M
-buffer-named-spec =
+pub buffer_named_spec : {M : Type 1} → statement M
+buffer_named_spec =
     tie.close
     (tie.spec
     invariant-loop

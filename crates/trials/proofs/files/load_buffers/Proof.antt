@@ -8,8 +8,8 @@ invariant-loop folder line memory₀ lengths₀ from to buffer₀ memory lengths
 abbrev decreases-loop : tie.decreases-loop
 decreases-loop folder line memory₀ lengths₀ from to buffer₀ memory lengths buffer = to - buffer
 
-pub load-buffers-spec : {M : Type 1} → statement M
-load-buffers-spec =
+pub load_buffers_spec : {M : Type 1} → statement M
+load_buffers_spec =
     tie.close
     (tie.spec
     invariant-loop

@@ -8,8 +8,8 @@ invariant-loop memory₀ buffer block i₀ memory i = Unit {0}
 abbrev decreases-loop : tie.decreases-loop
 decreases-loop memory₀ buffer block i₀ memory i = 43176 - i
 
-pub exits-spec : {M : Type 1} → statement M
-exits-spec =
+pub exits_spec : {M : Type 1} → statement M
+exits_spec =
     tie.close
     (tie.spec
     invariant-loop

@@ -8,8 +8,8 @@ invariant-loop memory lengths₀ tally₀ n₀ lengths tally n = Unit {0}
 abbrev decreases-loop : tie.decreases-loop
 decreases-loop memory lengths₀ tally₀ n₀ lengths tally n = 43177 - n
 
-pub image-lengths-spec : {M : Type 1} → statement M
-image-lengths-spec =
+pub image_lengths_spec : {M : Type 1} → statement M
+image_lengths_spec =
     tie.close
     (tie.spec
     invariant-loop

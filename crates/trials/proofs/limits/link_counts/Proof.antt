@@ -8,8 +8,8 @@ invariant-loop memory lengths₀ tally₀ n₀ lengths tally n = Unit {0}
 abbrev decreases-loop : tie.decreases-loop
 decreases-loop memory lengths₀ tally₀ n₀ lengths tally n = 512 - n
 
-pub link-counts-spec : {M : Type 1} → statement M
-link-counts-spec =
+pub link_counts_spec : {M : Type 1} → statement M
+link_counts_spec =
     tie.close
     (tie.spec
     invariant-loop

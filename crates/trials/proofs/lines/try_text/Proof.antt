@@ -8,8 +8,8 @@ invariant-loop folder text call memory₀ lengths₀ tally₀ at₀ number₀ me
 abbrev decreases-loop : tie.decreases-loop
 decreases-loop folder text call memory₀ lengths₀ tally₀ at₀ number₀ memory lengths tally at number = length text - at
 
-pub try-text-spec : {M : Type 1} → statement M
-try-text-spec =
+pub try_text_spec : {M : Type 1} → statement M
+try_text_spec =
     tie.close
     (tie.spec
     invariant-loop

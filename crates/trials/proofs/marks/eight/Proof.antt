@@ -8,8 +8,8 @@ invariant-loop part all₀ i₀ all i = Unit {0}
 abbrev decreases-loop : tie.decreases-loop
 decreases-loop part all₀ i₀ all i = 8 - i
 
-pub eight-spec : {M : Type 1} → statement M
-eight-spec =
+pub eight_spec : {M : Type 1} → statement M
+eight_spec =
     tie.close
     (tie.spec
     invariant-loop

@@ -8,8 +8,8 @@ invariant-loop part n hash₀ i₀ hash i = Unit {0}
 abbrev decreases-loop : tie.decreases-loop
 decreases-loop part n hash₀ i₀ hash i = n - i
 
-pub hash-spec : {M : Type 1} → statement M
-hash-spec =
+pub hash_spec : {M : Type 1} → statement M
+hash_spec =
     tie.close
     (tie.spec
     invariant-loop

@@ -8,8 +8,8 @@ invariant-loop list memory₀ lengths₀ at₀ memory lengths at = at ≤ length
 abbrev decreases-loop : tie.decreases-loop
 decreases-loop list memory₀ lengths₀ at₀ memory lengths at = length list - at
 
-pub try-list-spec : {M : Type 1} → statement M
-try-list-spec =
+pub try_list_spec : {M : Type 1} → statement M
+try_list_spec =
     tie.close
     (tie.spec
     invariant-loop

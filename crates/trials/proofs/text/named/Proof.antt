@@ -8,8 +8,8 @@ invariant-loop line name at₀ at = Unit {0}
 abbrev decreases-loop : tie.decreases-loop
 decreases-loop line name at₀ at = length line - at
 
-pub named-spec : {M : Type 1} → statement M
-named-spec =
+pub named_spec : {M : Type 1} → statement M
+named_spec =
     tie.close
     (tie.spec
     invariant-loop

@@ -8,8 +8,8 @@ invariant-loop text at b i₀ i = (at ≤ i) × (i ≤ length text)
 abbrev decreases-loop : tie.decreases-loop
 decreases-loop text at b i₀ i = length text - i
 
-pub next-spec : {M : Type 1} → statement M
-next-spec =
+pub next_spec : {M : Type 1} → statement M
+next_spec =
     tie.close
     (tie.spec
     invariant-loop

@@ -8,8 +8,8 @@ invariant-loop text at n₀ i₀ n i = (n < 10000000000000)
 abbrev decreases-loop : tie.decreases-loop
 decreases-loop text at n₀ i₀ n i = length text - i
 
-pub number-spec : {M : Type 1} → statement M
-number-spec =
+pub number_spec : {M : Type 1} → statement M
+number_spec =
     tie.close
     (tie.spec
     invariant-loop

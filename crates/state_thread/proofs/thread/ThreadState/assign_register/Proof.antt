@@ -19,6 +19,6 @@ returns c =
     z.sized
     p.1)))
 
-pub assign-register-spec : {M : Type 1} → statement M
-assign-register-spec =
+pub assign_register_spec : {M : Type 1} → statement M
+assign_register_spec =
     tie.close (tie.spec (λ c. search rules) (λ c. search rules) (λ c κs. search rules) returns)

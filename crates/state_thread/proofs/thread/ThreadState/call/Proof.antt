@@ -25,8 +25,8 @@ returns c =
     rw c.before.label-number.ensures (pushed w.depth w.returns s.requires.0.tidy.returns a.back.0 s.requires.1) in
     runs_as c.enter.ensures refl (ap (λ l. keeping w (job a.label.0 l (fill (take a.count a.values)))) e)
 
-pub call-spec : {M : Type 1} → statement M
-call-spec =
+pub call_spec : {M : Type 1} → statement M
+call_spec =
     tie.close
     (tie.spec
     (λ c κs. search rules)

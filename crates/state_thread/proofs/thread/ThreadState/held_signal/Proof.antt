@@ -19,6 +19,6 @@ returns c =
     let w = s.args.self in
     held_at w.held w.signals s.requires.0.tidy.held s.args.i s.requires.1 c.read-signal.ensures
 
-pub held-signal-spec : {M : Type 1} → statement M
-held-signal-spec =
+pub held_signal_spec : {M : Type 1} → statement M
+held_signal_spec =
     tie.close (tie.spec (λ c. search rules) (λ c. search rules) read-signal-requires returns)

@@ -12,5 +12,5 @@ returns c =
     running-thread _ _ _ p.0.label p.0.tidy.returns p.0.tidy.registers p.0.tidy.held
     (rw (c.before.lock-number.ensures, one-mul, mod-eq_of_lt (pow-lt p.1))) refl
 
-pub hold-spec : {M : Type 1} → statement M
-hold-spec = tie.close (tie.spec (λ c κs. omega arith) (λ c. omega arith) (λ c. omega arith) returns)
+pub hold_spec : {M : Type 1} → statement M
+hold_spec = tie.close (tie.spec (λ c κs. omega arith) (λ c. omega arith) (λ c. omega arith) returns)

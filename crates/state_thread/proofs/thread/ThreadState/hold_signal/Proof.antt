@@ -26,6 +26,6 @@ returns c =
     rw c.before.write-signal.ensures
     (running-thread _ _ _ p.label p.tidy.returns p.tidy.registers h.1 refl (ap (λ gs. with_held gs (job_of w)) h.0))
 
-pub hold-signal-spec : {M : Type 1} → statement M
-hold-signal-spec =
+pub hold_signal_spec : {M : Type 1} → statement M
+hold_signal_spec =
     tie.close (tie.spec (λ c. search rules) (λ c. search rules) write-signal-requires (λ c. search rules) returns)

@@ -9,5 +9,5 @@ use Rattle.state_thread.proofs.thread.ThreadState.is_idle.Tie as tie
 returns : tie.Need-returns
 returns c = ap (λ (n : ℕ). eqb n idle_label) c.label-number.ensures
 
-pub is-idle-spec : {M : Type 1} → statement M
-is-idle-spec = tie.close (tie.spec (λ c κs. search rules) returns)
+pub is_idle_spec : {M : Type 1} → statement M
+is_idle_spec = tie.close (tie.spec (λ c κs. search rules) returns)

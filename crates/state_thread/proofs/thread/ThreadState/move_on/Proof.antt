@@ -6,5 +6,5 @@ use Rattle.state_thread.proofs.thread.ThreadState.move_on.Tie as tie
 returns : tie.Need-returns
 returns c = running-thread _ _ _ c.requires.1 c.requires.0.tidy.returns c.requires.0.tidy.registers c.requires.0.tidy.held refl refl
 
-pub move-on-spec : {M : Type 1} → statement M
-move-on-spec = tie.close (tie.spec returns)
+pub move_on_spec : {M : Type 1} → statement M
+move_on_spec = tie.close (tie.spec returns)

@@ -27,8 +27,8 @@ returns c =
     runs_as c.enter.ensures refl (λ i. keeping w
     (job (l i) (popped w.depth w.returns z s.requires.1 i) (fill (take a.count a.values))))
 
-pub return-to-caller-spec : {M : Type 1} → statement M
-return-to-caller-spec =
+pub return_to_caller_spec : {M : Type 1} → statement M
+return_to_caller_spec =
     tie.close
     (tie.spec
     (λ c. search rules)

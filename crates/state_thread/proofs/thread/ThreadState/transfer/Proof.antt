@@ -16,5 +16,5 @@ returns c =
     let p = s.requires in
     rw c.before.low.ensures (transferred-runs a.self a.label.0 a.count a.values p.0 p.1 p.2 (sized s) p.3)
 
-pub transfer-spec : {M : Type 1} → statement M
-transfer-spec = tie.close (tie.spec (λ c κs. search rules) returns)
+pub transfer_spec : {M : Type 1} → statement M
+transfer_spec = tie.close (tie.spec (λ c κs. search rules) returns)
