@@ -7,7 +7,7 @@ use Rattle.std.proofs.Math.Path.{refl}
 use Rattle.std.proofs.Common.{inl, inr, arith}
 use Rattle.std.proofs.Math.Logic.{ite}
 use Rattle.std.proofs.Math.Bool.{true, false}
-use Rattle.std.proofs.Math.Option.{Option, none, some, Option·elim}
+use Rattle.std.proofs.Math.Option.{Option, none, some, Option-elim}
 use mathlib.Core.List.Memᴰ
 use mathlib.Core.List.{List, [], ◌∷◌, ◌++◌, Memᴰ}
 use Prim.Native.Nat.{ℕ, zero, suc, ◌+◌, ◌<◌}
@@ -101,7 +101,7 @@ module _ (next : ℕ → Option ℕ) (n : ℕ) (bound : (t u : ℕ) → next t �
 
   going : (left : ℕ) (met : List ℕ) (t : ℕ) → t < n → Distinct met → ((x : ℕ) → Memᴰ x met → x < n) → length met + left ≡ n
       → Going next n met t (walk_on next left met t)
-  unfolding walk_on Option·elim
+  unfolding walk_on Option-elim
   going zero met t h d i l = here met t (go (mem? t met))
     where
       go : Dec (Memᴰ t met) → Memᴰ t met
@@ -116,13 +116,13 @@ module _ (next : ℕ → Option ℕ) (n : ℕ) (bound : (t u : ℕ) → next t �
           → ((u : ℕ) → (Memᴰ t met → ⊥) → next t ≡ some u → Going next n (met ++ t ∷ []) u (walk_on next left (met ++ t ∷ []) u))
           → Going next n met t
           (ite k (record { threads = []; ring = true })
-          (onto t (Option·elim (next t) (record { threads = []; ring = false }) (λ u. walk_on next left (met ++ t ∷ []) u))))
+          (onto t (Option-elim (next t) (record { threads = []; ring = false }) (λ u. walk_on next left (met ++ t ∷ []) u))))
       go (yes m) ih = here met t m
       go (no m) ih = on (next t) refl
         where
           on : (o : Option ℕ) → next t ≡ o
               → Going next n met t
-              (onto t (Option·elim o (record { threads = []; ring = false }) (λ u. walk_on next left (met ++ t ∷ []) u)))
+              (onto t (Option-elim o (record { threads = []; ring = false }) (λ u. walk_on next left (met ++ t ∷ []) u)))
           on none e = ended met t h m e
           on (some u) e = more met t u _ h m e (ih u m e)
 

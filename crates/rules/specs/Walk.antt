@@ -2,7 +2,7 @@
 use Rattle.std.specs.Prelude.{Bool, true, false, cond, ◌⊎◌, ◌≡◌, ℕ, zero, suc, ◌+◌, ◌-◌, length, replicate, set}
 use Rattle.std.proofs.Math.Logic.{ite}
 use Rattle.std.proofs.Common.{inl, inr}
-use Rattle.std.proofs.Math.Option.{Option, none, some, Option·elim, map}
+use Rattle.std.proofs.Math.Option.{Option, none, some, Option-elim, map}
 use mathlib.Core.List.Memᴰ
 use mathlib.Core.List.{List, [], ◌∷◌, ◌++◌, Memᴰ}
 use Rattle.std.proofs.Math.Decide.{ℕ_discrete}
@@ -43,11 +43,11 @@ onto t w = record { threads = t ∷ w.threads; ring = w.ring }
 -- one that
 -- does not wait is still written; otherwise the walk calls itself on the next thread
 unfoldable pub walk_on : (ℕ → Option ℕ) → ℕ → List ℕ → ℕ → Walk
-unfolding Option·elim
+unfolding Option-elim
 walk_on next zero met t = record { threads = []; ring = true }
 walk_on next (suc left) met t =
     ite (mem? t met) (record { threads = []; ring = true })
-    (onto t (Option·elim (next t) (record { threads = []; ring = false }) (λ u. walk_on next left (met ++ t ∷ []) u)))
+    (onto t (Option-elim (next t) (record { threads = []; ring = false }) (λ u. walk_on next left (met ++ t ∷ []) u)))
 
 unfoldable pub walk : (ℕ → Option ℕ) → ℕ → ℕ → Walk
 walk next n t = walk_on next n [] t

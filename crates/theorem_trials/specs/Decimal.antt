@@ -1,7 +1,7 @@
 -- Packed decimal on the bytes of the calls, computed: `decimals`. Numbers are those of docs/MACHINE.md, so that a wrong one in the law
 -- fails here.
 use Rattle.std.specs.Prelude.{◌≡◌, refl, List, [], ◌∷◌, ◌++◌, ℕ, replicate, drop}
-use Rattle.std.proofs.Math.Option.{Option·elim}
+use Rattle.std.proofs.Math.Option.{Option-elim}
 use Rattle.std.proofs.Math.Decide.{ℕ_discrete}
 use Rattle.rules_decimal.specs.Packed.{pack, packed, unpack, sum}
 use Rattle.rules.specs.Bytes.{num16, num32, part, is_zeros, all_from, any_from, first_bad, blocks, pad, chunks, every}
@@ -98,7 +98,7 @@ unfolding num16 num32 part is_zeros all_from any_from first_bad blocks pad chunk
     alien act_by plan_arrive plan_idle plan_running plan_step plan held blocked attempt admitted lost carry react answers final
     absent_zero running_tidy thread_tidy signal_tidy signal_at_tidy signals_tidy tree_tidy thread_at_tidy tree_at_tidy state_tidy apart
     place_ok thread_ok threads_ok pending_ok tree_ok homed queues_ok machine_ok well_formed state_length_fault state_fault events_length_fault
-    event_fault answers_length_fault words_length_fault check_return fresh_return fresh_state run_return run_state run_answers Option·elim
+    event_fault answers_length_fault words_length_fault check_return fresh_return fresh_state run_return run_state run_answers Option-elim
     shift_record records linked names share_block shared_block_fault too_many_records_fault output_length_fault link_return link_out held_ok
     pack packed unpack sum
 decimals = record {

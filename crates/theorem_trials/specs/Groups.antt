@@ -2,7 +2,7 @@
 -- wants the second: it waits, and the one-by-one order is the same. Counts and codes are those of docs/MACHINE.md, so that a wrong one in
 -- the law fails here.
 use Rattle.std.specs.Prelude.{◌≡◌, refl, ℕ, ◌+◌, replicate, take, drop}
-use Rattle.std.proofs.Math.Option.{Option·elim}
+use Rattle.std.proofs.Math.Option.{Option-elim}
 use mathlib.Core.List.{List, [], ◌∷◌, ◌++◌, map, flatten}
 use Rattle.std.proofs.Math.Decide.{ℕ_discrete}
 use Rattle.rules.specs.Sizes.{threads_place}
@@ -106,7 +106,7 @@ unfolding num16 num32 part is_zeros all_from first_bad blocks pad chunks every l
     alien act_by plan_arrive plan_idle plan_running plan_step plan_cut plan held blocked attempt admitted lost carry react answers final
     absent_zero running_tidy thread_tidy signal_tidy signal_at_tidy signals_tidy held_ok tree_tidy thread_at_tidy tree_at_tidy state_tidy apart
     place_ok thread_ok threads_ok pending_ok tree_ok homed queues_ok machine_ok well_formed state_length_fault state_fault events_length_fault
-    event_fault answers_length_fault words_length_fault check_return fresh_return fresh_state run_return run_state run_answers Option·elim mem?
+    event_fault answers_length_fault words_length_fault check_return fresh_return fresh_state run_return run_state run_answers Option-elim mem?
     walk_on walk holder awaits walk_from met_bytes met_count thread_fault met_length_fault walk_fault walk_return walk_met flatten sort_of_code
     note_as notes_by order_by byte_entries byte_order
 groups = record {

@@ -1,7 +1,7 @@
 -- The marked trials of docs/PROMISES.md on the bytes of the calls: each from Fresh's state, computed. Counts and codes are those
 -- of docs/MACHINE.md, so that a wrong one in the law fails here.
 use Rattle.std.specs.Prelude.{◌≡◌, refl, List, [], ◌∷◌, ◌++◌, ℕ, ◌+◌, ◌*◌, replicate, drop}
-use Rattle.std.proofs.Math.Option.{Option·elim}
+use Rattle.std.proofs.Math.Option.{Option-elim}
 use Rattle.std.proofs.Math.Decide.{ℕ_discrete}
 use Rattle.rules.specs.Sizes.{words_size, threads_place, held_count_place, tree_size, tree_count_place, trees_place}
 use Rattle.rules.specs.Bytes.{num16, num32, part, is_zeros, all_from, first_bad, blocks, pad, chunks, every}
@@ -232,7 +232,7 @@ unfolding num16 num32 part is_zeros all_from first_bad blocks pad chunks every l
     alien act_by plan_arrive plan_idle plan_running plan_step plan_cut plan held blocked attempt admitted lost carry react answers final
     absent_zero running_tidy thread_tidy signal_tidy signal_at_tidy signals_tidy held_ok tree_tidy thread_at_tidy tree_at_tidy state_tidy apart
     place_ok thread_ok threads_ok pending_ok tree_ok homed queues_ok machine_ok well_formed state_length_fault state_fault events_length_fault
-    event_fault answers_length_fault words_length_fault check_return fresh_return fresh_state run_return run_state run_answers Option·elim mem?
+    event_fault answers_length_fault words_length_fault check_return fresh_return fresh_state run_return run_state run_answers Option-elim mem?
     walk_on walk holder awaits walk_from met_bytes met_count thread_fault met_length_fault walk_fault walk_return walk_met
 on_bytes = record {
   sum = refl;

@@ -1,7 +1,7 @@
 -- Which labels the signals of a lent state may have, on bytes, computed: `signals`. A held signal's label has entry 2, a pending one's 2
 -- or 3; every other is number 6. Sizes and numbers are those of docs/MACHINE.md, so that a wrong one in the law fails here.
 use Rattle.std.specs.Prelude.{◌≡◌, refl, List, [], ◌∷◌, ◌++◌, ℕ, replicate}
-use Rattle.std.proofs.Math.Option.{Option·elim}
+use Rattle.std.proofs.Math.Option.{Option-elim}
 use Rattle.std.proofs.Math.Decide.{ℕ_discrete}
 use Rattle.rules.specs.Bytes.{num16, num32, part, is_zeros, all_from, first_bad, pad, chunks, every}
 use Rattle.rules.specs.Image.{labels, record_at, row_at}
@@ -62,7 +62,7 @@ unfolding num16 num32 part is_zeros all_from first_bad pad chunks every labels r
     head_ok operand_slot_ok label_ok rule_ok record_ok row_ok image_length_fault table_length_fault table_fault record_fault first_refusal queue registers_from
     job_from thread_from signal_from tree_from words_from machine_from absent_zero running_tidy thread_tidy signal_tidy signal_at_tidy
     signals_tidy tree_tidy thread_at_tidy tree_at_tidy state_tidy apart place_ok held_ok thread_ok threads_ok pending_ok tree_ok homed queues_ok
-    machine_ok well_formed state_length_fault state_fault events_length_fault event_fault answers_length_fault run_return ℕ_discrete Option·elim
+    machine_ok well_formed state_length_fault state_fault events_length_fault event_fault answers_length_fault run_return ℕ_discrete Option-elim
 signals = record {
   held_inner = refl;
   held-direct = refl;

@@ -4,7 +4,7 @@ use Rattle.std.proofs.Common.{sym, ◌∙◌, inl, inr, true≢false, take-appen
 use Rattle.std.proofs.Math.Path.{ap}
 use Rattle.std.proofs.Math.Logic.{if_pos, if_neg}
 use Rattle.std.proofs.Math.Bool.{false}
-use Rattle.std.proofs.Math.Option.{Option, none, some, Option·elim}
+use Rattle.std.proofs.Math.Option.{Option, none, some, Option-elim}
 use mathlib.Core.List.{List, [], ◌∷◌, ◌++◌, append_assoc}
 use mathlib.Core.List.Memᴰ
 use mathlib.Core.List.{Memᴰ}
@@ -95,26 +95,26 @@ module _ (next : ℕ → Option ℕ) (out : List ℕ) (n t : ℕ) (size : length
       fresh m = true≢false (sym (among-mem t (take n out) m) ∙ new)
 
       abbrev on : Option ℕ → Walk
-      unfolding Option·elim
-      on o = onto t (Option·elim o (record { threads = []; ring = false })
+      unfolding Option-elim
+      on o = onto t (Option-elim o (record { threads = []; ring = false })
           (λ u. walk_on next (thread_count - (n + 1)) (take n out ++ t ∷ []) u))
 
       on-is : (o : Option ℕ) → next t ≡ o → walk_rest next n out t ≡ on o
-      unfolding walk_on Option·elim
+      unfolding walk_on Option-elim
       on-is o e = rw (left, ← e) (if_neg (mem? t (take n out)) fresh _ _)
 
       here : n < length out
       here = omega arith
 
       pub halts : next t ≡ none → Came (n + 1) (set out n t) (walk_rest next n out t)
-      unfolding Option·elim
+      unfolding Option-elim
       halts e = let k : walk_rest next n out t ≡ record { threads = t ∷ []; ring = false } =
           on-is none e in rw k (omega arith, rw (set_split out n t here, add-one) refl)
 
       pub goes : (u r : ℕ) (l : List ℕ) → next t ≡ some u → r ≡ counted (n + 1) (walk_rest next (n + 1) (set out n t) u)
           → l ≡ laid_behind (n + 1) (set out n t) (walk_rest next (n + 1) (set out n t) u)
           → Came r l (walk_rest next n out t)
-      unfolding Option·elim
+      unfolding Option-elim
       goes u r l e p q =
           let f : take (n + 1) (set out n t) ≡ take n out ++ t ∷ [] = rw add-one (take-suc-set out n t here) in
           let w : Walk = walk_on next (thread_count - (n + 1)) (take n out ++ t ∷ []) u in
