@@ -20,7 +20,7 @@ pub fn number_held(set: u16) -> u32
     u16::count_ones(set)
 }
 
-#[derive(Drop)]
+#[derive(Clone, Copy)]
 pub enum LowestLock {
     Held(Lock),
     None,

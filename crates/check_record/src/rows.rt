@@ -10,7 +10,7 @@ use rules::codes::{
 // The bits that are zero in bytes 1 to 8, byte 1 lowest; the sums of an operand count and four times an operator that are allowed, a bit
 // for each; of the records at the labels A and B the bits that are given, the block in the low byte and the entry in the high one; the
 // entry of the record at A; and the least kind of the first operand.
-#[derive(Drop)]
+#[derive(Clone, Copy)]
 pub struct Row {
     pub zeros: u64,
     pub sums: u32,

@@ -55,7 +55,7 @@ pub fn operand_at(r: &[u8], k: usize) -> Operand
 }
 
 // What an opcode of ASSIGN's kind works out; nothing for any other opcode.
-#[derive(Drop)]
+#[derive(Clone, Copy)]
 pub enum Assigns {
     Nothing,
     Work(Operation),

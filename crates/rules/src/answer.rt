@@ -1,7 +1,7 @@
 // The answer to an event. specs/Answers.antt gives the code and the detail of each case.
 use crate::sorts::Lock;
 
-#[derive(Drop)]
+#[derive(Clone, Copy)]
 pub enum Answer {
     Taken,
     ListFull,

@@ -1,7 +1,7 @@
 // The limits of docs/MACHINE.md, each at the thing that it limits.
 use crate::sorts::{Block, Label, Lock, Thread};
 
-#[derive(Drop)]
+#[derive(Clone, Copy)]
 pub struct Image {}
 
 impl Image {
@@ -39,7 +39,7 @@ impl Lock {
     pub const COUNT: usize = 16;
 }
 
-#[derive(Drop)]
+#[derive(Clone, Copy)]
 pub struct Tree {}
 
 impl Tree {
@@ -48,7 +48,7 @@ impl Tree {
     pub const PENDING: usize = 8;
 }
 
-#[derive(Drop)]
+#[derive(Clone, Copy)]
 pub struct Run {}
 
 impl Run {

@@ -4,19 +4,19 @@ ghost use Rattle.std.specs.Prelude.{◌≡◌, eqb};
 ghost use Rattle.rules.specs.Sorts.{label, block, thread, lock};
 
 // A record's index in the image.
-#[derive(Drop)]
+#[derive(Clone, Copy)]
 pub struct Label(u16);
 
 // A block's index in the block table.
-#[derive(Drop)]
+#[derive(Clone, Copy)]
 pub struct Block(u8);
 
 // A worker thread.
-#[derive(Drop)]
+#[derive(Clone, Copy)]
 pub struct Thread(u8);
 
 // A lock. The block table says which lock guards a block.
-#[derive(Drop)]
+#[derive(Clone, Copy)]
 pub struct Lock(u8);
 
 pub fn label_of(number: u16) -> Label

@@ -2,7 +2,7 @@
 // the record: a statement says what is done, not where it leads.
 
 // A number, a register of the thread or a shared word of the record's own block.
-#[derive(Drop)]
+#[derive(Clone, Copy)]
 pub enum Operand {
     Number(u16),
     Register(u16),
@@ -10,7 +10,7 @@ pub enum Operand {
 }
 
 // What an opcode of ASSIGN's kind works out from its sources.
-#[derive(Drop)]
+#[derive(Clone, Copy)]
 pub enum Operation {
     Copy,
     Add,
@@ -23,14 +23,14 @@ pub enum Operation {
 }
 
 // The operands of such an opcode besides a destination and a left source: a second destination, and a right source.
-#[derive(Drop)]
+#[derive(Clone, Copy)]
 pub struct Shape {
     pub second: bool,
     pub right: bool,
 }
 
 // An operand that the operation does not have is the number 0: it reads as 0, and nothing is stored to it.
-#[derive(Drop)]
+#[derive(Clone, Copy)]
 pub struct Assignment {
     pub operation: Operation,
     pub first: Operand,
@@ -39,20 +39,20 @@ pub struct Assignment {
     pub right: Operand,
 }
 
-#[derive(Drop)]
+#[derive(Clone, Copy)]
 pub enum Relation {
     Equal,
     Less,
 }
 
-#[derive(Drop)]
+#[derive(Clone, Copy)]
 pub struct Condition {
     pub relation: Relation,
     pub left: Operand,
     pub right: Operand,
 }
 
-#[derive(Drop)]
+#[derive(Clone, Copy)]
 pub enum Statement {
     // SKIP and GOTO.
     Skip,
@@ -70,7 +70,7 @@ pub enum Statement {
 
 // What a statement uses a label for: to go on to, or to return to (Inner); as the signal of a direct SEND or a CALL, of a TRANSFER, or
 // of a SEND that is buffered or founds a tree; or not at all.
-#[derive(Drop)]
+#[derive(Clone, Copy)]
 pub enum Role {
     Unused,
     Inner,

@@ -9,7 +9,7 @@ ghost use Rattle.state_registers.specs.Filling.{filled_by, ZerosAfter};
 use rules::sorts::Thread;
 
 // Bit r of the presence set is for register r.
-#[derive(Drop)]
+#[derive(Clone, Copy)]
 pub struct Registers {
     pub present: u32,
     pub values: [u16; Thread::REGISTERS],

@@ -13,7 +13,7 @@ use bytes_fields::write::{put8, put16, put16s};
 use rules::layout::{VALUE_COUNT_PLACE, VALUES_PLACE};
 use rules::sorts::{Label, Thread, label_number, label_of};
 
-#[derive(Drop)]
+#[derive(Clone, Copy)]
 pub struct Signal {
     pub label: Label,
     pub count: u8,

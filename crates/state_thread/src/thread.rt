@@ -14,7 +14,7 @@ use state_registers::low;
 // At the label 65,535 a thread is idle. Depth is the number of return labels in use; they stand oldest first. Bit r of the presence set
 // is for register r. The signals held for new trees are their count, and their bytes as the record has them. An array is indexed in a local
 // copy of it and never as a field, which would keep the whole value in memory.
-#[derive(Drop)]
+#[derive(Clone, Copy)]
 pub struct ThreadState {
     pub present: u32,
     pub label: Label,

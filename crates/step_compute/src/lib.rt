@@ -11,7 +11,7 @@ use rules::statement::Operation;
 use rules_decimal::{add_packed, is_packed, pack_number, unpack_number};
 
 // What is worked out, a value for each destination, or the reason of the trap instead.
-#[derive(Drop)]
+#[derive(Clone, Copy)]
 pub struct Computation {
     pub first: u16,
     pub second: u16,

@@ -26,7 +26,7 @@ use state_thread::thread::ThreadState;
 use step_operands::read_data;
 
 // A trap with its reason, a lock with the other thread that holds it, a lock that the step takes, or one that the thread has.
-#[derive(Drop)]
+#[derive(Clone, Copy)]
 pub enum Passage {
     Trap(u8),
     Wait(Lock, Thread),

@@ -23,7 +23,7 @@ use state_thread::thread::ThreadState;
 use state_thread_record::read_register;
 
 // The value of an operand, or the reason of the trap that reading it makes.
-#[derive(Drop)]
+#[derive(Clone, Copy)]
 enum Reading {
     Value(u16),
     Trap(u8),
@@ -104,7 +104,7 @@ pub fn read_data(
 }
 
 // Two operands, read left to right: their values, or the reason of the trap that reading them makes.
-#[derive(Drop)]
+#[derive(Clone, Copy)]
 pub struct Pair {
     pub left: u16,
     pub right: u16,

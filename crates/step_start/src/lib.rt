@@ -24,7 +24,7 @@ use step_hold::write_holding;
 
 // The oldest signal of an idle thread's first tree: there is no tree; the lock that the signal asks for, with the other thread that holds
 // it; or the tree, by its place in the list, with that lock.
-#[derive(Drop)]
+#[derive(Clone, Copy)]
 pub enum First {
     Nothing,
     Wait(Lock, Thread),

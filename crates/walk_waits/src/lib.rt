@@ -19,7 +19,7 @@ use step_lock::{Passage, call_passage, send_passage};
 use step_start::{First, first_signal};
 
 // The thread that a thread waits for.
-#[derive(Drop)]
+#[derive(Clone, Copy)]
 pub enum Waits {
     For(Thread),
     Nobody,
