@@ -1,0 +1,12 @@
+use mathlib.Core.Path.{refl}
+use Prim.Native.Nat.{◌*◌, ◌-◌, ◌/◌}
+use native.Mathlib.Omega.{arith}
+use lib.Bits.{bit_or}
+use Rattle.bytes_fields.specs.Tests.{Halved, last_sixteen, last_none, halved_none, halved-eight, halved-all}
+use Rattle.bytes_fields.proofs.read.all_zero.Given as goal
+
+abbrev pub invariant-loop-k : goal.invariant-loop-k
+invariant-loop-k l = Halved l.s l.at (l.n / 16 * 8) (last_sixteen l.s l.at l.n) l.set l.k
+
+abbrev pub decreases-loop-k : goal.decreases-loop-k
+decreases-loop-k l = l.half - l.k

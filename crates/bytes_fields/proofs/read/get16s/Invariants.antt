@@ -1,0 +1,14 @@
+use mathlib.Core.Path.{◌≡◌, refl, sym, ap, ◌∙◌}
+use Prim.Native.Nat.{◌≤◌, ◌*◌, ◌-◌}
+use native.Mathlib.Omega.{arith}
+use lib.ListN.{length, take, drop, length-set}
+use lib.Seq.{take_all, drop-drop}
+use Rattle.rules.specs.Bytes.{num16, chunks}
+use Rattle.bytes_fields.specs.Blocks.{fill_step}
+use Rattle.bytes_fields.proofs.read.get16s.Given as goal
+
+abbrev pub invariant-loop-k : goal.invariant-loop-k
+invariant-loop-k l = (l.k ≤ length l.out) × (length l.out ≡ length l.initial.out) × (take l.k l.out ≡ chunks num16 2 l.k (drop l.at l.s))
+
+abbrev pub decreases-loop-k : goal.decreases-loop-k
+decreases-loop-k l = length l.out - l.k

@@ -1,0 +1,15 @@
+use mathlib.Core.Path.{◌≡◌, refl, ◌∙◌}
+use Prim.Native.Nat.{◌≤◌, ◌<◌, ◌-◌}
+use native.Mathlib.Omega.{arith}
+use lib.ListN.{length, take}
+use lib.Seq.{take_all, length-take-le}
+use Rattle.bytes_fields.specs.Put.{put, put_then}
+use Rattle.rules.specs.Bytes.{le16, blocks}
+use Rattle.bytes_fields.specs.Blocks.{blocks-take, length-blocks}
+use Rattle.bytes_fields.proofs.write.put16s.Given as goal
+
+abbrev pub invariant-loop-k : goal.invariant-loop-k
+invariant-loop-k l = (l.k ≤ length l.vs) × (length l.s ≡ length l.initial.s) × (l.s ≡ put l.initial.s l.at (blocks le16 (take l.k l.vs)))
+
+abbrev pub decreases-loop-k : goal.decreases-loop-k
+decreases-loop-k l = length l.vs - l.k

@@ -1,0 +1,13 @@
+use mathlib.Core.Path.{◌≡◌, refl}
+use Prim.Native.Nat.{◌≤◌, ◌+◌, ◌-◌}
+use native.Mathlib.Omega.{arith}
+use lib.ListN.{length, length-set}
+use Rattle.bytes_fields.specs.Put.{put, put_then, gap_step, length_part}
+use Rattle.rules.specs.Bytes.{part}
+use Rattle.bytes_fields.proofs.write.remove.Given as goal
+
+abbrev pub invariant-loop-k : goal.invariant-loop-k
+invariant-loop-k l = (l.k ≤ l.more) × (length l.s ≡ length l.initial.s) × (l.s ≡ put l.initial.s l.at (part l.initial.s (l.at + l.n) l.k))
+
+abbrev pub decreases-loop-k : goal.decreases-loop-k
+decreases-loop-k l = l.more - l.k
