@@ -1,0 +1,10 @@
+use mathlib.Core.Path.{◌∙◌}
+use borrow.Author.Rules.{rules}
+use Rattle.image_labels.specs.Uses.{uses-of}
+use Rattle.image_labels.proofs.uses_b.Goals as goal
+
+pub is_in-requires : goal.is_in-requires
+is_in-requires c = (uses-of _ c.requires.1).small
+
+pub returns : goal.returns
+returns c = c.is_in.ensures ∙ (uses-of _ c.requires.1).b
