@@ -1,0 +1,7 @@
+use native.Mathlib.Omega.{arith}
+use borrow.Author.Rules.{rules}
+use Rattle.rules_decimal.specs.FourDigits.{four-packed}
+use Rattle.rules_decimal.proofs.pack_number.Goals as goal
+
+pub returns : goal.returns
+returns c = four-packed c.args.x (omega arith)

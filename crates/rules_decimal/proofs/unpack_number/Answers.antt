@@ -1,0 +1,7 @@
+use native.Mathlib.Omega.{arith}
+use borrow.Author.Rules.{rules}
+use Rattle.rules_decimal.specs.FourDigits.{four-unpacked}
+use Rattle.rules_decimal.proofs.unpack_number.Goals as goal
+
+pub returns : goal.returns
+returns c = four-unpacked c.args.x (omega arith)
