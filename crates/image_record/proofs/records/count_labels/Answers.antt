@@ -1,0 +1,11 @@
+use Rattle.rules.specs.Image.{labels}
+use borrow.Author.Rules.{rules}
+use Rattle.image_record.proofs.records.count_labels.Goals as goal
+
+pub returns-then-image-n : goal.returns-then-image-n
+unfolding labels
+returns-then-image-n c = simp c.if-image-n.true
+
+pub returns-else-image-n : goal.returns-else-image-n
+unfolding labels
+returns-else-image-n c = simp c.if-image-n.false
