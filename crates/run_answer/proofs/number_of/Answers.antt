@@ -8,8 +8,7 @@ use Rattle.rules.specs.Answers.{code, detail, answer_bytes}
 use Rattle.rules.specs.declared.answer.Answer.{Answer}
 use Rattle.rules.specs.declared.answer.Answer.TheVariants.{Taken, ListFull, NoWork, Waiting, Started, Moved, Exited, Trapped, WasCut}
 use Rattle.rules.specs.declared.answer.Answer.TheVariants.{NothingToCut}
-use Rattle.run_answer.proofs.number_of.Statement.{statement}
-use Rattle.run_answer.proofs.number_of.Tie as tie
+use Rattle.run_answer.proofs.number_of.Goals as goal
 
 -- the bytes of two joined are the two
 joined : (x y : ℕ) → x < 256 → le16 (x + 256 * y) ≡ x ∷ y ∷ []
@@ -31,24 +30,12 @@ small (Trapped r) = omega arith
 small WasCut = omega arith
 small NothingToCut = omega arith
 
-returns : tie.Need-returns
+pub returns-in-Moved : goal.returns-in-Moved
 unfolding code detail answer_bytes
-returns c = rw (c.join16.ensures, c.before.enum_told.given.1)
+returns-in-Moved c = rw (c.join16.ensures, c.in-Moved.is)
 
-returns-2 : tie.Need-returns-2
+pub returns-in_default : goal.returns-in_default
 unfolding answer_bytes
-returns-2 c =
-    let a = c.before.before.before.before.args.a in
-    rw (c.join162.ensures, c.before.before.code_of_lem.ensures, c.before.detail-of.ensures) (joined (code a) (detail a) (small a))
-
-pub number_of_spec : {M : Type 1} → statement M
-number_of_spec =
-    tie.close
-    (tie.spec
-    (λ c. search rules)
-    (λ c κs. search rules)
-    (λ c κs. search rules)
-    (λ c κs. search rules)
-    (λ c κs. search rules)
-    returns
-    returns-2)
+returns-in_default c =
+    let a = c.args.a in
+    rw (c.join16-in_default.ensures, c.code_of.ensures, c.detail_of.ensures) (joined (code a) (detail a) (small a))

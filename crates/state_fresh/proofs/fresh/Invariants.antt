@@ -1,0 +1,13 @@
+use mathlib.Core.Path.{◌≡◌, refl}
+use Prim.Native.Nat.{◌-◌, ◌≤◌}
+use native.Mathlib.Omega.{arith}
+use lib.ListN.{length}
+use Rattle.rules.specs.Sizes.{thread_count, words_size, state_size}
+use Rattle.state_fresh.specs.Fresh.{Begun, begun-none, begun_more, begun_all}
+use Rattle.state_fresh.proofs.fresh.Given as goal
+
+abbrev pub invariant-loop-t : goal.invariant-loop-t
+invariant-loop-t l = (l.t ≤ thread_count) × (length l.state ≡ state_size) × Begun l.words (state_size - words_size) l.t l.state
+
+abbrev pub decreases-loop-t : goal.decreases-loop-t
+decreases-loop-t l = thread_count - l.t

@@ -1,0 +1,22 @@
+use borrow.Author.Rules.{rules}
+use Prim.Native.Nat.{◌≤◌, ◌<◌, ◌-◌, ◌^◌}
+use mathlib.Core.Path.{◌≡◌, refl, ◌∙◌}
+use native.Mathlib.Nat.{mod-eq_of_lt}
+use native.Mathlib.Numerals.{add-one}
+use native.Mathlib.Omega.{arith}
+use lib.Bits.{bit_and, and_mask}
+use lib.ListN.{length, take}
+use lib.Pow.{pow_mono, pow_pos}
+use Rattle.rules.specs.Sizes.{register_count}
+use Rattle.state_registers.specs.Filling.{present_after, values_after, length-after, Turned, after-turns, turned-values, turned-present}
+use Rattle.state_registers.specs.Filling.{filled_by, filled-present, filled-values}
+use Rattle.state_registers.proofs.Registers.fill.Given as goal
+
+-- after i turns towards the filled registers; `after-turns` says what that is
+abbrev pub invariant-loop-i : goal.invariant-loop-i
+invariant-loop-i l = (l.i ≤ register_count)
+    × (l.present ≡ present_after l.i (filled_by (take l.count l.values)).present l.self.present)
+    × (l.registers ≡ values_after l.i (filled_by (take l.count l.values)).values l.self.values)
+
+abbrev pub decreases-loop-i : goal.decreases-loop-i
+decreases-loop-i l = register_count - l.i
