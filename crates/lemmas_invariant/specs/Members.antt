@@ -44,6 +44,7 @@ module _ {A : Type 0} where
 
 module _ {A B : Type 0} (f : A → B) where
   pub member-map : (x : A) (l : List A) → Memᴰ x l → Memᴰ (f x) (map f l)
+  member-map x [] x'' = elim x'' [ ]
   member-map x (y ∷ l) (Memᴰ.head e) = Memᴰ.head (ap f e)
   member-map x (y ∷ l) (Memᴰ.tail m) = Memᴰ.tail (member-map x l m)
 
