@@ -7,14 +7,14 @@ pub operand_at-left-requires : goal.operand_at-left-requires
 operand_at-left-requires c = (
   c.requires,
   omega
-      (arith, c.destinations_of-p.ensures.0),
+      (arith, c.destinations_of-p.ensures.upper_bound),
 )
 
 pub optional_at-right-requires : goal.optional_at-right-requires
 optional_at-right-requires c = (
   c.requires,
   omega
-      (arith, c.destinations_of-p.ensures.0),
+      (arith, c.destinations_of-p.ensures.upper_bound),
 )
 
 pub returns : goal.returns
@@ -24,5 +24,5 @@ returns c = simp (
   c.operand_at-left.ensures,
   c.optional_at-second.ensures,
   c.operand_at-first.ensures,
-  c.destinations_of-p.ensures.1,
+  c.destinations_of-p.ensures.value,
 )
