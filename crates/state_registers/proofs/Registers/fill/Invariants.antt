@@ -1,15 +1,9 @@
-use borrow.Author.Rules.{rules}
-use Prim.Native.Nat.{◌≤◌, ◌<◌, ◌-◌, ◌^◌}
-use mathlib.Core.Path.{◌≡◌, refl, ◌∙◌}
-use native.Mathlib.Nat.{mod-eq_of_lt}
-use native.Mathlib.Numerals.{add-one}
-use native.Mathlib.Omega.{arith}
-use lib.Bits.{bit_and, and_mask}
-use lib.ListN.{length, take}
-use lib.Pow.{pow_mono, pow_pos}
+use Prim.Native.Nat.{◌≤◌, ◌-◌}
+use mathlib.Core.Path.{◌≡◌}
+use lib.ListN.{take}
 use Rattle.rules.specs.Sizes.{register_count}
-use Rattle.state_registers.specs.Filling.{present_after, values_after, length-after, Turned, after-turns, turned-values, turned-present}
-use Rattle.state_registers.specs.Filling.{filled_by, filled-present, filled-values}
+use Rattle.state_registers.specs.Filling.{present_after, values_after}
+use Rattle.state_registers.specs.Filling.{filled_by}
 use Rattle.state_registers.proofs.Registers.fill.Given as goal
 
 -- after i turns towards the filled registers; `after-turns` says what that is
