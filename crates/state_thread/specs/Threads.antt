@@ -6,7 +6,6 @@ use Rattle.std.specs.Int.Bits.{bit_or}
 use Rattle.std.proofs.lemmas.List.{get_or-replicate}
 use Rattle.rules.specs.Sorts.{label}
 use Rattle.rules.specs.Sizes.{return_count, register_count, held_size, idle_label}
-use Rattle.rules.specs.Bytes.{pad}
 use Rattle.rules.specs.Machine as law
 use Rattle.rules.specs.Machine.{Signal, Job, job, with_held, idle, running, Machine, with_thread, fill}
 use Rattle.rules.specs.Encoding.{registers_from}

@@ -1,15 +1,13 @@
-use borrow.Author.Rules.{rules}
 use mathlib.Core.Path.{refl, ap}
 use Rattle.rules.specs.Machine.{job}
 use Rattle.state_thread.specs.Registers.{stored-registers, stored-tidy}
 use Rattle.state_thread.specs.Threads.{running-thread, returns_of, keeping}
-use Rattle.state_thread.proofs.thread.ThreadState.assign_register.Statement.{statement}
-use Rattle.state_thread.proofs.thread.ThreadState.assign_register.Tie as tie
+use Rattle.state_thread.proofs.thread.ThreadState.assign_register.Goals as goal
 
-returns : tie.Need-returns
+pub returns : goal.returns
 returns c =
-    let a = c.before.before.args in
-    let p = c.before.before.requires in
+    let a = c.args in
+    let p = c.requires in
     let z = p.0.tidy.registers in
     let w = a.self in
     rw c.mark.ensures
@@ -18,7 +16,3 @@ returns c =
     (ap (λ l. keeping w (job w.label.0 (returns_of w) l)) (stored-registers w.present w.registers a.register a.value
     z.sized
     p.1)))
-
-pub assign_register_spec : {M : Type 1} → statement M
-assign_register_spec =
-    tie.close (tie.spec (λ c. search rules) (λ c. search rules) (λ c κs. search rules) returns)

@@ -2,11 +2,7 @@ use Prim.Native.Nat.{◌^◌, ◌<◌}
 use native.Mathlib.Nat.{one-mul, mod-eq_of_lt}
 use native.Mathlib.Omega.{arith}
 use lib.Pow.{pow-lt}
-use Rattle.state_thread.proofs.registers.mark.Statement.{statement}
-use Rattle.state_thread.proofs.registers.mark.Tie as tie
+use Rattle.state_thread.proofs.registers.mark.Goals as goal
 
-returns : tie.Need-returns
+pub returns : goal.returns
 returns c = let h : 2 ^ c.args.register < 4294967296 = omega (arith, pow-lt c.requires) in rw (one-mul, mod-eq_of_lt h)
-
-pub mark_spec : {M : Type 1} → statement M
-mark_spec = tie.close (tie.spec (λ c. omega arith) returns)
