@@ -1,5 +1,5 @@
 -- The laws of tests that are joined, and of tests over runs of numbers.
-use Rattle.std.specs.Prelude.{◌≡◌, refl, Bool, true, false, cond, ◌&&◌, ◌||◌, ℕ, zero, suc, ◌+◌, ◌*◌, ◌-◌, ◌≤◌, ◌<◌, eqb}
+use Rattle.std.specs.Prelude.{◌≡◌, refl, Bool, true, false, cond, ◌&&◌, ◌||◌, ℕ, zero, suc, ◌+◌, ◌*◌, ◌≤◌, ◌<◌, eqb}
 use Rattle.std.proofs.Common.{sym, ap, ◌∙◌, ⊎_elim, add-zero, zero-add, suc-add, eq-or-lt_of_le, arith, eq-eqb, ne_eqb}
 use Rattle.std.proofs.Math.Bool.{and_assoc, or_assoc, or-true, or-false}
 use Rattle.rules.specs.Bytes.{all_from, any_from, first_bad}

@@ -1,4 +1,3 @@
-use borrow.Author.Rules.{rules}
 use Rattle.rules_decimal.specs.FourDigits.{four-carries, four-added}
 use Rattle.rules_decimal.proofs.add_packed.Goals as goal
 

@@ -1,5 +1,4 @@
 use native.Mathlib.Omega.{arith}
-use borrow.Author.Rules.{rules}
 use Rattle.rules_decimal.specs.FourDigits.{four-packed}
 use Rattle.rules_decimal.proofs.pack_number.Goals as goal
 

@@ -1,5 +1,4 @@
 use native.Mathlib.Omega.{arith}
-use borrow.Author.Rules.{rules}
 use Rattle.rules_decimal.specs.FourDigits.{four-unpacked}
 use Rattle.rules_decimal.proofs.unpack_number.Goals as goal
 

@@ -1,8 +1,8 @@
 use mathlib.Core.Path.{refl}
-use Prim.Native.Nat.{◌*◌, ◌-◌, ◌/◌}
+use Prim.Native.Nat.{◌*◌, ◌/◌}
 use native.Mathlib.Omega.{arith}
 use lib.Bits.{bit_or}
-use Rattle.bytes_fields.specs.Tests.{Halved, last_sixteen, last_none, halved_none, halved-eight, halved-all}
+use Rattle.bytes_fields.specs.Tests.{last_sixteen, last_none, halved_none, halved-eight, halved-all}
 use Rattle.bytes_fields.proofs.read.all_zero.Goals as goal
 
 pub returns-then-n-lt16 : goal.returns-then-n-lt16

@@ -1,8 +1,5 @@
-use mathlib.Core.Path.{refl}
 use Prim.Native.Nat.{◌*◌, ◌-◌, ◌/◌}
-use native.Mathlib.Omega.{arith}
-use lib.Bits.{bit_or}
-use Rattle.bytes_fields.specs.Tests.{Halved, last_sixteen, last_none, halved_none, halved-eight, halved-all}
+use Rattle.bytes_fields.specs.Tests.{Halved, last_sixteen}
 use Rattle.bytes_fields.proofs.read.all_zero.Given as goal
 
 abbrev pub invariant-loop-k : goal.invariant-loop-k

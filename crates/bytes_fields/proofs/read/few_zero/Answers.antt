@@ -1,6 +1,4 @@
-use Prim.Native.Nat.{◌-◌}
-use native.Mathlib.Omega.{arith}
-use Rattle.bytes_fields.specs.Tests.{Gathered, gathered_none, gathered-byte, gathered-all}
+use Rattle.bytes_fields.specs.Tests.{gathered_none, gathered-byte, gathered-all}
 use Rattle.bytes_fields.proofs.read.few_zero.Goals as goal
 
 pub loop-k-init : goal.loop-k-init

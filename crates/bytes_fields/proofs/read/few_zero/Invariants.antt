@@ -1,6 +1,5 @@
 use Prim.Native.Nat.{◌-◌}
-use native.Mathlib.Omega.{arith}
-use Rattle.bytes_fields.specs.Tests.{Gathered, gathered_none, gathered-byte, gathered-all}
+use Rattle.bytes_fields.specs.Tests.{Gathered}
 use Rattle.bytes_fields.proofs.read.few_zero.Given as goal
 
 abbrev pub invariant-loop-k : goal.invariant-loop-k

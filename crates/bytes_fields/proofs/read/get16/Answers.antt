@@ -1,6 +1,5 @@
 use lib.Seq.{get_or-drop}
 use native.Mathlib.Nat.{add-zero}
-use borrow.Author.Rules.{rules}
 use Rattle.rules.specs.Bytes.{num16}
 use Rattle.bytes_fields.proofs.read.get16.Goals as goal
 

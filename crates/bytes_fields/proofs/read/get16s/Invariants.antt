@@ -1,10 +1,7 @@
-use mathlib.Core.Path.{◌≡◌, refl, sym, ap, ◌∙◌}
-use Prim.Native.Nat.{◌≤◌, ◌*◌, ◌-◌}
-use native.Mathlib.Omega.{arith}
-use lib.ListN.{length, take, drop, length-set}
-use lib.Seq.{take_all, drop-drop}
+use mathlib.Core.Path.{◌≡◌}
+use Prim.Native.Nat.{◌≤◌, ◌-◌}
+use lib.ListN.{length, take, drop}
 use Rattle.rules.specs.Bytes.{num16, chunks}
-use Rattle.bytes_fields.specs.Blocks.{fill_step}
 use Rattle.bytes_fields.proofs.read.get16s.Given as goal
 
 abbrev pub invariant-loop-k : goal.invariant-loop-k

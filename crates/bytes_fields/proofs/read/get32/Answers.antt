@@ -1,5 +1,4 @@
 use mathlib.Core.Path.{◌∙◌}
-use borrow.Author.Rules.{rules}
 use Rattle.bytes_fields.specs.Numbers.{num32-drop}
 use Rattle.bytes_fields.proofs.read.get32.Goals as goal
 

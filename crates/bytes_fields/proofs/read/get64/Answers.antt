@@ -1,5 +1,4 @@
 use mathlib.Core.Path.{◌∙◌}
-use borrow.Author.Rules.{rules}
 use Rattle.bytes_fields.specs.Numbers.{num64-drop}
 use Rattle.bytes_fields.proofs.read.get64.Goals as goal
 

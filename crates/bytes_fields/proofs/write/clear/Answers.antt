@@ -1,8 +1,7 @@
 use Prim.Native.Nat.{ℕ}
 use mathlib.Core.Path.{◌≡◌, refl, ◌∙◌}
-use Prim.Native.Nat.{◌≤◌, ◌-◌}
 use native.Mathlib.Omega.{arith}
-use lib.ListN.{length, replicate, length-set, length-replicate, replicate-append-replicate}
+use lib.ListN.{replicate, length-set, length-replicate, replicate-append-replicate}
 use Rattle.bytes_fields.specs.Put.{put, set_then}
 use Rattle.bytes_fields.proofs.write.clear.Goals as goal
 

@@ -1,9 +1,7 @@
-use Prim.Native.Nat.{ℕ}
-use mathlib.Core.Path.{◌≡◌, refl, ◌∙◌}
+use mathlib.Core.Path.{◌≡◌}
 use Prim.Native.Nat.{◌≤◌, ◌-◌}
-use native.Mathlib.Omega.{arith}
-use lib.ListN.{length, replicate, length-set, length-replicate, replicate-append-replicate}
-use Rattle.bytes_fields.specs.Put.{put, set_then}
+use lib.ListN.{length, replicate}
+use Rattle.bytes_fields.specs.Put.{put}
 use Rattle.bytes_fields.proofs.write.clear.Given as goal
 
 abbrev pub invariant-loop-k : goal.invariant-loop-k

@@ -1,7 +1,6 @@
 use native.Mathlib.Omega.{arith}
 use mathlib.Core.Path.{◌≡◌, refl, ◌∙◌}
-use Prim.Native.Nat.{◌≤◌, ◌-◌}
-use lib.ListN.{length, length-set}
+use lib.ListN.{length-set}
 use Rattle.rules.specs.Bytes.{part}
 use Rattle.bytes_fields.specs.Put.{put, set_then, length_part, part-suc}
 use Rattle.bytes_fields.proofs.write.copy.Goals as goal

@@ -1,9 +1,8 @@
-use native.Mathlib.Omega.{arith}
-use mathlib.Core.Path.{◌≡◌, refl, ◌∙◌}
+use mathlib.Core.Path.{◌≡◌}
 use Prim.Native.Nat.{◌≤◌, ◌-◌}
-use lib.ListN.{length, length-set}
+use lib.ListN.{length}
 use Rattle.rules.specs.Bytes.{part}
-use Rattle.bytes_fields.specs.Put.{put, set_then, length_part, part-suc}
+use Rattle.bytes_fields.specs.Put.{put}
 use Rattle.bytes_fields.proofs.write.copy.Given as goal
 
 abbrev pub invariant-loop-k : goal.invariant-loop-k

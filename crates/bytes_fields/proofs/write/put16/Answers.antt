@@ -1,4 +1,3 @@
-use borrow.Author.Rules.{rules}
 use native.Mathlib.Numerals.{add-one}
 use Rattle.bytes_fields.specs.Put.{put}
 use Rattle.bytes_fields.proofs.write.put16.Goals as goal

@@ -1,11 +1,8 @@
-use mathlib.Core.Path.{◌≡◌, refl, ◌∙◌}
-use Prim.Native.Nat.{◌≤◌, ◌<◌, ◌-◌}
-use native.Mathlib.Omega.{arith}
+use mathlib.Core.Path.{◌≡◌}
+use Prim.Native.Nat.{◌≤◌, ◌-◌}
 use lib.ListN.{length, take}
-use lib.Seq.{take_all, length-take-le}
-use Rattle.bytes_fields.specs.Put.{put, put_then}
+use Rattle.bytes_fields.specs.Put.{put}
 use Rattle.rules.specs.Bytes.{le16, blocks}
-use Rattle.bytes_fields.specs.Blocks.{blocks-take, length-blocks}
 use Rattle.bytes_fields.proofs.write.put16s.Given as goal
 
 abbrev pub invariant-loop-k : goal.invariant-loop-k

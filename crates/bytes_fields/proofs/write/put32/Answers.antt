@@ -1,5 +1,4 @@
 use mathlib.Core.Path.{refl}
-use borrow.Author.Rules.{rules}
 use Rattle.bytes_fields.specs.Put.{put_then}
 use Rattle.bytes_fields.proofs.write.put32.Goals as goal
 

@@ -1,7 +1,7 @@
 use mathlib.Core.Path.{◌≡◌, refl}
-use Prim.Native.Nat.{◌≤◌, ◌+◌, ◌-◌}
+use Prim.Native.Nat.{◌+◌}
 use native.Mathlib.Omega.{arith}
-use lib.ListN.{length, length-set}
+use lib.ListN.{length-set}
 use Rattle.bytes_fields.specs.Put.{put, put_then, gap_step, length_part}
 use Rattle.rules.specs.Bytes.{part}
 use Rattle.bytes_fields.proofs.write.remove.Goals as goal

@@ -1,8 +1,7 @@
-use mathlib.Core.Path.{◌≡◌, refl}
+use mathlib.Core.Path.{◌≡◌}
 use Prim.Native.Nat.{◌≤◌, ◌+◌, ◌-◌}
-use native.Mathlib.Omega.{arith}
-use lib.ListN.{length, length-set}
-use Rattle.bytes_fields.specs.Put.{put, put_then, gap_step, length_part}
+use lib.ListN.{length}
+use Rattle.bytes_fields.specs.Put.{put}
 use Rattle.rules.specs.Bytes.{part}
 use Rattle.bytes_fields.proofs.write.remove.Given as goal
 

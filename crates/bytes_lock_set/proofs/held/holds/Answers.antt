@@ -1,4 +1,3 @@
-use borrow.Author.Rules.{rules}
 use Rattle.bytes_lock_set.proofs.held.holds.Goals as goal
 
 pub returns : goal.returns

@@ -1,5 +1,4 @@
 use mathlib.Core.Path.{ap, sym}
-use borrow.Author.Rules.{rules}
 use Rattle.bytes_lock_set.specs.Lowest.{lowest_by}
 use Rattle.bytes_lock_set.specs.Sets.{zeros-lowest, zeros-none}
 use Rattle.bytes_lock_set.proofs.held.lowest_held.Goals as goal
