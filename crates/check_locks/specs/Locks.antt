@@ -6,7 +6,7 @@ use Rattle.std.proofs.Math.Bool.{and_assoc, and-true}
 use mathlib.Core.List.{List, [], ◌∷◌}
 use native.Mathlib.Omega.{arith}
 use Rattle.std.proofs.Math.Arith.{bin_ind}
-use Rattle.std.specs.Int.Bits.{bit_and, bit_or, and_step, or_step, and_zero_l, or_zero_l}
+use Rattle.std.specs.Int.Bits.{bit_and, bit_or, and_step, or_step}
 use Rattle.rules.specs.Sizes.{thread_count, idle_label, locks_place, thread_size, threads_place}
 use Rattle.rules.specs.Bytes.{num16, every, chunks}
 use Rattle.rules.specs.Machine.{ThreadState, locks_of}
@@ -18,7 +18,7 @@ use Rattle.bytes_fields.specs.Pieces.{chunk-step, chunk-done}
 
 and-or : (a b c : ℕ) → bit_and (bit_or a b) c ≡ bit_or (bit_and a c) (bit_and b c)
 and-or = bin_ind (λ a. (b c : ℕ) → bit_and (bit_or a b) c ≡ bit_or (bit_and a c) (bit_and b c))
-    (λ b c. rw (or_zero_l b, and_zero_l c, or_zero_l (bit_and b c))) step
+    (λ b c. refl) step
   where
     step : (a : ℕ) → ((b c : ℕ) → bit_and (bit_or (a / 2) b) c ≡ bit_or (bit_and (a / 2) c) (bit_and b c)) → (b c : ℕ)
         → bit_and (bit_or a b) c ≡ bit_or (bit_and a c) (bit_and b c)
@@ -63,7 +63,7 @@ none-seen-is seen (w ∷ ws) =
 none-held : (ws : List ThreadState) → every (without 0) ws ≡ true
 unfolding every
 none-held [] = refl
-none-held (w ∷ ws) = rw (and_zero_l (locks_of w)) (none-held ws)
+none-held (w ∷ ws) = none-held ws
 
 pub none-seen-apart : (ws : List ThreadState) → none_seen 0 ws ≡ apart ws
 none-seen-apart ws = none-seen-is 0 ws ∙ rw (none-held ws)

@@ -1,7 +1,4 @@
-use Prim.Native.Nat.{◌-◌}
-use native.Mathlib.Omega.{arith}
-use Rattle.rules.specs.Sizes.{thread_count}
-use Rattle.check_locks.specs.Locks.{Scanned, scanned-none, scanned-next, scanned-all}
+use Rattle.check_locks.specs.Locks.{scanned-none, scanned-next, scanned-all}
 use Rattle.check_locks.proofs.locks.locks_apart.Goals as goal
 
 pub loop-t-init : goal.loop-t-init
@@ -18,6 +15,3 @@ pub returns : goal.returns
 returns c =
     let l = c.loop-t in
     scanned-all c.args.state.now l.taken l.ok l.t l.invariant c.loop-t-test.false
-
-pub none_in_both-ok-requires : goal.none_in_both-ok-requires
-none_in_both-ok-requires c = tt

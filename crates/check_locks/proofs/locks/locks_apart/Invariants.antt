@@ -1,7 +1,6 @@
 use Prim.Native.Nat.{◌-◌}
-use native.Mathlib.Omega.{arith}
 use Rattle.rules.specs.Sizes.{thread_count}
-use Rattle.check_locks.specs.Locks.{Scanned, scanned-none, scanned-next, scanned-all}
+use Rattle.check_locks.specs.Locks.{Scanned}
 use Rattle.check_locks.proofs.locks.locks_apart.Given as goal
 
 abbrev pub invariant-loop-t : goal.invariant-loop-t

@@ -1,5 +1,4 @@
 use mathlib.Core.Path.{sym, ◌∙◌}
-use borrow.Author.Rules.{rules}
 use Rattle.check_locks.specs.Locks.{idle-locks, running-locks}
 use Rattle.check_locks.proofs.locks.locks_at.Goals as goal
 
