@@ -1,7 +1,5 @@
-use native.Mathlib.Omega.{arith}
 use Rattle.state_pending.specs.Stored.{oldest-read}
 use mathlib.Core.Path.{refl}
-use borrow.Author.Rules.{rules}
 use Rattle.state_pending.proofs.oldest.Goals as goal
 
 pub returns : goal.returns

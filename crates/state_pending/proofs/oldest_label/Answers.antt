@@ -1,8 +1,6 @@
-use native.Mathlib.Omega.{arith}
 use Rattle.rules.specs.Sorts.{label}
 use Rattle.state_pending.specs.Stored.{label-read}
 use mathlib.Core.Path.{refl, ap, ◌∙◌}
-use borrow.Author.Rules.{rules}
 use Rattle.state_pending.proofs.oldest_label.Goals as goal
 
 pub returns : goal.returns

@@ -1,7 +1,5 @@
-use native.Mathlib.Omega.{arith}
 use mathlib.Core.Path.{refl, ◌∙◌}
 use Rattle.state_pending.specs.Stored.{pending-byte}
-use borrow.Author.Rules.{rules}
 use Rattle.state_pending.proofs.pending.Goals as goal
 
 pub returns : goal.returns
