@@ -5,7 +5,7 @@ use Rattle.std.proofs.Common.{◌∙◌}
 use mathlib.Core.List.{List, [], ◌∷◌, ◌++◌, flatten}
 use Rattle.rules.specs.Machine.{Machine, fresh}
 use Rattle.rules.specs.Events.{Event}
-use Rattle.rules.specs.Steps.{Rules, answers, final}
+use Rattle.rules.specs.Steps.{Rules, final}
 use Rattle.rules.specs.Order.{Entry, order, events, log}
 use Rattle.lemmas_rules.specs.EventLists.{log-append, final-append}
 use Rattle.lemmas_invariant.specs.Laws.{Laws}
