@@ -1,9 +1,8 @@
-use mathlib.Core.Path.{◌≡◌, refl}
+use mathlib.Core.Path.{◌≡◌}
 use Prim.Native.Nat.{◌-◌, ◌≤◌}
-use native.Mathlib.Omega.{arith}
 use lib.ListN.{length}
 use Rattle.rules.specs.Sizes.{thread_count, words_size, state_size}
-use Rattle.state_fresh.specs.Fresh.{Begun, begun-none, begun_more, begun_all}
+use Rattle.state_fresh.specs.Fresh.{Begun}
 use Rattle.state_fresh.proofs.fresh.Given as goal
 
 abbrev pub invariant-loop-t : goal.invariant-loop-t
