@@ -25,24 +25,21 @@ const MINOR: u32 = 9;
 const PATCH: u32 = 0;
 
 // The version as one number.
-#[unsafe(no_mangle)]
-pub extern "C" fn plex_version() -> u32
+pub fn plex_version() -> u32
     ensures { result ≡ version_number }
 {
     65536 * MAJOR + 256 * MINOR + PATCH
 }
 
 // The image check.
-#[unsafe(no_mangle)]
-pub extern "C" fn plex_check(image: &[u8], table: &[u8]) -> u32
+pub fn plex_check(image: &[u8], table: &[u8]) -> u32
     ensures { result ≡ check_return image.now table.now }
 {
     image_fault(image, table)
 }
 
 // A fresh machine with these initial words.
-#[unsafe(no_mangle)]
-pub extern "C" fn plex_fresh(image: &[u8], table: &[u8], words: &[u8], state: &mut [u8]) -> u32
+pub fn plex_fresh(image: &[u8], table: &[u8], words: &[u8], state: &mut [u8]) -> u32
     ensures value { result ≡ fresh_return image.now table.now words.now state.old }
     ensures state_after { state.new ≡ fresh_state image.now table.now words.now state.old }
 {
@@ -55,8 +52,7 @@ pub extern "C" fn plex_fresh(image: &[u8], table: &[u8], words: &[u8], state: &m
 }
 
 // Events carried out on a state, each with the two bytes of its answer.
-#[unsafe(no_mangle)]
-pub extern "C" fn plex_run(
+pub fn plex_run(
     image: &[u8],
     table: &[u8],
     state: &mut [u8],
@@ -79,14 +75,7 @@ pub extern "C" fn plex_run(
 }
 
 // The walk along waits from a thread.
-#[unsafe(no_mangle)]
-pub extern "C" fn plex_walk(
-    image: &[u8],
-    table: &[u8],
-    state: &[u8],
-    thread: u32,
-    met: &mut [u8],
-) -> u32
+pub fn plex_walk(image: &[u8], table: &[u8], state: &[u8], thread: u32, met: &mut [u8]) -> u32
     ensures value { result ≡ walk_return image.now table.now state.now thread met.old }
     ensures met_after { met.new ≡ walk_met image.now table.now state.now thread met.old }
 {
@@ -98,8 +87,7 @@ pub extern "C" fn plex_walk(
 }
 
 // Two images linked into one: the second behind the first.
-#[unsafe(no_mangle)]
-pub extern "C" fn plex_link(first: &[u8], second: &[u8], table: &[u8], out: &mut [u8]) -> u32
+pub fn plex_link(first: &[u8], second: &[u8], table: &[u8], out: &mut [u8]) -> u32
     ensures value { result ≡ link_return first.now second.now table.now out.old }
     ensures out_after { out.new ≡ link_out first.now second.now table.now out.old }
 {

@@ -5,6 +5,8 @@ use crate::calls::{check, link};
 use crate::files::load;
 use crate::memory::{FIRST, IMAGE, Lengths, Memory, PART, SECOND, set};
 use crate::tally::Tally;
+use std::io::Result;
+use std::rt::Runtime;
 
 // A byte of an EXIT record of a block.
 fn exit_byte(block: u8, place: usize) -> u8 {
@@ -25,8 +27,12 @@ fn exits(memory: &mut Memory, buffer: usize, block: u8) {
 }
 
 // Every image length from 0 to 43,176: 84 × n passes for n 1 to 512, and no other.
-pub fn image_lengths(memory: &mut Memory, lengths: &mut Lengths) -> Tally {
-    load(b".", b"limits", memory, lengths);
+pub fn image_lengths(
+    rt: &impl Runtime,
+    memory: &mut Memory,
+    lengths: &mut Lengths,
+) -> Result<Tally> {
+    load(rt, b".", b"limits", memory, lengths);
     exits(memory, IMAGE, 0);
     let mut tally = Tally::new();
     let mut n: usize = 0;
@@ -34,10 +40,10 @@ pub fn image_lengths(memory: &mut Memory, lengths: &mut Lengths) -> Tally {
         lengths[IMAGE] = n;
         let passes = (0 < n) & (n <= 43008) & (n % 84 == 0);
         let wanted = if passes { 0 } else { 65536 };
-        tally = tally.with(check(memory, lengths) == wanted, n as u64);
+        tally = tally.with(rt, check(memory, lengths) == wanted, n as u64)?;
         n += 1;
     }
-    tally
+    Ok(tally)
 }
 
 // What the link of n records and m returns, its output as long as both.
@@ -51,8 +57,8 @@ fn linked(memory: &Memory, lengths: &mut Lengths, n: usize, m: usize) -> u32
 }
 
 // Every count of the first image's records from 1 to 511: 512 records pass together, and 513 do not.
-pub fn link_counts(memory: &mut Memory, lengths: &mut Lengths) -> Tally {
-    load(b".", b"limits", memory, lengths);
+pub fn link_counts(rt: &impl Runtime, memory: &mut Memory, lengths: &mut Lengths) -> Result<Tally> {
+    load(rt, b".", b"limits", memory, lengths);
     exits(memory, FIRST, 0);
     exits(memory, SECOND, 1);
     let mut tally = Tally::new();
@@ -60,8 +66,8 @@ pub fn link_counts(memory: &mut Memory, lengths: &mut Lengths) -> Tally {
     while n < 512 {
         let passes = linked(memory, lengths, n, 512 - n) == 0;
         let refused = linked(memory, lengths, n, 513 - n) == 917504;
-        tally = tally.with(passes & refused, n as u64);
+        tally = tally.with(rt, passes & refused, n as u64)?;
         n += 1;
     }
-    tally
+    Ok(tally)
 }

@@ -1,6 +1,5 @@
 // How many trials were made, and how many failed.
-use libc::STDOUT_FILENO;
-use std::num::wrapping_add_u64;
+use std::io::Result;
 
 #[derive(Drop)]
 pub struct Tally {
@@ -17,30 +16,27 @@ impl Tally {
     }
 
     // One trial more. One that failed is named by its number.
-    pub fn with(self, agrees: bool, number: u64) -> Self {
-        let tried = wrapping_add_u64(self.tried, 1);
+    pub fn with(self, rt: &impl Print, agrees: bool, number: u64) -> Result<Self> {
+        let tried = self.tried.wrapping_add(1);
         if agrees {
-            return Self {
-                agreed: wrapping_add_u64(self.agreed, 1),
+            return Ok(Self {
+                agreed: self.agreed.wrapping_add(1),
                 tried,
-            };
+            });
         }
-        io::write_all(STDOUT_FILENO, b"failed: ");
-        io::print_decimal(STDOUT_FILENO, number);
-        io::write_all(STDOUT_FILENO, b"\n");
-        Self {
+        println!(rt; "failed: {number}")?;
+        Ok(Self {
             agreed: self.agreed,
             tried,
-        }
+        })
     }
 
     // Prints a line: the group of trials and how many of them agree.
-    pub fn print(self, group: &[u8], what: &[u8]) {
-        io::write_all(STDOUT_FILENO, group);
-        io::write_all(STDOUT_FILENO, b": ");
-        io::print_decimal(STDOUT_FILENO, self.agreed);
-        io::write_all(STDOUT_FILENO, b" of ");
-        io::print_decimal(STDOUT_FILENO, self.tried);
-        io::write_all(STDOUT_FILENO, what);
+    pub fn print(self, rt: &impl Print, group: &[u8], what: &[u8]) -> Result<()> {
+        let agreed = self.agreed;
+        let tried = self.tried;
+        rt.write_all(group)?;
+        print!(rt; ": {agreed} of {tried}")?;
+        rt.write_all(what)
     }
 }
