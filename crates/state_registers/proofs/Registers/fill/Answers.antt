@@ -1,5 +1,5 @@
 use borrow.Author.Rules.{rules}
-use Prim.Native.Nat.{◌<◌, ◌-◌, ◌^◌}
+use Prim.Native.Nat.{◌<◌, ◌^◌}
 use mathlib.Core.Path.{◌≡◌, refl, ◌∙◌}
 use native.Mathlib.Nat.{mod-eq_of_lt}
 use native.Mathlib.Numerals.{add-one}
@@ -12,29 +12,6 @@ use Rattle.state_registers.specs.Filling.{present_after, values_after, length-af
 use Rattle.state_registers.specs.Filling.{filled_by, filled-present, filled-values}
 use Rattle.state_registers.proofs.Registers.fill.Goals as goal
 
-sized : (c : goal.After-with_bit-present) → length c.args.values ≡ register_count
-sized c = search rules
-
-sized-2 : (c : goal.After-low) → length c.args.values ≡ register_count
-sized-2 c = search rules
-
-came-sized : (c : goal.After-low) → length c.args.self.values ≡ register_count
-came-sized c = search rules
-
-final-present : (c : goal.After-with_bit-present)
-    → (filled_by (take c.args.count c.args.values)).present ≡ 2 ^ c.args.count - 1
-final-present c = filled-present c.args.count c.args.values c.requires.0 (sized c)
-
-final-present-2 : (c : goal.After-low)
-    → (filled_by (take c.args.count c.args.values)).present ≡ 2 ^ c.args.count - 1
-final-present-2 c = filled-present c.args.count c.args.values c.requires.0 (sized-2 c)
-
-final-values : (c : goal.After-with_bit-present) → (filled_by (take c.args.count c.args.values)).values ≡ c.args.values
-final-values c = filled-values c.args.count c.args.values c.requires.0 (sized c) c.requires.1
-
-final-values-2 : (c : goal.After-low) → (filled_by (take c.args.count c.args.values)).values ≡ c.args.values
-final-values-2 c = filled-values c.args.count c.args.values c.requires.0 (sized-2 c) c.requires.1
-
 pub loop-i-init : goal.loop-i-init
 unfolding present_after values_after
 loop-i-init c = (omega arith, refl, refl)
@@ -42,26 +19,32 @@ loop-i-init c = (omega arith, refl, refl)
 pub loop-i-preserved : goal.loop-i-preserved
 unfolding present_after values_after
 loop-i-preserved c =
-    let s = c in
-    let l = c.loop-i in (
+    let a = c.args in
+    let p = c.requires in
+    let l = c.loop-i in
+    let long : length a.values ≡ register_count = search rules in (
       omega arith,
-      rw (add-one, c.with_bit-present.ensures, c.low-given.ensures, l.invariant.1, final-present s),
-      rw (add-one, ← l.invariant.2, final-values s),
+      rw (add-one, c.with_bit-present.ensures, c.low-given.ensures, l.invariant.1, filled-present a.count a.values p.0 long),
+      rw (add-one, ← l.invariant.2, filled-values a.count a.values p.0 long p.1),
     )
 
 pub returns : goal.returns
 unfolding filled_by
 returns c =
-    let s = c in
-    let w = s.args.self in
-    let f = filled_by (take s.args.count s.args.values) in
+    let a = c.args in
+    let p = c.requires in
+    let w = a.self in
+    let f = filled_by (take a.count a.values) in
     let l = c.loop-i in
+    let long : length a.values ≡ register_count = search rules in
+    let came-long : length w.values ≡ register_count = search rules in
     let e : l.i ≡ register_count = omega arith in
     let turned : Turned register_count w f l.present l.registers =
-    rw (l.invariant.1, l.invariant.2, e) (after-turns w f (came-sized s) register_count (omega arith)) in
-    let small : f.present < 2 ^ register_count = rw (final-present-2 s) (omega (arith, pow_mono s.requires.0, pow_pos s.args.count)) in
-    let p : bit_and l.present c.low.result ≡ f.present =
+    rw (l.invariant.1, l.invariant.2, e) (after-turns w f came-long register_count (omega arith)) in
+    let small : f.present < 2 ^ register_count = rw (filled-present a.count a.values p.0 long)
+    (omega (arith, pow_mono p.0, pow_pos a.count)) in
+    let present : bit_and l.present c.low.result ≡ f.present =
     rw c.low.ensures (and_mask l.present register_count ∙ turned-present turned ∙ mod-eq_of_lt small) in
-    let r : l.registers ≡ f.values = turned-values turned (rw l.invariant.2 (length-after _ _ _ ∙ came-sized s))
-    (rw (final-values-2 s) (sized-2 s)) in
-    λ i. record { present = p i; values = r i }
+    let values : l.registers ≡ f.values = turned-values turned (rw l.invariant.2 (length-after _ _ _ ∙ came-long))
+    (rw (filled-values a.count a.values p.0 long p.1) long) in
+    λ i. record { present = present i; values = values i }

@@ -9,16 +9,14 @@ use Rattle.state_thread.proofs.thread.ThreadState.call.Goals as goal
 
 pub enter-requires : goal.enter-requires
 enter-requires c =
-    let s = c in
-    let w = s.args.self in
-    let p = s.requires in
+    let w = c.args.self in
+    let p = c.requires in
     (tidy-with w _ _ p.0 (pushed-tidy w.depth w.returns p.0.tidy.returns _ p.1), p.2, p.3, p.4)
 
 pub returns : goal.returns
 returns c =
-    let s = c in
-    let a = s.args in
+    let a = c.args in
     let w = a.self in
     let e : take (w.depth + 1) (set w.returns w.depth c.label_number.result) ≡ returns_of w ++ (a.back.0 ∷ []) =
-    rw c.label_number.ensures (pushed w.depth w.returns s.requires.0.tidy.returns a.back.0 s.requires.1) in
+    rw c.label_number.ensures (pushed w.depth w.returns c.requires.0.tidy.returns a.back.0 c.requires.1) in
     runs_as c.enter.ensures refl (ap (λ l. keeping w (job a.label.0 l (fill (take a.count a.values)))) e)

@@ -8,12 +8,10 @@ use Rattle.rules.specs.Sizes.{register_count}
 use Rattle.state_thread.specs.Threads.{filled_runs}
 use Rattle.state_thread.proofs.thread.ThreadState.enter.Goals as goal
 
-sized : (c : goal.After-fill) → length c.args.values ≡ register_count
-sized c = search rules
-
-few : (c : goal.After-fill) → length (take c.args.count c.args.values) ≤ register_count
-few c = omega (arith, length-take-le c.args.count c.args.values (omega (arith, sized c)))
-
 pub returns : goal.returns
-returns c = rw c.fill.ensures (filled_runs _ _ c.requires.1 c.requires.0.returns c.requires.0.held (few
-    c))
+returns c =
+    let a = c.args in
+    let p = c.requires in
+    let long : length a.values ≡ register_count = search rules in
+    let few : length (take a.count a.values) ≤ register_count = omega (arith, length-take-le a.count a.values (omega (arith, long))) in
+    rw c.fill.ensures (filled_runs _ _ p.1 p.0.returns p.0.held few)

@@ -6,14 +6,12 @@ use Rattle.rules.specs.Sizes.{held_size}
 use Rattle.state_thread.specs.Held.{held_at}
 use Rattle.state_thread.proofs.thread.ThreadState.held_signal.Goals as goal
 
-sized : (c : goal.After-signals-2-1) → length c.args.self.signals ≡ held_size
-sized c = search rules
-
 pub read_signal-requires : goal.read_signal-requires
-read_signal-requires c = omega (arith, sized c)
+read_signal-requires c =
+    let long : length c.args.self.signals ≡ held_size = search rules in
+    omega (arith, long)
 
 pub returns : goal.returns
 returns c =
-    let s = c in
-    let w = s.args.self in
-    held_at w.held w.signals s.requires.0.tidy.held s.args.i s.requires.1 c.read_signal.ensures
+    let w = c.args.self in
+    held_at w.held w.signals c.requires.0.tidy.held c.args.i c.requires.1 c.read_signal.ensures

@@ -7,20 +7,18 @@ use Rattle.state_thread.proofs.thread.ThreadState.return_to_caller.Goals as goal
 
 pub enter-requires : goal.enter-requires
 enter-requires c =
-    let s = c in
-    let w = s.args.self in
-    let p = s.requires in
+    let w = c.args.self in
+    let p = c.requires in
     let l : c.label_of-label.result.0 ≡ newest_of (returns_of w) = ap (λ l. l.0) c.label_of-label.ensures
     ∙ popped-label w.depth w.returns p.0.tidy.returns p.1 in
     (tidy-with w _ _ p.0 (popped-tidy w.depth w.returns p.0.tidy.returns p.1), rw l p.2, p.3, p.4)
 
 pub returns : goal.returns
 returns c =
-    let s = c in
-    let a = s.args in
+    let a = c.args in
     let w = a.self in
-    let z = s.requires.0.tidy.returns in
+    let z = c.requires.0.tidy.returns in
     let l : c.label_of-label.result.0 ≡ newest_of (returns_of w) = ap (λ l. l.0) c.label_of-label.ensures
-    ∙ popped-label w.depth w.returns z s.requires.1 in
+    ∙ popped-label w.depth w.returns z c.requires.1 in
     runs_as c.enter.ensures refl (λ i. keeping w
-    (job (l i) (popped w.depth w.returns z s.requires.1 i) (fill (take a.count a.values))))
+    (job (l i) (popped w.depth w.returns z c.requires.1 i) (fill (take a.count a.values))))

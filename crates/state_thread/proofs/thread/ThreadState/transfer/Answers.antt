@@ -5,12 +5,9 @@ use Rattle.rules.specs.Sizes.{register_count}
 use Rattle.state_thread.specs.Threads.{transferred-runs}
 use Rattle.state_thread.proofs.thread.ThreadState.transfer.Goals as goal
 
-sized : (c : goal.After-struct_known-1) → length c.args.values ≡ register_count
-sized c = search rules
-
 pub returns : goal.returns
 returns c =
-    let s = c in
-    let a = s.args in
-    let p = s.requires in
-    rw c.low.ensures (transferred-runs a.self a.label.0 a.count a.values p.0 p.1 p.2 (sized s) p.3)
+    let a = c.args in
+    let p = c.requires in
+    let long : length a.values ≡ register_count = search rules in
+    rw c.low.ensures (transferred-runs a.self a.label.0 a.count a.values p.0 p.1 p.2 long p.3)
