@@ -3,7 +3,10 @@
 # versions agree, each call has its manual page, the examples are built as the guide for hosts says, no text names a file of the repository
 # that is not installed, and uninstall leaves no file, with DESTDIR as without.
 set -eu
-place=$PWD/build/installed
+# (elsewhere than here, where rt ci takes no symbolic link)
+folder=$(mktemp -d)
+trap 'rm -rf "$folder"' EXIT
+place=$folder/installed
 libdir=$place/lib/elsewhere
 papers=$place/share/doc/plex
 
@@ -16,7 +19,7 @@ files() {
     find "$1" ! -type d
 }
 
-rm -rf "$place" build/staged build/install.log
+rm -f build/install.log
 put '' install
 export PKG_CONFIG_PATH="$libdir/pkgconfig"
 # shellcheck disable=SC2046
@@ -45,11 +48,11 @@ sed -n 's/^    \(cc .*\)/\1/p' "$papers/HOSTS.md" >build/examples/commands
 sh tests/references.sh "$place" "$papers"
 
 installed=$(files "$place" | wc -l)
-put "$PWD/build/staged" install
-[ "$(files build/staged | wc -l)" = "$installed" ] || { echo 'installed: DESTDIR gets other files'; exit 1; }
-put "$PWD/build/staged" uninstall
+put "$folder/staged" install
+[ "$(files "$folder/staged" | wc -l)" = "$installed" ] || { echo 'installed: DESTDIR gets other files'; exit 1; }
+put "$folder/staged" uninstall
 put '' uninstall
-left=$(files "$place"; files build/staged)
+left=$(files "$place"; files "$folder/staged")
 [ -z "$left" ] || { echo "installed: uninstall leaves $left"; exit 1; }
 [ ! -d "$papers" ] || { echo "installed: uninstall leaves the folder $papers"; exit 1; }
 echo "installed: $installed files put in place and taken away"

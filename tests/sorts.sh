@@ -1,17 +1,34 @@
 #!/bin/sh
 # One sort of number given for another does not compile, nor does a plain number given for a sort, nor is a sort made or opened by
-# anyone but its named functions. Each case is a wrong function in a module of its own, added to a copy of the crate that declares the
-# sorts; the compiler has to refuse it, and for the reason named here. A right function, tried first, has to compile.
+# anyone but its named functions. Each case is a wrong function in a module that is added to a copy of the crate that declares the
+# sorts; the compiler has to refuse each, and for the reason named here. A right function, tried first, has to compile.
 set -u
 root=$(cd "$(dirname "$0")/.." && pwd)
 copy=$(mktemp -d)
 trap 'rm -rf "$copy"' EXIT
-cp -r "$root/crates/rules" "$copy/rules"
-rm -rf "$copy/rules/must-fail" "$copy/rules/proofs"
-printf 'pub mod tried;\n' >>"$copy/rules/src/lib.rt"
-# the crate that it stands on
-below=$root/target/rlib/rules_decimal.rlib
-[ -d "$below" ] || (cd "$root" && rt check rules_decimal >/dev/null) || exit 1
+# a repository of that crate, without its proofs, and of the one that it stands on
+mkdir -p "$copy/.git" "$copy/crates/rules/src"
+printf 'rules_decimal:\nrules: rules_decimal\n' >"$copy/crates.txt"
+(cd "$root/crates" && tar -c --exclude=out --exclude=must-fail rules_decimal rules/src rules/specs) | tar -x -C "$copy/crates"
+printf 'pub mod tried;\n' >>"$copy/crates/rules/src/lib.rt"
+module=$copy/crates/rules/src/tried.rt
+
+# begin: the module, with no function yet
+begin() {
+    echo 'use crate::sorts;' >"$module"
+    tried=0
+}
+
+# add BODY: a function with this body, in one line
+add() {
+    tried=$((tried + 1))
+    printf '\npub fn tried_%s() {\n    %s\n}\n' $tried "$1" >>"$module"
+}
+
+# compiled: what the compiler says of the module; no proof is tried
+compiled() {
+    (cd "$copy/crates/rules" && rt check --only '' 2>&1) | grep -v '^rt: '
+}
 
 # made NAME: an expression of that sort
 made() {
@@ -24,32 +41,42 @@ made() {
     esac
 }
 
-# tried BODY: what the compiler says of a function with this body
-tried() {
-    printf 'use crate::sorts;\n\npub fn tried() {\n    %s\n}\n' "$1" >"$copy/rules/src/tried.rt"
-    rt check "$copy/rules" --extern rules_decimal="$below" 2>&1 | head -n 3
+begin
+add 'let l = sorts::label_of(1); let n = sorts::label_number(l);'
+case $(compiled) in
+    *error*) echo "sorts: the right function does not compile"; exit 1 ;;
+    *only=0*) ;;
+    *) echo "sorts: the right function is not compiled"; exit 1 ;;
+esac
+
+# refused NAME BODY REASON: a wrong function, and a line with its place and the reason wanted
+refused() {
+    add "$2"
+    printf '%s\t%s\t%s\n' $((4 * tried)) "$3" "$1" >>"$copy/wanted"
 }
 
+# judge: whether the compiler says of each wrong function what is wanted
+judge() {
+    compiled >"$copy/said"
+    while IFS=$tab read -r line reason name; do
+        said=$(grep "^src/tried.rt:$line:" "$copy/said")
+        case $said in
+            *"$reason"*) passed=$((passed + 1)) ;;
+            *)
+                failed=$((failed + 1))
+                echo "sorts: $name: expected '$reason', got: $said"
+                ;;
+        esac
+    done <"$copy/wanted"
+}
+
+tab=$(printf '\t')
 passed=0
 failed=0
-# refused NAME BODY REASON
-refused() {
-    said=$(tried "$2")
-    case $said in
-        *"$3"*) passed=$((passed + 1)) ;;
-        *)
-            failed=$((failed + 1))
-            echo "sorts: $1: expected '$3', got:"
-            echo "$said"
-            ;;
-    esac
-}
-
-right='let l = sorts::label_of(1); let n = sorts::label_number(l);'
-case $(tried "$right") in
-    *error*) echo "sorts: the right function does not compile"; exit 1 ;;
-esac
+# (a sort at a time: the compiler stops at twenty errors)
 for wanted in Label Block Thread Lock; do
+    begin
+    : >"$copy/wanted"
     taker=$(echo "$wanted" | tr 'A-Z' 'a-z')_number
     for given in Label Block Thread Lock 'an integer'; do
         [ "$given" = "$wanted" ] && continue
@@ -60,6 +87,7 @@ for wanted in Label Block Thread Lock; do
     done
     refused "$wanted made outside" "let x = sorts::$wanted(1);" 'error[private-item]'
     refused "$wanted opened outside" "let x = $(made "$wanted"); let n = x.0;" 'error[private-field]'
+    judge
 done
 echo "sorts: $passed wrong functions refused, $failed let through"
 [ "$failed" = 0 ]

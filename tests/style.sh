@@ -10,7 +10,7 @@ report() {
     faults=1
 }
 
-report 'not in the layout of rt fmt' "$(rt fmt --check 2>&1)"
+# (what is not in the layout of rt fmt rt ci refuses itself)
 for crate in second compare; do
     report "not in the layout of rustfmt ($crate)" "$(cd $crate && cargo fmt --check 2>&1 | head -n 20)"
 done
@@ -26,7 +26,7 @@ report 'files over 300 lines' "$(git ls-files '*.c' '*.h' '*.rs' '*.sh' '*.py' '
     awk '$2 != "total" && 300 < $1')"
 
 # a module with the name of a crate could not be told from it
-crates=$(sed -n 's/^\([a-z_0-9]*\):.*/\1/p' crates.txt)
+crates=$(sed -n 's/^\([a-z_0-9]*\)\( staticlib\)*:.*/\1/p' crates.txt)
 report 'modules with the name of a crate' "$(for crate in $crates; do ls crates/*/src/$crate.rt 2>/dev/null; done)"
 
 # the sizes and places of the formats stand in rules alone

@@ -2,7 +2,7 @@
 # that it stands on, but for those that it reaches by way of another.
 /^# ---- / { heading = substr($0, 8); boxes[++box_count] = heading; next }
 /^#/ { about = substr($0, 3); next }
-/^[a-z_0-9]+:/ {
+/^[a-z_0-9]+( staticlib)?:/ {
     name = $1
     sub(/:$/, "", name)
     names[++count] = name
