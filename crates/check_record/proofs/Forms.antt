@@ -2,7 +2,7 @@
 use mathlib.Core.Path.{◌≡◌, refl, ◌∙◌}
 use mathlib.Core.Bool.{Bool, true, false, cond, ◌&&◌, and_assoc, false≢true}
 use mathlib.Core.Option.{Option, none, some}
-use mathlib.Core.List.{List, [], ◌∷◌}
+use mathlib.Core.List.{List}
 use Prim.Native.Nat.{ℕ, ◌+◌, ◌-◌, ◌%◌, ◌^◌, ◌<◌}
 use native.Mathlib.Nat.{zero-div}
 use native.Mathlib.Omega.{arith}
@@ -26,7 +26,7 @@ use Rattle.bytes_fields.specs.Each.{Each, each_append}
 use Rattle.bytes_fields.specs.Marked.{clear}
 use Rattle.lemmas_rules.specs.Logic.{and_both}
 use Rattle.check_record.specs.Forms.{both_ok, labels_ok, form_ok}
-use Rattle.check_record.specs.Rows.{Asks, Line, line, inner_if, steps, carries, stores, assigns, branches, table, refuses, asks_in}
+use Rattle.check_record.specs.Rows.{Asks, Line, line, inner_if, steps, carries, stores, assigns, branches, table, asks_in}
 use Rattle.check_record.specs.Tests.{summed, second_ok, stores_ok}
 use Rattle.check_record.proofs.Sums.{same, plain, chosen}
 use Rattle.check_record.proofs.Lines.{NoLine, At, lookup}
