@@ -85,7 +85,7 @@ prove: | build
 	@! grep -qE '^rt: ok;.*, [1-9][0-9]* bad(;|$$)' build/ci.log || { echo 'prove: bad edits fail here'; exit 1; }
 	flock build/library.lock sh tools/library.sh proved
 
-# the trials compiled three ways, once with the compiler's assumptions checked
+# the trials compiled a third way, with the compiler's assumptions checked; rt ci runs them as two compilers make them
 try:
 	sh tests/try.sh
 

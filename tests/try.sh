@@ -1,17 +1,16 @@
 #!/bin/sh
-# The trials compiled three ways, once with the compiler's assumptions checked. rt gives each of these runs ten seconds, so of the sets
-# between the first, the base, and the last only the cases are tried here: rt ci tries their damaged calls and near states, too, in the
-# proved program.
+# The trials compiled a third way: without proofs, and with the compiler's assumptions checked, so that an index out of bounds, a sum that
+# wraps or a bad access would stop them. rt ci runs the proved program as two compilers make it, LLVM and Rattle's own. Every line of the
+# vectors is tried, and printed is what rt ci wants.
 set -eu
 folder=$(mktemp -d)
 trap 'rm -rf "$folder"' EXIT
-cp -r crates crates.txt "$folder"
-cd "$folder/crates/trials"
-sed '1d;$d' data/sets.txt | while read -r set name; do
-    for file in data/"$set"/damaged.txt data/"$set"/near.txt; do
-        [ ! -e "$file" ] || : >"$file"
-    done
-    sed -E -i "/ lines .* of $name agree/s/[0-9]+ of [0-9]+/0 of 0/" stdout
+cd crates/trials
+for file in $(cd data && find . -type f | sed 's|^\./||'); do
+    set -- "$@" --data "$file=data/$file"
 done
-cd "$folder"
-rt try trials
+rt try --seconds 600 "$@" >"$folder/stdout" 2>"$folder/said" </dev/null ||
+    { echo "try: status $?"; tail -n 5 "$folder/said"; exit 1; }
+grep -q '^checked: ended status=0$' "$folder/said" || { echo 'try: they did not end'; tail -n 5 "$folder/said"; exit 1; }
+diff "$folder/stdout" stdout || { echo 'try: they print something else'; exit 1; }
+echo "try: $(wc -l <stdout) lines printed, as in the proved program"
