@@ -1,11 +1,14 @@
 use mathlib.Core.Path.{◌≡◌, refl}
+use mathlib.Core.List.{List}
 use Prim.Native.Nat.{ℕ, ◌+◌, ◌<◌}
 use native.Mathlib.Omega.{arith}
 use lib.ListN.{length}
 use Rattle.rules.specs.Sizes.{thread_count, operand_count, state_size}
-use Rattle.rules.specs.Statements.{operand_at, optional, shape, destinations}
+use Rattle.rules.specs.Statements.{operand_at, optional, shape, destinations, assignment_of}
 use Rattle.rules.specs.Effects.{Cells}
 use Rattle.rules.specs.declared.statement.Operation.{Operation}
+use Rattle.rules.specs.declared.statement.Assignment.{Assignment}
+use Rattle.state_thread.specs.declared.thread.ThreadState.{ThreadState}
 use Rattle.rules.specs.declared.statement.Operation.TheVariants.{Copy, Add, Subtract, Multiply, Divide, Pack, Unpack, DecimalAdd}
 use Rattle.lemmas_encoding.specs.Slots.{registers_in}
 use Rattle.lemmas_step.specs.Statements.{results}
@@ -17,71 +20,78 @@ use Rattle.step_results.specs.Reading.{results_by, sources-fit, worked-out}
 use borrow.Author.Rules.{rules}
 use Rattle.step_results.proofs.results_of.Goals as goal
 
-module _ (s : tie.Start) (o : Operation) (k : ℕ) (by : s.args.a.operation ≡ o) (n : destinations (shape o) ≡ k) where
-  -- what an arm asks of its sources, which stand from place k on
-  asked : k + 1 < operand_count
-      → (length s.args.state.now ≡ state_size) × Readable s.args.r.now × (k + 1 < operand_count)
-      × Fits (operand_at s.args.r.now k) × Fits (optional (shape o).right s.args.r.now (k + 1)) × (s.args.t.0 < thread_count)
-      × (s.args.w.registers ≡ registers_in s.args.state.now s.args.t.0)
-  asked l =
-      let p = s.requires in
-      let f = sources-fit s.args.a s.args.r.now o k p.6 by n p.2 p.3 in
-      (p.0, p.1, l, f.0, f.1, p.4, p.5)
-  abbrev cells : Cells
-  cells = cells_of s.args.state.now s.args.w s.args.r.now
-  -- what it works out are the results of the assignment
-  answered : (d : Computation)
-      → Computes (results_by cells o (operand_at s.args.r.now k) (optional (shape o).right s.args.r.now (k + 1))) d
-      → Computes (results cells s.args.a) d
-  answered d h = worked-out s.args.a s.args.r.now o k s.requires.6 by n cells d h
+-- what an arm asks of its sources, which stand from place k on
+asked : (state r : List ℕ) (t : ℕ) (w : ThreadState) (a : Assignment) (o : Operation) (k : ℕ) → a.operation ≡ o → destinations (shape o) ≡ k
+    → (length state ≡ state_size) × Readable r × Fits a.left × Fits a.right × (t < thread_count)
+        × (w.registers ≡ registers_in state t) × (a ≡ assignment_of a.operation r)
+    → k + 1 < operand_count
+    → (length state ≡ state_size) × Readable r × (k + 1 < operand_count)
+        × Fits (operand_at r k) × Fits (optional (shape o).right r (k + 1)) × (t < thread_count)
+        × (w.registers ≡ registers_in state t)
+asked state r t w a o k by n p l =
+    let f = sources-fit a r o k p.6 by n p.2 p.3 in
+    (p.0, p.1, l, f.0, f.1, p.4, p.5)
 
 pub work_out-requires : goal.work_out-requires
-work_out-requires c = asked c Copy 1 c.in-Copy.is refl (omega arith)
-
-pub returns-in-Copy : goal.returns-in-Copy
-returns-in-Copy c = answered c Copy 1 c.in-Copy.is refl _ c.work_out.ensures
+work_out-requires c =
+    asked c.args.state.now c.args.r.now c.args.t.0 c.args.w c.args.a Copy 1 c.in-Copy.is refl c.requires (omega arith)
 
 pub work_out-requires-in-Add : goal.work_out-requires-in-Add
-work_out-requires-in-Add c = asked c Add 1 c.in-Add.is refl (omega arith)
-
-pub returns-in-Add : goal.returns-in-Add
-returns-in-Add c = answered c Add 1 c.in-Add.is refl _ c.work_out-in-Add.ensures
+work_out-requires-in-Add c =
+    asked c.args.state.now c.args.r.now c.args.t.0 c.args.w c.args.a Add 1 c.in-Add.is refl c.requires (omega arith)
 
 pub work_out-requires-in-Subtract : goal.work_out-requires-in-Subtract
-work_out-requires-in-Subtract c = asked c Subtract 1 c.in-Subtract.is refl (omega arith)
+work_out-requires-in-Subtract c =
+    asked c.args.state.now c.args.r.now c.args.t.0 c.args.w c.args.a Subtract 1 c.in-Subtract.is refl c.requires (omega arith)
+
+pub work_out-requires-in-Multiply : goal.work_out-requires-in-Multiply
+work_out-requires-in-Multiply c =
+    asked c.args.state.now c.args.r.now c.args.t.0 c.args.w c.args.a Multiply 1 c.in-Multiply.is refl c.requires (omega arith)
+
+pub work_out-requires-in-Divide : goal.work_out-requires-in-Divide
+work_out-requires-in-Divide c =
+    asked c.args.state.now c.args.r.now c.args.t.0 c.args.w c.args.a Divide 2 c.in-Divide.is refl c.requires (omega arith)
+
+pub work_out-requires-in-Pack : goal.work_out-requires-in-Pack
+work_out-requires-in-Pack c =
+    asked c.args.state.now c.args.r.now c.args.t.0 c.args.w c.args.a Pack 1 c.in-Pack.is refl c.requires (omega arith)
+
+pub work_out-requires-in-Unpack : goal.work_out-requires-in-Unpack
+work_out-requires-in-Unpack c =
+    asked c.args.state.now c.args.r.now c.args.t.0 c.args.w c.args.a Unpack 1 c.in-Unpack.is refl c.requires (omega arith)
+
+pub work_out-requires-in-DecimalAdd : goal.work_out-requires-in-DecimalAdd
+work_out-requires-in-DecimalAdd c =
+    asked c.args.state.now c.args.r.now c.args.t.0 c.args.w c.args.a DecimalAdd 1 c.in-DecimalAdd.is refl c.requires (omega arith)
+
+pub returns-in-Copy : goal.returns-in-Copy
+returns-in-Copy c =
+    worked-out c.args.a c.args.r.now Copy 1 c.requires.6 c.in-Copy.is refl (cells_of c.args.state.now c.args.w c.args.r.now) _ c.work_out.ensures
+
+pub returns-in-Add : goal.returns-in-Add
+returns-in-Add c =
+    worked-out c.args.a c.args.r.now Add 1 c.requires.6 c.in-Add.is refl (cells_of c.args.state.now c.args.w c.args.r.now) _ c.work_out-in-Add.ensures
 
 pub returns-in-Subtract : goal.returns-in-Subtract
 returns-in-Subtract c =
-    answered c Subtract 1 c.in-Subtract.is refl _ c.work_out-in-Subtract.ensures
-
-pub work_out-requires-in-Multiply : goal.work_out-requires-in-Multiply
-work_out-requires-in-Multiply c = asked c Multiply 1 c.in-Multiply.is refl (omega arith)
+    worked-out c.args.a c.args.r.now Subtract 1 c.requires.6 c.in-Subtract.is refl (cells_of c.args.state.now c.args.w c.args.r.now) _ c.work_out-in-Subtract.ensures
 
 pub returns-in-Multiply : goal.returns-in-Multiply
 returns-in-Multiply c =
-    answered c Multiply 1 c.in-Multiply.is refl _ c.work_out-in-Multiply.ensures
-
-pub work_out-requires-in-Divide : goal.work_out-requires-in-Divide
-work_out-requires-in-Divide c = asked c Divide 2 c.in-Divide.is refl (omega arith)
+    worked-out c.args.a c.args.r.now Multiply 1 c.requires.6 c.in-Multiply.is refl (cells_of c.args.state.now c.args.w c.args.r.now) _ c.work_out-in-Multiply.ensures
 
 pub returns-in-Divide : goal.returns-in-Divide
-returns-in-Divide c = answered c Divide 2 c.in-Divide.is refl _ c.work_out-in-Divide.ensures
-
-pub work_out-requires-in-Pack : goal.work_out-requires-in-Pack
-work_out-requires-in-Pack c = asked c Pack 1 c.in-Pack.is refl (omega arith)
+returns-in-Divide c =
+    worked-out c.args.a c.args.r.now Divide 2 c.requires.6 c.in-Divide.is refl (cells_of c.args.state.now c.args.w c.args.r.now) _ c.work_out-in-Divide.ensures
 
 pub returns-in-Pack : goal.returns-in-Pack
-returns-in-Pack c = answered c Pack 1 c.in-Pack.is refl _ c.work_out-in-Pack.ensures
-
-pub work_out-requires-in-Unpack : goal.work_out-requires-in-Unpack
-work_out-requires-in-Unpack c = asked c Unpack 1 c.in-Unpack.is refl (omega arith)
+returns-in-Pack c =
+    worked-out c.args.a c.args.r.now Pack 1 c.requires.6 c.in-Pack.is refl (cells_of c.args.state.now c.args.w c.args.r.now) _ c.work_out-in-Pack.ensures
 
 pub returns-in-Unpack : goal.returns-in-Unpack
-returns-in-Unpack c = answered c Unpack 1 c.in-Unpack.is refl _ c.work_out-in-Unpack.ensures
-
-pub work_out-requires-in-DecimalAdd : goal.work_out-requires-in-DecimalAdd
-work_out-requires-in-DecimalAdd c = asked c DecimalAdd 1 c.in-DecimalAdd.is refl (omega arith)
+returns-in-Unpack c =
+    worked-out c.args.a c.args.r.now Unpack 1 c.requires.6 c.in-Unpack.is refl (cells_of c.args.state.now c.args.w c.args.r.now) _ c.work_out-in-Unpack.ensures
 
 pub returns-in-DecimalAdd : goal.returns-in-DecimalAdd
 returns-in-DecimalAdd c =
-    answered c DecimalAdd 1 c.in-DecimalAdd.is refl _ c.work_out-in-DecimalAdd.ensures
+    worked-out c.args.a c.args.r.now DecimalAdd 1 c.requires.6 c.in-DecimalAdd.is refl (cells_of c.args.state.now c.args.w c.args.r.now) _ c.work_out-in-DecimalAdd.ensures
