@@ -1,0 +1,30 @@
+use mathlib.Core.Path.{◌∙◌}
+use borrow.Author.Rules.{rules}
+use Rattle.walk_waits.specs.Waiting.{opcode-send, opcode-call, opcode-other, waits-passage, waits-nobody}
+use Rattle.walk_waits.proofs.running_waits.Goals as goal
+
+pub send_passage-requires : goal.send_passage-requires
+send_passage-requires c = (
+  c.requires,
+  opcode-send
+      c.args.r.now c.in-5.is,
+  search rules,
+)
+
+pub call_passage-requires : goal.call_passage-requires
+call_passage-requires c = (
+  c.requires,
+  opcode-call
+      c.args.r.now c.in-7.is,
+  search rules,
+)
+
+pub returns-in-5 : goal.returns-in-5
+returns-in-5 c = c.passage_waits.ensures ∙ waits-passage c.send_passage.ensures
+
+pub returns-in-7 : goal.returns-in-7
+returns-in-7 c = c.passage_waits-in-7.ensures ∙ waits-passage c.call_passage.ensures
+
+pub returns-in_default : goal.returns-in_default
+returns-in_default c = waits-nobody c.requires
+    (opcode-other c.args.r.now c.in_default.in_default-own.rest.0.1 c.in_default.in_default-own.rest.1)
