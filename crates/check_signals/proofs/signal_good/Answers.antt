@@ -1,43 +1,30 @@
-use mathlib.Core.Path.{◌≡◌, sym, ap, ◌∙◌}
-use lib.ListN.{drop}
+use Rattle.std.proofs.Common.{◌≡◌, drop, sym, ap, ◌∙◌}
 use Rattle.rules.specs.Bytes.{num16}
 use Rattle.rules.specs.Image.{record_at}
 use Rattle.rules.specs.declared.sorts.Label.{Label}
 use Rattle.image_record.specs.Records.{none-past, some-long}
 use Rattle.check_signals.specs.Signals.{signal-past, signal-at-label}
 use Rattle.check_signals.proofs.signal_good.Goals as goal
+use Rattle.check_signals.proofs.signal_good.Goals.{After-record_at-r}
 
 -- the part that was handed back, by the signal's label
-here : (c : goal.Then-r-eq0) → c.record_at-r.result.now
-    ≡ record_at c.args.image.now (num16 (drop c.args.at c.args.s.now))
+here : (c : After-record_at-r) → c.record_at-r.result.now ≡ record_at c.args.image.now (num16 (drop c.args.at c.args.s.now))
 here c =
-    c.record_at-r.ensures ∙ ap (record_at c.args.image.now)
-    (ap (λ (l : Label). l.0) c.label_of.ensures ∙ c.get16.ensures)
-
--- the part that was handed back, by the signal's label
-here-2 : (c : goal.Else-r-eq0) → c.record_at-r.result.now
-    ≡ record_at c.args.image.now (num16 (drop c.args.at c.args.s.now))
-here-2 c =
-    c.record_at-r.ensures ∙ ap (record_at c.args.image.now)
-    (ap (λ (l : Label). l.0) c.label_of.ensures ∙ c.get16.ensures)
-
--- the part that was handed back, by the signal's label
-here-3 : (c : goal.After-signal_tidy) → c.record_at-r.result.now
-    ≡ record_at c.args.image.now (num16 (drop c.args.at c.args.s.now))
-here-3 c =
     c.record_at-r.ensures ∙ ap (record_at c.args.image.now)
     (ap (λ (l : Label). l.0) c.label_of.ensures ∙ c.get16.ensures)
 
 pub returns-then-r-eq0 : goal.returns-then-r-eq0
 returns-then-r-eq0 c =
-    let a = (c).args in
-    sym (signal-past a.image.now a.external a.s.now a.at (none-past _ _ (here c) c.if-r-eq0.true))
+    let a = c.args in
+    let r = here (goal.at.returns-then-r-eq0 c).After-record_at-r in
+    sym (signal-past a.image.now a.external a.s.now a.at (none-past _ _ r c.if-r-eq0.true))
 
 pub entry_field-entry-requires : goal.entry_field-entry-requires
-entry_field-entry-requires c = some-long _ _ (here-2 c) c.if-r-eq0.false
+entry_field-entry-requires c =
+    some-long _ _ (here (goal.at.entry_field-entry-requires c).After-record_at-r) c.if-r-eq0.false
 
 pub returns : goal.returns
 returns c =
     let a = c.args in
-    simp (c.signal_tidy.ensures, c.entry_field-entry.ensures, here-3 c)
+    simp (c.signal_tidy.ensures, c.entry_field-entry.ensures, here (goal.at.returns c).After-record_at-r)
     (sym (signal-at-label a.image.now a.external a.s.now a.at))
