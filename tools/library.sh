@@ -86,8 +86,8 @@ echo "libplex.a: $# crates to prove, some minutes on a fresh machine; the prover
 } 3>"$log"
 code=$(cat "$status" || echo 2)
 if [ "$code" -ne 0 ]; then
-    echo "libplex.a: not built; the end of $log:"
-    tail -n 20 "$log"
+    echo "libplex.a: not built; the end of $log, without the lines that count modules:"
+    grep -v ': modules loaded=' "$log" | tail -n 20
     exit "$code"
 fi
 cp crates/plex_c/out/libplex_c.a "$library"
