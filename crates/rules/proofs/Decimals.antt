@@ -9,8 +9,9 @@ use Prim.Native.Nat.{ℕ, ◌+◌, ◌*◌, ◌≤◌, ◌<◌}
 use native.Mathlib.Omega.{arith}
 use lib.ListN.{length, get_or}
 use borrow.Author.Tests.{lt-ltb, le-ltb, le-leb, eq-eqb}
-use Rattle.rules_decimal.specs.WrittenOut as written
-use Rattle.rules_decimal.specs.WrittenOut.{Below, all-decimal, one-above}
+use Rattle.rules_decimal.specs.WrittenOut.{Below}
+use Rattle.rules_decimal.proofs.WrittenOut as written
+use Rattle.rules_decimal.proofs.WrittenOut.{all-decimal, one-above}
 use Rattle.rules.specs.Image.{record_at, opcode, operator, block_field, entry, operands, kind}
 use Rattle.rules.specs.Statements.{shape, optional, assignment_by, assignment_of, statement_of}
 use Rattle.rules.specs.Check.{assign_ok, head_ok}

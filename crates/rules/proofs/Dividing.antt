@@ -20,8 +20,10 @@ use Rattle.rules.specs.Calls.{check_return}
 use Rattle.rules.specs.Machine.{Job, job, with_held, Machine}
 use Rattle.rules.specs.Effects.{got, Cells, read, both, compute, store}
 use Rattle.rules.specs.Steps.{Reply, block_at}
-use Rattle.rules.specs.Division.{computed, by_zero}
-use Rattle.rules.specs.Storing.{Place, first-stored, second-stored}
+use Rattle.rules.specs.Division.{by_zero}
+use Rattle.rules.specs.Storing.{Place}
+use Rattle.rules.proofs.Quotients.{computed}
+use Rattle.rules.proofs.StoredBoth.{first-stored, second-stored}
 use Rattle.rules.specs.declared.statement.Operand.{Operand}
 use Rattle.rules.specs.declared.statement.Operand.TheVariants.{Register}
 use Rattle.rules.specs.declared.statement.Operation.TheVariants.{Divide}

@@ -11,3 +11,5 @@ pub mod Decimals
 pub mod Waits
 pub mod Founding
 pub mod Trials
+pub mod Quotients
+pub mod StoredBoth

@@ -1,7 +1,7 @@
 -- What is stored is read there, and nowhere else. So two values whose destinations are not equal are stored together: each is read where
 -- it was stored, and their order does not matter.
 use Rattle.std.specs.Prelude.{◌≡◌, refl, ◌≢◌, List, ℕ, ◌<◌, length}
-use Rattle.std.proofs.Common.{ap, ◌∙◌, length-set, get_or-set_same, get_or-set_other}
+use Rattle.std.proofs.Common.{ap, length-set, get_or-set_same, get_or-set_other}
 use Rattle.std.proofs.Math.Option.{Option, none, some}
 use Rattle.std.proofs.lemmas.List.{set_comm}
 use Rattle.rules.specs.Sizes.{word_count}
@@ -48,13 +48,6 @@ pub length-words : (c : Cells) (d : Operand) (v : ℕ) → length (store d v c).
 length-words c (Number n) v = refl
 length-words c (Register r) v = refl
 length-words c (Word w) v = length-set c.words w v
-
-module _ (c : Cells) (d e : Operand) (u v : ℕ) (differ : d ≢ e) where
-  pub first-stored : Place c d → read (store e v (store d u c)) d ≡ got u
-  first-stored h = read-other (store d u c) d e v differ ∙ read-stored c d u h
-
-  pub second-stored : Place c e → read (store e v (store d u c)) e ≡ got v
-  second-stored h = read-stored (store d u c) e v (place-stored c e d u h)
 
 pub together : (c : Cells) (d e : Operand) (u v : ℕ) → d ≢ e → store e v (store d u c) ≡ store d u (store e v c)
 together c (Number n) e u v h = refl

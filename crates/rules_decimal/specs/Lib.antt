@@ -2,9 +2,6 @@
 pub mod Digits
 pub mod DigitLaws
 pub mod Packed
-pub mod PackedLaws
 pub mod WrittenOut
 pub mod Masks
 pub mod AboveNine
-pub mod AllAtOnce
-pub mod FourDigits

@@ -8,7 +8,7 @@ use Rattle.std.proofs.Common.{subst, inl, inr, arith, lt-ltb, le-ltb}
 use Rattle.std.proofs.Math.Bool.{and-false}
 use Rattle.std.proofs.Math.Option.{none, some}
 use Rattle.rules_decimal.specs.Packed.{pack, packed, unpack, sum}
-use Rattle.rules_decimal.specs.PackedLaws.{unpack-pack, pack-packed, pack-unpack, unpack-below, unpack-sum, sum-packed}
+use Rattle.rules_decimal.proofs.PackedLaws.{unpack-pack, pack-packed, pack-unpack, unpack-below, unpack-sum, sum-packed}
 use Rattle.rules.specs.Image.{record_at, opcode}
 use Rattle.rules.specs.Statements.{shape, operation_at, optional, assignment_by, assignment_of, statement_of}
 use Rattle.rules.specs.Machine.{Job, running, thread_at}

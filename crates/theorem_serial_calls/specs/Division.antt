@@ -9,8 +9,10 @@ use Rattle.rules.specs.Image.{record_at, opcode}
 use Rattle.rules.specs.Statements.{operation_at, optional, assignment_by, assignment_of, statement_of}
 use Rattle.rules.specs.Machine.{Job, running, Machine, thread_at}
 use Rattle.rules.specs.Effects.{got, Cells, read, store}
-use Rattle.rules.specs.Division.{Divided, computed, by_zero}
-use Rattle.rules.specs.Storing.{Place, read-other, first-stored, second-stored}
+use Rattle.rules.specs.Division.{Divided, by_zero}
+use Rattle.rules.specs.Storing.{Place, read-other}
+use Rattle.rules.proofs.Quotients.{computed}
+use Rattle.rules.proofs.StoredBoth.{first-stored, second-stored}
 use Rattle.rules.specs.Events.{Event, step}
 use Rattle.rules.specs.declared.statement.Assignment.{Assignment}
 use Rattle.rules.specs.declared.statement.Operand.{Operand}

@@ -1,4 +1,4 @@
-use Rattle.rules_decimal.specs.FourDigits.{four-carries, four-added}
+use Rattle.rules_decimal.proofs.FourDigits.{four-carries, four-added}
 use Rattle.rules_decimal.proofs.add_packed.Goals as goal
 
 pub overflow_sub-result : goal.overflow_sub-result

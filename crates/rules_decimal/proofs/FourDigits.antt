@@ -7,9 +7,10 @@ use Rattle.std.specs.Int.Bits.{bit_and, bit_xor}
 use Rattle.std.proofs.lemmas.Nat.{and_le_r}
 use Rattle.rules_decimal.specs.Digits.{digits, number, sums}
 use Rattle.rules_decimal.specs.DigitLaws.{below-larger, number-below, sums-below}
-use Rattle.rules_decimal.specs.PackedLaws.{decimal, fits}
-use Rattle.rules_decimal.specs.AboveNine.{above, none_above}
-use Rattle.rules_decimal.specs.AllAtOnce.{total, summed}
+use Rattle.rules_decimal.proofs.PackedLaws.{decimal, fits}
+use Rattle.rules_decimal.specs.AboveNine.{above}
+use Rattle.rules_decimal.proofs.AboveNine.{none_above}
+use Rattle.rules_decimal.proofs.AllAtOnce.{total, summed}
 use Rattle.rules_decimal.specs.Packed.{pack, packed, unpack, sum}
 
 module _ (x : ℕ) where
