@@ -1,7 +1,9 @@
 -- Runs of bytes stored into a list and read from it, and the laws of both.
 use Rattle.std.specs.Prelude.{◌≡◌, List, [], ◌∷◌, ◌++◌, ℕ, suc, ◌+◌, ◌≤◌, ◌<◌, length, get_or, take, drop}
 use Rattle.std.proofs.Math.Path.{refl}
-use Rattle.std.proofs.Common.{sym, ap, ◌∙◌, append_assoc, append-nil, add-zero, add-suc, suc-add, zero-add, add-one, arith, length-append, length-drop, take-append-drop, take_at, drop_at, get_or-drop, take-suc, length-take-le, take-add, get_or-set_other, drop-drop, get_or-append-add}
+use Rattle.std.proofs.Common.{sym, ap, ◌∙◌, append_assoc, append-nil, add-zero, add-suc, suc-add, zero-add, add-one, arith, length-append}
+use Rattle.std.proofs.Common.{length-drop, take-append-drop, take_at, drop_at, get_or-drop, take-suc, length-take-le, take-add}
+use Rattle.std.proofs.Common.{get_or-set_other, drop-drop, get_or-append-add}
 use Rattle.std.proofs.Math.ListN.{set}
 use Rattle.std.proofs.lemmas.List.Edits.{sets, sets-eq}
 use Rattle.std.proofs.Math.Seq.{length-sets, drop-append-add}

@@ -1,5 +1,6 @@
 -- The laws of tests over runs of bytes and of numbers, one turn of a loop at a time.
-use Rattle.std.specs.Prelude.{◌≡◌, Bool, true, false, cond, ◌&&◌, not, List, [], ◌∷◌, ◌++◌, ℕ, zero, suc, ◌+◌, ◌*◌, ◌-◌, ◌/◌, ◌%◌, ◌≤◌, ◌<◌, length, get_or, take, drop, replicate}
+use Rattle.std.specs.Prelude.{◌≡◌, Bool, true, false, cond, ◌&&◌, not, List, [], ◌∷◌, ◌++◌, ℕ, zero, suc, ◌+◌, ◌*◌, ◌-◌, ◌/◌, ◌%◌, ◌≤◌, ◌<◌}
+use Rattle.std.specs.Prelude.{length, get_or, take, drop, replicate}
 use Rattle.std.proofs.Math.Path.{refl, sym}
 use Rattle.std.proofs.Common.{ap, ◌∙◌, add-zero, mul-zero, mul-le-mul_right, get_or-drop, drop-drop, take-add, eqb-true, eq-eqb, ne_eqb}
 use Rattle.std.proofs.Math.Bool.{and_assoc, and_comm, and-true, and-false}
@@ -53,7 +54,8 @@ byte-none (x ∷ b) = sym (and-true (eqb x 0))
 
 num16-none : (b : List ℕ) → eqb (num16 b) 0 ≡ is_zeros (take 2 b)
 unfolding num16
-num16-none b = halves-none b 1 256 (get_or b 0 0) (get_or b 1 0) (omega arith) (byte-none b) (rw (get_or-drop 1 b 0 0) at (byte-none (drop 1 b)))
+num16-none b = halves-none b 1 256 (get_or b 0 0) (get_or b 1 0) (omega arith) (byte-none b)
+    (rw (get_or-drop 1 b 0 0) at (byte-none (drop 1 b)))
 
 num32-none : (b : List ℕ) → eqb (num32 b) 0 ≡ is_zeros (take 4 b)
 unfolding num32
@@ -138,7 +140,8 @@ module _ (s : List ℕ) (at half : ℕ) (z : Bool) where
           zeros-cut s
               (at + half) k 8,
         )
-        (go z (is_zeros (part s at k)) (is_zeros (part s (at + half) k)) (is_zeros (part s (at + k) 8)) (is_zeros (part s (at + half + k) 8))),
+        (go z (is_zeros (part s at k)) (is_zeros (part s (at + half) k)) (is_zeros (part s (at + k) 8))
+        (is_zeros (part s (at + half + k) 8))),
   )
     where
       go : (z a b x y : Bool) → (((z && (a && b)) && x) && y) ≡ (z && ((a && x) && (b && y)))

@@ -40,7 +40,8 @@ found : (set k i : ℕ) → first_from (λ l. has l set) i k ≡ cond (ltb (coun
     (some (i + count_trailing_zeros k (set / 2 ^ i))) none
 unfolding first_from count_trailing_zeros
 found set zero i = refl
-found set (suc k) i = go (set / 2 ^ i % 2) (omega arith) (count_trailing_zeros k (set / 2 ^ i / 2)) (rw (← half set i) at (found set k (i + 1)))
+found set (suc k) i = go (set / 2 ^ i % 2) (omega arith) (count_trailing_zeros k (set / 2 ^ i / 2))
+    (rw (← half set i) at (found set k (i + 1)))
   where
     go : (d : ℕ) → d < 2 → (t : ℕ) → first_from (λ l. has l set) (i + 1) k ≡ cond (ltb t k) (some (i + 1 + t)) none
         → cond (eqb d 1) (some i) (first_from (λ l. has l set) (i + 1) k) ≡ cond (ltb (under d t) (suc k)) (some (i + under d t)) none

@@ -83,7 +83,8 @@ module _ (s : List ℕ) where
     unfolding none_seen
     scanned-next locks h e =
         let w : ThreadState = thread_from (drop (threads_place + thread_size * t) s) in
-        let l : List ThreadState = chunks thread_from thread_size (thread_count - (t + 1)) (drop (threads_place + thread_size * (t + 1)) s) in (
+        let l : List ThreadState = chunks thread_from thread_size (thread_count - (t + 1)) (drop (threads_place + thread_size * (t + 1)) s)
+        in (
           omega arith,
           inv.1 ∙ rw (chunk-step thread_from thread_size s threads_place thread_count t h, e)
               (sym (and_assoc ok (without seen w) (none_seen (bit_or seen (locks_of w)) l))),

@@ -1,5 +1,6 @@
 -- Three bytes that are in range are an operand.
-use Rattle.std.proofs.Common.{◌≡◌, ℕ, zero, suc, ◌+◌, ◌*◌, ◌%◌, ◌<◌, Bool, true, false, ◌&&◌, ltb, leb, sym, refl, ◌∙◌, arith, le-ltb, lt-ltb, ne_eqb, le-leb, leb-false, leb-true}
+use Rattle.std.proofs.Common.{◌≡◌, ℕ, zero, suc, ◌+◌, ◌*◌, ◌%◌, ◌<◌, Bool, true, false, ◌&&◌, ltb, leb, sym, refl, ◌∙◌, arith, le-ltb}
+use Rattle.std.proofs.Common.{lt-ltb, ne_eqb, le-leb, leb-false, leb-true}
 use mathlib.Core.Bool.{or-false}
 use borrow.Author.Tests.{lt-leb}
 use Rattle.rules.specs.Check.{operand_ok}

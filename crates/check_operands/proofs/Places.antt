@@ -1,5 +1,7 @@
 -- A run is the byte before five places, and these places.
-use Rattle.std.proofs.Common.{◌≡◌, ℕ, zero, suc, ◌+◌, ◌-◌, ◌*◌, ◌%◌, ◌<◌, ◌≤◌, Bool, true, false, cond, ◌&&◌, eqb, ltb, leb, List, ◌∷◌, length, get_or, sym, refl, ap, ◌∙◌, add-zero, mod-eq_of_lt, zero-add, add-one, arith, get_or-drop, drop-cons, ltb-false, ltb-true, le-ltb, lt-ltb, eqb-true, le-leb}
+use Rattle.std.proofs.Common.{◌≡◌, ℕ, zero, suc, ◌+◌, ◌-◌, ◌*◌, ◌%◌, ◌<◌, ◌≤◌, Bool, true, false, cond, ◌&&◌, eqb, ltb, leb, List, ◌∷◌}
+use Rattle.std.proofs.Common.{length, get_or, sym, refl, ap, ◌∙◌, add-zero, mod-eq_of_lt, zero-add, add-one, arith, get_or-drop, drop-cons}
+use Rattle.std.proofs.Common.{ltb-false, ltb-true, le-ltb, lt-ltb, eqb-true, le-leb}
 use mathlib.Core.Bool.{and_assoc, false≢true}
 use lib.Bits.{bit_and, bit_or, and_zero_r, and_mask, or_zero_l, or_zero_r}
 use Rattle.rules.specs.Sizes.{operand_count, operand_count_place, operands_place, operand_size, record_size}
@@ -16,7 +18,8 @@ use Rattle.check_operands.proofs.Bytes.{operand}
 
 pub number_at : (i : ℕ) → i < run_size → get_or numbers_of i 0 ≡ i
 unfolding all_from
-number_at i h = eqb-true (get_or numbers_of i 0) i (all-at (λ i. eqb (get_or numbers_of i 0) i) 0 run_size i refl (omega arith) (omega arith))
+number_at i h = eqb-true (get_or numbers_of i 0) i
+    (all-at (λ i. eqb (get_or numbers_of i 0) i) 0 run_size i refl (omega arith) (omega arith))
 
 -- a byte as the loop tests it: the patterns are those of a run, and its bytes are counted from the record's
 pub as-tested : (r : List ℕ) (at end from i z b : ℕ) {numbers low high least limit : List ℕ} → numbers ≡ numbers_of → low ≡ low_of
@@ -51,7 +54,8 @@ last : (a b : Bool) → (a && b) ≡ true → b ≡ true
 last true b e = e
 last false b e = absurd (false≢true e)
 
-high-unused : (r : List ℕ) (k : ℕ) → operands r ≤ k → operand_slot_ok r k ≡ true → eqb (get_or r (operands_place + (operand_size * k + 2)) 0) 0 ≡ true
+high-unused : (r : List ℕ) (k : ℕ) → operands r ≤ k → operand_slot_ok r k ≡ true
+    → eqb (get_or r (operands_place + (operand_size * k + 2)) 0) 0 ≡ true
 high-unused r k h e =
     last (eqb (get_or r (operands_place + operand_size * k) 0) 0 && eqb (get_or r (operands_place + (operand_size * k + 1)) 0) 0)
     (eqb (get_or r (operands_place + (operand_size * k + 2)) 0) 0) (unused r k h ∙ e)
@@ -233,7 +237,8 @@ part-first : (s : List ℕ) (i n : ℕ) → i < length s → part s i (suc n) �
 unfolding part
 part-first s i n h = rw (drop-cons s i 0 h, add-one)
 
-zeros-from : (s : List ℕ) (at k n : ℕ) → at + k + n ≤ length s → is_zeros (part s (at + k) n) ≡ all_from (λ i. eqb (get_or s (at + i) 0) 0) k n
+zeros-from : (s : List ℕ) (at k n : ℕ) → at + k + n ≤ length s
+    → is_zeros (part s (at + k) n) ≡ all_from (λ i. eqb (get_or s (at + i) 0) 0) k n
 unfolding is_zeros all_from
 zeros-from s at k zero h = rw (part_none s (at + k)) refl
 zeros-from s at k (suc n) h =
@@ -241,7 +246,8 @@ zeros-from s at k (suc n) h =
     rw (part-first s (at + k) n (omega arith), e) (ap (λ b. eqb (get_or s (at + k) 0) 0 && b) (zeros-from s at (k + 1) n (omega arith)))
 
 pub rest : (r : List ℕ) (k : ℕ) → length r ≡ record_size → operands r ≤ k → k ≤ operand_count
-    → is_zeros (part r (operands_place + operand_size * k) (operand_size * (operand_count - k))) ≡ all_from (operand_slot_ok r) k (operand_count - k)
+    → is_zeros (part r (operands_place + operand_size * k) (operand_size * (operand_count - k)))
+    ≡ all_from (operand_slot_ok r) k (operand_count - k)
 rest r k size h most =
     zeros-from r operands_place (operand_size * k) (operand_size * (operand_count - k)) (omega arith)
     ∙ all-threes (λ i. eqb (get_or r (operands_place + i) 0) 0) k (operand_count - k)

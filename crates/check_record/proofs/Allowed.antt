@@ -106,7 +106,8 @@ module _ (image r : List ℕ) (size : length r ≡ record_size) (some : 0 < labe
           ≡ label_ok image role (block_field r) (num16 (drop at r))
       label_is role at h =
           rw own
-          (label-bits image whole (num16 (drop at r)) (get_or r block_place 0) h (bytes block_place) role (get_or r at 0) (get_or r (at + 1) 0)
+          (label-bits image whole (num16 (drop at r)) (get_or r block_place 0) h (bytes block_place) role (get_or r at 0)
+          (get_or r (at + 1) 0)
           (joined at) (bytes at) (bytes (at + 1)))
 
       module _ (x : Asks) where

@@ -24,4 +24,5 @@ module _ (image r : List ℕ) where
   unfolding rule_ok head_ok form_ok outline_ok
   rule =
       moved (ltb (block_field r) block_count) (ltb (entry r) 4) shaped (all_from (operand_slot_ok r) 0 operand_count)
-      (label_ok image (role_a (statement_of r)) (block_field r) (label_a r)) (label_ok image (role_b (statement_of r)) (block_field r) (label_b r))
+      (label_ok image (role_a (statement_of r)) (block_field r) (label_a r))
+      (label_ok image (role_b (statement_of r)) (block_field r) (label_b r))

@@ -91,7 +91,8 @@ module _ (image : List ℕ) (external : Bool) (s : List ℕ) (at : ℕ) where
   signals-drop n place =
       let k = get_or s (at + place) 0 in
       let behind : (x : ℕ) → at + (suc place + x) ≡ suc (at + place) + x = λ x. omega arith in
-      let each : all_from (signal_at_good image external place (drop at s)) 0 k ≡ all_from (signal_at_good image external (at + place) s) 0 k =
+      let each : all_from (signal_at_good image external place (drop at s)) 0 k
+      ≡ all_from (signal_at_good image external (at + place) s) 0 k =
       all_same (signal_at_good image external place (drop at s)) _ 0 k
       (λ j p q. rw (drop-drop (suc place + signal_size * j) at s, behind (signal_size * j))) in
       rw (get_or-drop at s place 0, part-drop, behind (signal_size * k), each)

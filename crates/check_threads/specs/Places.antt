@@ -4,7 +4,8 @@ use Rattle.std.proofs.Math.Path.{sym}
 use Rattle.std.proofs.Common.{◌∙◌, true≢false, add_assoc, eq-eqb, ne_eqb, le-ltb, lt-ltb, leb-true}
 use Rattle.std.proofs.Math.Bool.{true, false, cond, and-true, and-false, or-false}
 use Rattle.std.proofs.Math.Seq.{drop-drop, get_or-drop}
-use Rattle.rules.specs.Sizes.{return_count, held_count, idle_label, locks_place, return_count_place, returns_place, held_count_place, thread_size}
+use Rattle.rules.specs.Sizes.{return_count, held_count, idle_label, locks_place, return_count_place}
+use Rattle.rules.specs.Sizes.{returns_place, held_count_place, thread_size}
 use Rattle.rules.specs.Sizes.{threads_place}
 use Rattle.rules.specs.Codes.{cmx_code}
 use Rattle.rules.specs.Bytes.{num16, part, is_zeros, has, all_from, every}
@@ -25,7 +26,8 @@ module _ (image table : List ℕ) where
   return_ok t b k = place_ok image table t (num16 (drop locks_place b)) (num16 (drop (returns_place + 2 * k) b))
 
   unfoldable pub places_ok : ℕ → List ℕ → Bool
-  places_ok t b = place_ok image table t (num16 (drop locks_place b)) (num16 b) && all_from (return_ok t b) 0 (get_or b return_count_place 0)
+  places_ok t b = place_ok image table t (num16 (drop locks_place b)) (num16 b)
+      && all_from (return_ok t b) 0 (get_or b return_count_place 0)
 
   -- up to 4 held signals of entry 2
   abbrev pub held_good : List ℕ → Bool
@@ -59,7 +61,8 @@ module _ (image table : List ℕ) where
           let ok = place_ok image table t (num16 (drop locks_place b)) in
           let returns : every ok (job_from b).returns ≡ all_from (return_ok t b) 0 (get_or b return_count_place 0) =
           rw (get_or-drop return_count_place b 0 0) (every-chunk num16 2 ok b returns_place 0 (get_or b return_count_place 0)) in
-          exchange (running_tidy b) (held_tidy b) (every ok (num16 b ∷ (job_from b).returns)) (every (held_ok image table) (job_from b).held)
+          exchange (running_tidy b) (held_tidy b) (every ok (num16 b
+          ∷ (job_from b).returns)) (every (held_ok image table) (job_from b).held)
           ∙ rw (returns, held-is b)
 
   module _ (t locks l : ℕ) where

@@ -19,7 +19,8 @@ use Rattle.lemmas_rules.specs.Heads.{head-fields}
 
 abbrev pub using_a : ℕ
 using_a =
-    2 ^ skip_code + 2 ^ assign_code + 2 ^ goto_code + 2 ^ if_code + 2 ^ send_direct_code + 2 ^ send_buffered_code + 2 ^ call_code + 2 ^ transfer_code
+    2 ^ skip_code + 2 ^ assign_code + 2 ^ goto_code + 2 ^ if_code + 2 ^ send_direct_code + 2 ^ send_buffered_code + 2 ^ call_code
+    + 2 ^ transfer_code
     + 2 ^ send_tree_code + 2 ^ divide_code + 2 ^ pack_code + 2 ^ unpack_code + 2 ^ decimal_add_code
 
 abbrev pub using_b : ℕ

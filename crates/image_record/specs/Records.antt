@@ -1,6 +1,8 @@
 -- The laws of the image's records: how many there are, and the bytes of each.
-use Rattle.std.specs.Prelude.{◌≡◌, refl, Bool, true, false, cond, ◌&&◌, List, [], ◌∷◌, ℕ, zero, suc, ◌+◌, ◌*◌, ◌-◌, ◌/◌, ◌≤◌, ◌<◌, leb, eqb, length, get_or, take, drop}
-use Rattle.std.proofs.Common.{sym, ap, ◌∙◌, lt_of_not-le, arith, length-drop, length-take-le, get_or-take, get_or-drop, eqb-true, eq-eqb, leb-true, le-leb, lt-ltb, le-ltb}
+use Rattle.std.specs.Prelude.{◌≡◌, refl, Bool, true, false, cond, ◌&&◌, List, [], ◌∷◌, ℕ, zero, suc, ◌+◌, ◌*◌, ◌-◌, ◌/◌, ◌≤◌, ◌<◌, leb, eqb}
+use Rattle.std.specs.Prelude.{length, get_or, take, drop}
+use Rattle.std.proofs.Common.{sym, ap, ◌∙◌, lt_of_not-le, arith, length-drop, length-take-le, get_or-take, get_or-drop, eqb-true, eq-eqb}
+use Rattle.std.proofs.Common.{leb-true, le-leb, lt-ltb, le-ltb}
 use Rattle.rules.specs.Sizes.{record_count, record_size}
 use Rattle.rules.specs.Image.{labels, record_at}
 

@@ -1,5 +1,6 @@
 -- Events: what is written is read back, and what breaks no rule is written again as it was; so of whole lists.
-use Rattle.std.specs.Prelude.{◌≡◌, refl, Bool, true, false, cond, ◌&&◌, List, [], ◌∷◌, ◌++◌, ℕ, ◌+◌, ◌*◌, ◌-◌, ◌≤◌, ◌<◌, eqb, leb, ltb, length, get_or, take, drop, replicate}
+use Rattle.std.specs.Prelude.{◌≡◌, refl, Bool, true, false, cond, ◌&&◌, List, [], ◌∷◌, ◌++◌, ℕ, ◌+◌, ◌*◌, ◌-◌, ◌≤◌, ◌<◌, eqb, leb, ltb}
+use Rattle.std.specs.Prelude.{length, get_or, take, drop, replicate}
 use Rattle.std.proofs.Common.{sym, ap, ◌∙◌, arith, length-drop, get_or-drop, eqb-true, ltb-true}
 use Rattle.std.proofs.Math.Seq.{take_all}
 use Rattle.rules.specs.Sizes.{thread_count, register_count, values_place, signal_size, event_size, value_count_place}
@@ -9,7 +10,8 @@ use Rattle.rules.specs.Bytes.{num16, part, is_zeros, blocks}
 use Rattle.rules.specs.Image.{entry, record_at}
 use Rattle.rules.specs.Encoding.{no_signal, signal_bytes, signal_from}
 use Rattle.rules.specs.WellFormed.{signal_tidy}
-use Rattle.rules.specs.Events.{stepping, cutting, Event, arrive, turn, kind_code, kind_of, Valid, event_bytes, event_from, arrival_ok, turn_ok}
+use Rattle.rules.specs.Events.{stepping, cutting, Event, arrive, turn, kind_code, kind_of, Valid, event_bytes}
+use Rattle.rules.specs.Events.{event_from, arrival_ok, turn_ok}
 use Rattle.rules.specs.Events.{event_ok, events_in, event_at_ok, events_from}
 use Rattle.bytes_fields.specs.Put.{part-drop}
 use Rattle.lemmas_encoding.specs.Sized.{SizedSignal}
@@ -35,7 +37,8 @@ event-back (turn cutting t) z q = refl
 pub data EventRead (b : List ℕ) : Type 0 where
   arrival : get_or b event_kind_place 0 ≡ arrival_code → get_or b event_thread_place 0 ≡ 0 → signal_tidy (drop event_signal_place b) ≡ true
       → EventRead b
-  turned : eqb (get_or b event_kind_place 0) arrival_code ≡ false → get_or b event_kind_place 0 ≡ kind_code (kind_of (get_or b event_kind_place 0))
+  turned : eqb (get_or b event_kind_place 0) arrival_code ≡ false
+      → get_or b event_kind_place 0 ≡ kind_code (kind_of (get_or b event_kind_place 0))
       → get_or b event_thread_place 0 < thread_count → part b event_signal_place signal_size ≡ replicate signal_size 0 → EventRead b
 
 arrival-read : (image b : List ℕ) → arrival_ok image b ≡ true
@@ -78,7 +81,8 @@ event-read image b l e = go (eqb kind arrival_code) refl e
 
 -- ---- an event that breaks no rule
 
-event-glue : (b : List ℕ) (k t : ℕ) (x : List ℕ) → event_size ≤ length b → k ≡ get_or b event_kind_place 0 → t ≡ get_or b event_thread_place 0
+event-glue : (b : List ℕ) (k t : ℕ) (x : List ℕ) → event_size ≤ length b → k ≡ get_or b event_kind_place 0
+    → t ≡ get_or b event_thread_place 0
     → x ≡ part b event_signal_place signal_size → k ∷ t ∷ x ≡ take event_size b
 unfolding part
 event-glue b k t x l ek et ex =

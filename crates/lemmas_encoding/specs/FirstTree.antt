@@ -63,7 +63,8 @@ module _ (t : ℕ) where
     where
       go : (d : Dec (x.thread ≡ t)) → ite d 0 (suc (first_tree t l)) < suc (length l)
           → (first_tree t l < length l → put t none l ≡ take (first_tree t l) l ++ drop (suc (first_tree t l)) l)
-          → ite d l (x ∷ put t none l) ≡ take (ite d 0 (suc (first_tree t l))) (x ∷ l) ++ drop (suc (ite d 0 (suc (first_tree t l)))) (x ∷ l)
+          → ite d l (x ∷ put t none l) ≡ take (ite d 0 (suc (first_tree t l))) (x ∷ l)
+          ++ drop (suc (ite d 0 (suc (first_tree t l)))) (x ∷ l)
       go (yes p) h ih = refl
       go (no p) h ih = ap (λ r. x ∷ r) (ih (omega arith))
 

@@ -57,7 +57,8 @@ unfolding slots
 tree-on s i at n h e =
     let xs = pad no_tree tree_count s.trees in
     let before : List ℕ = header s ++ (length s.trees ∷ []) in
-    let d : drop at (before ++ (blocks tree_bytes xs ++ [])) ≡ tree_bytes (get_or xs i no_tree) ++ (blocks tree_bytes (drop (suc i) xs) ++ []) =
+    let d : drop at (before ++ (blocks tree_bytes xs ++ []))
+    ≡ tree_bytes (get_or xs i no_tree) ++ (blocks tree_bytes (drop (suc i) xs) ++ []) =
     block-drop tree_bytes tree_size length-tree no_tree before [] xs at i (omega (arith, length_before s))
     (omega (arith, length-pad no_tree tree_count s.trees)) in
     (blocks tree_bytes (drop (suc i) xs) ++ [], ap (drop at) (encode-slots s) ∙ rw (pad-at no_tree tree_count s.trees i n) at d)

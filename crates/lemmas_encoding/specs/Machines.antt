@@ -6,7 +6,8 @@ use mathlib.Core.List.{List, [], ◌∷◌, ◌++◌, append_assoc}
 use Prim.Native.Nat.{ℕ, ◌+◌, ◌*◌, ◌-◌, ◌≤◌, ◌<◌}
 use Rattle.std.proofs.Math.ListN.{length, drop}
 use Rattle.std.proofs.Math.Seq.{drop_at}
-use Rattle.rules.specs.Sizes.{thread_count, word_total, tree_count, thread_size, tree_size, words_size, threads_place, tree_count_place, trees_place}
+use Rattle.rules.specs.Sizes.{thread_count, word_total, tree_count, thread_size, tree_size, words_size}
+use Rattle.rules.specs.Sizes.{threads_place, tree_count_place, trees_place}
 use Rattle.rules.specs.Sizes.{state_size}
 use Rattle.rules.specs.Bytes.{num16, le16, part, is_zeros, blocks, pad, chunks, all_from}
 use Rattle.rules.specs.Machine.{Machine, idle, thread_at}
@@ -63,7 +64,8 @@ pub record StateRead (state : List ℕ) : Type 0 where
   pub few : get_or state tree_count_place 0 ≤ tree_count
   pub each : (i : ℕ) → i < get_or state tree_count_place 0 → tree_tidy (drop (tree_size * i) (drop trees_place state)) ≡ true
   pub zeros : part (drop trees_place state) (tree_size * get_or state tree_count_place 0)
-      (tree_size * (tree_count - get_or state tree_count_place 0)) ≡ replicate (tree_size * (tree_count - get_or state tree_count_place 0)) 0
+      (tree_size * (tree_count - get_or state tree_count_place 0))
+      ≡ replicate (tree_size * (tree_count - get_or state tree_count_place 0)) 0
 
 pub state-read : (state : List ℕ) → length state ≡ state_size → state_tidy state ≡ true → StateRead state
 unfolding state_tidy thread_at_tidy tree_at_tidy
@@ -107,7 +109,8 @@ machine-forth s h l e =
     (λ j lj. tree-forth (drop (tree_size * j) (drop trees_place s))
     (bytes_drop (drop trees_place s) (tree_size * j) (bytes_drop s trees_place h)) (simp length-drop (omega (arith, o.few)))
     (o.each j lj)) o.zeros in
-    glue s 0 words_size (state_size - threads_place) _ _ w (glue s threads_place (thread_size * thread_count) (state_size - tree_count_place) _ _
+    glue s 0 words_size (state_size - threads_place) _ _ w
+    (glue s threads_place (thread_size * thread_count) (state_size - tree_count_place) _ _
     t (glue s tree_count_place 1 (state_size - trees_place) _ _ c r)) ∙ take_all state_size s (omega arith)
 
 pub machine-sized : (state : List ℕ) → length state ≡ state_size → state_tidy state ≡ true → Sized (machine_from state)

@@ -1,6 +1,8 @@
 -- The registers of a thread, and their presence set with their values.
-use Rattle.std.specs.Prelude.{◌≡◌, refl, Bool, true, cond, ◌||◌, List, [], ◌∷◌, map, ℕ, zero, suc, ◌+◌, ◌*◌, ◌/◌, ◌%◌, ◌^◌, ◌≤◌, ◌<◌, eqb, length, get_or, take, drop}
-use Rattle.std.proofs.Common.{sym, ap, ◌∙◌, pow-suc, add-zero, add-suc, suc-add, add-one, one-add, arith, shr-shr, drop-drop, get_or-drop, drop-cons}
+use Rattle.std.specs.Prelude.{◌≡◌, refl, Bool, true, cond, ◌||◌, List, [], ◌∷◌, map, ℕ, zero, suc, ◌+◌, ◌*◌, ◌/◌, ◌%◌, ◌^◌, ◌≤◌, ◌<◌, eqb}
+use Rattle.std.specs.Prelude.{length, get_or, take, drop}
+use Rattle.std.proofs.Common.{sym, ap, ◌∙◌, pow-suc, add-zero, add-suc, suc-add, add-one, one-add, arith, shr-shr}
+use Rattle.std.proofs.Common.{drop-drop, get_or-drop, drop-cons}
 use Rattle.std.proofs.Math.Bool.{false}
 use Rattle.std.proofs.Math.Option.{Option, none, some}
 use borrow.Author.Tests.{eqb-true, eqb-false}

@@ -1,6 +1,8 @@
 -- Runs of blocks of one length, read and written again; and the zeros after them.
-use Rattle.std.specs.Prelude.{◌≡◌, refl, true, List, [], ◌∷◌, ◌++◌, ℕ, zero, suc, ◌+◌, ◌*◌, ◌-◌, ◌≤◌, ◌<◌, length, get_or, take, drop, replicate}
-use Rattle.std.proofs.Common.{sym, ap, ◌∙◌, append_assoc, mul-zero, mul-suc, mul-add, add_comm, arith, length-append, drop-drop, take-add, drop-cons}
+use Rattle.std.specs.Prelude.{◌≡◌, refl, true, List, [], ◌∷◌, ◌++◌, ℕ, zero, suc, ◌+◌, ◌*◌, ◌-◌, ◌≤◌, ◌<◌, length, get_or}
+use Rattle.std.specs.Prelude.{take, drop, replicate}
+use Rattle.std.proofs.Common.{sym, ap, ◌∙◌, append_assoc, mul-zero, mul-suc, mul-add, add_comm, arith, length-append}
+use Rattle.std.proofs.Common.{drop-drop, take-add, drop-cons}
 use Rattle.std.proofs.lemmas.List.{replicate-append-replicate, length-replicate}
 use Rattle.rules.specs.Bytes.{part, is_zeros, blocks, pad, chunks}
 use Rattle.bytes_fields.specs.Each.{Each}

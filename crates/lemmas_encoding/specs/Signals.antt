@@ -56,7 +56,8 @@ signal-read b l e =
     let h : n ≤ register_count = leb-true n register_count t.0 in
     record { few = h; zeros = rw part-drop (zeros-part b (values_place + 2 * n) (2 * (register_count - n)) (omega arith) t.1) }
 
-pub signal-forth : (b : List ℕ) → AreBytes b → signal_size ≤ length b → signal_tidy b ≡ true → signal_bytes (signal_from b) ≡ take signal_size b
+pub signal-forth : (b : List ℕ) → AreBytes b → signal_size ≤ length b → signal_tidy b ≡ true
+    → signal_bytes (signal_from b) ≡ take signal_size b
 unfolding signal_bytes signal_from part
 signal-forth b h l e =
     let o = signal-read b l e in
@@ -85,7 +86,8 @@ signal-tidy g z q =
 -- ---- places for n signals: one more comes behind k others
 
 pub places-push : (n k : ℕ) (gs : List Signal) (g : Signal) → length gs < n → k ≡ length gs
-    → put (blocks signal_bytes (pad no_signal n gs)) (signal_size * k) (signal_bytes g) ≡ blocks signal_bytes (pad no_signal n (gs ++ g ∷ []))
+    → put (blocks signal_bytes (pad no_signal n gs)) (signal_size * k) (signal_bytes g)
+    ≡ blocks signal_bytes (pad no_signal n (gs ++ g ∷ []))
 places-push n k gs g h e =
     blocks-push signal_bytes signal_size length-signal no_signal n gs g (signal_size * k) (signal_bytes g) h (rw e)
     (omega (arith, length-signal g)) (put_whole _ _ (length-signal _ ∙ sym (length-signal g)))

@@ -61,7 +61,8 @@ module _ (s : Machine) where
       let l' : length (set s.threads t w) ≡ thread_count = length-set s.threads t w ∙ l in
       rw (pad-full idle thread_count s.threads l, pad-full idle thread_count (set s.threads t w) l')
       (block-put thread_bytes thread_size length-thread idle (blocks le16 (pad 0 word_total s.words)) _ s.threads
-      (threads_place + thread_size * t) t 0 (thread_bytes w) w (omega (arith, length-words s)) (omega arith) (omega (arith, length-thread w))
+      (threads_place + thread_size * t) t 0 (thread_bytes w) w (omega (arith, length-words s)) (omega arith)
+      (omega (arith, length-thread w))
       (put_whole _ _ (length-thread _ ∙ sym (length-thread w))))
 
 -- the same along equations: what a run of calls leaves and answers
@@ -69,6 +70,7 @@ module _ (s : Machine) (z : Sized s) {b : List ℕ} (e : b ≡ encode s) where
   pub word-then : (n v : ℕ) {b' : List ℕ} → n < block_count * word_count → b' ≡ put b (2 * n) (le16 v) → b' ≡ encode (with_word s n v)
   word-then n v h k = k ∙ rw e (word-put s n v z.words h)
 
-  pub thread-then : (t : ℕ) (w : ThreadState) {b' : List ℕ} → t < thread_count → b' ≡ put b (threads_place + thread_size * t) (thread_bytes w)
+  pub thread-then : (t : ℕ) (w : ThreadState) {b' : List ℕ} → t < thread_count
+      → b' ≡ put b (threads_place + thread_size * t) (thread_bytes w)
       → b' ≡ encode (with_thread s t w)
   thread-then t w h k = k ∙ rw e (thread-put s t w z.threads h)

@@ -12,7 +12,8 @@ use Rattle.rules.specs.Sizes.{register_count, return_count, held_count, idle_lab
 use Rattle.rules.specs.Sizes.{presence_place, registers_place, held_count_place, thread_size}
 use Rattle.rules.specs.Bytes.{num16, num32, le16, le32, part, is_zeros, blocks, pad, chunks, all_from}
 use Rattle.rules.specs.Machine.{Job, ThreadState, idle, running, held_of}
-use Rattle.rules.specs.Encoding.{signal_bytes, signals_bytes, signals_from, presence, value_or0, registers_from, thread_raw, thread_bytes, job_from}
+use Rattle.rules.specs.Encoding.{signal_bytes, signals_bytes, signals_from, presence, value_or0, registers_from}
+use Rattle.rules.specs.Encoding.{thread_raw, thread_bytes, job_from}
 use Rattle.rules.specs.Encoding.{thread_from}
 use Rattle.rules.specs.WellFormed.{absent_zero, running_tidy, signals_tidy, thread_tidy}
 use Rattle.bytes_fields.specs.Runs.{all-at, all-holds}
@@ -43,7 +44,8 @@ unfolding thread_bytes held_after
 whole locks j q = append_assoc (raw_of locks j) (signals_bytes held_count j.held) q
 
 -- behind the rest of a record stand the signals held
-pub held-behind : (x : ThreadState) → (r : List ℕ) × (thread_bytes x ≡ r ++ signals_bytes held_count (held_of x)) × (length r ≡ held_count_place)
+pub held-behind : (x : ThreadState)
+    → (r : List ℕ) × (thread_bytes x ≡ r ++ signals_bytes held_count (held_of x)) × (length r ≡ held_count_place)
 unfolding thread_bytes
 held-behind idle = (thread_raw _ _ _ _ _ _, refl, length-raw _ _ _ _ _ _)
 held-behind (running locks j) = (thread_raw _ _ _ _ _ _, refl, length-raw _ _ _ _ _ _)
@@ -181,7 +183,8 @@ unfolding thread_raw
 raw-forth b label locks count returns present values e₁ e₂ e₃ e₄ e₅ e₆ =
     glue b 0 locks_place (held_count_place - locks_place) _ _ e₁ (glue b locks_place 2 (held_count_place - return_count_place) _ _ e₂
     (glue b return_count_place 1 (held_count_place - returns_place) _ _ e₃
-    (glue b returns_place (2 * return_count) (held_count_place - presence_place) _ _ e₄ (glue b presence_place 4 (2 * register_count) _ _ e₅ e₆))))
+    (glue b returns_place (2 * return_count) (held_count_place - presence_place) _ _ e₄
+    (glue b presence_place 4 (2 * register_count) _ _ e₅ e₆))))
 
 module _ (b : List ℕ) (h : AreBytes b) (l : thread_size ≤ length b) (o : RunningRead b)
     (t : signals_tidy held_count held_count_place b ≡ true) where
@@ -221,12 +224,14 @@ idle-forth b h l e t =
     idle-raw ∙ glue b 0 locks_place (thread_size - locks_place) (le16 idle_label) (replicate (thread_size - locks_place) 0) (ap le16 (sym e)
     ∙ num-forth b 0 h (omega arith)) (sym (zeros-part b locks_place (thread_size - locks_place) (omega arith) t))
 
-pub thread-forth : (b : List ℕ) → AreBytes b → thread_size ≤ length b → thread_tidy b ≡ true → thread_bytes (thread_from b) ≡ take thread_size b
+pub thread-forth : (b : List ℕ) → AreBytes b → thread_size ≤ length b → thread_tidy b ≡ true
+    → thread_bytes (thread_from b) ≡ take thread_size b
 unfolding thread_from thread_tidy part
 thread-forth b h l e = go (eqb (num16 b) idle_label) refl e
   where
     go : (c : Bool) → eqb (num16 b) idle_label ≡ c
-        → cond c (is_zeros (part b locks_place (thread_size - locks_place))) (running_tidy b && signals_tidy held_count held_count_place b) ≡ true
+        → cond c (is_zeros (part b locks_place (thread_size - locks_place))) (running_tidy b && signals_tidy held_count held_count_place b)
+        ≡ true
         → thread_bytes (cond c idle (running (num16 (drop 2 b)) (job_from b))) ≡ part b 0 thread_size
     go true p t = idle-forth b h l (eqb-true (num16 b) idle_label p) t
     go false p t = let u = and_both (running_tidy b) _ t in running-forth b h l (running-read b l u.0) u.1
@@ -244,7 +249,8 @@ thread-sized b l e = go (eqb (num16 b) idle_label) refl e
     }
 
     go : (c : Bool) → eqb (num16 b) idle_label ≡ c
-        → cond c (is_zeros (part b locks_place (thread_size - locks_place))) (running_tidy b && signals_tidy held_count held_count_place b) ≡ true
+        → cond c (is_zeros (part b locks_place (thread_size - locks_place))) (running_tidy b && signals_tidy held_count held_count_place b)
+        ≡ true
         → SizedThread (cond c idle (running (num16 (drop 2 b)) (job_from b)))
     go true p t = tt
     go false p t = let u = and_both (running_tidy b) _ t in job p (running-read b l u.0) u.1

@@ -14,7 +14,8 @@ use Rattle.rules.specs.Statements.{statement_of, role_a, role_b, data_of}
 use Rattle.rules.specs.Check.{label_ok, record_ok}
 use Rattle.rules.specs.Machine.{Signal, Job}
 use Rattle.rules.specs.Effects.{Got, trap, got, Next, on_a, on_b, into_a, call_a, back, Going, Outcome, ends, goes, outcome}
-use Rattle.rules.specs.Steps.{Effect, traps, exits, moves, trap_if, newest, older, signal_to, hold_on, alien, onward, steer, resolve, block_at}
+use Rattle.rules.specs.Steps.{Effect, traps, exits, moves, trap_if, newest, older, signal_to, hold_on, alien, onward}
+use Rattle.rules.specs.Steps.{steer, resolve, block_at}
 use Rattle.rules.specs.Steps.{act_by, view}
 use Rattle.rules.specs.WellFormed.{open_to, held_ok}
 use Rattle.rules.specs.declared.statement.Role.{Role}

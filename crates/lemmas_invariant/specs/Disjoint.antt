@@ -14,7 +14,8 @@ use Rattle.lemmas_rules.specs.Logic.{and_both, both_hold}
 abbrev clear : ThreadState → ThreadState → Bool
 clear w v = eqb (bit_and (locks_of w) (locks_of v)) 0
 
-clear_at : (w : ThreadState) (ws : List ThreadState) (k : ℕ) → every (clear w) ws ≡ true → Disjoint (locks_of w) (locks_of (get_or ws k idle))
+clear_at : (w : ThreadState) (ws : List ThreadState) (k : ℕ) → every (clear w) ws ≡ true
+    → Disjoint (locks_of w) (locks_of (get_or ws k idle))
 unfolding every
 clear_at w [] k h = λ l e. has-none l
 clear_at w (v ∷ ws) zero h = zero_disjoint _ _ (eqb-true _ 0 (and_both (clear w v) (every (clear w) ws) h).0)

@@ -13,7 +13,8 @@ use Rattle.rules.specs.Machine.{Signal, Tree, Job, ThreadState, idle, running, M
 use Rattle.rules.specs.Events.{Kind, stepping, cutting, Event, arrive, turn, thread_of, Valid}
 use Rattle.rules.specs.Answers.{out, now, join, close, sort}
 use Rattle.rules.specs.Steps.{Rules, Effect, traps, exits, moves, Move, Plan, stay, grow, move, finish, exiting, begin, pending_of, founded}
-use Rattle.rules.specs.Steps.{admits, plan_arrive, plan_idle, plan_running, plan_step, plan_cut, plan_turn, plan, blocked, grant, applied, grown}
+use Rattle.rules.specs.Steps.{admits, plan_arrive, plan_idle, plan_running, plan_step, plan_cut, plan_turn, plan, blocked}
+use Rattle.rules.specs.Steps.{grant, applied, grown}
 use Rattle.rules.specs.Steps.{finished, admitted, attempt, carry, react}
 use Rattle.rules.specs.declared.answer.Answer.TheVariants.{ListFull}
 use Rattle.lemmas_rules.specs.Logic.{never, not-true, get_d-same}
@@ -29,7 +30,8 @@ module _ (R : Rules) where
   pub record Invariant (s : Machine) : Type 0 where
     pub size : length s.threads ≡ thread_count
     pub apart : (t u l : ℕ) → t ≢ u → has l (locks_of (thread_at s t)) ≡ true → has l (locks_of (thread_at s u)) ≡ false
-    pub keeps : (t : ℕ) (j : Job) → job_of (thread_at s t) ≡ some j → (b : ℕ) → Needs R j b → has (R.lock b) (locks_of (thread_at s t)) ≡ true
+    pub keeps : (t : ℕ) (j : Job) → job_of (thread_at s t) ≡ some j → (b : ℕ) → Needs R j b
+        → has (R.lock b) (locks_of (thread_at s t)) ≡ true
     pub rooted : (t : ℕ) (j : Job) → job_of (thread_at s t) ≡ some j → (p : List Signal) × (first t s.trees ≡ some p)
 
   -- what is known of a move that thread t's plan asks for: it has the locks of the blocks that its job needs, or wants them; it holds

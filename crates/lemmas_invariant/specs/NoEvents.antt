@@ -43,7 +43,8 @@ module _ (image table state : List ℕ) where
   unfolding run_return first_refusal first_bad events_length_fault event_fault answers_length_fault
   no-events-return c k =
       let more : List ℕ =
-      state_length_fault state ∷ state_fault image table state ∷ events_length_fault [] ∷ event_fault image [] ∷ answers_length_fault [] [] ∷ [] in
+      state_length_fault state ∷ state_fault image table state ∷ events_length_fault [] ∷ event_fault image [] ∷ answers_length_fault [] []
+      ∷ [] in
       let rest : first_refusal more ≡ 0 = rw (k.size, k.formed) in
       checked-rest image table more c ∙ rest
 

@@ -15,7 +15,8 @@ use Rattle.rules.specs.Bytes.{has, every}
 use Rattle.rules.specs.Image.{labels, row_at}
 use Rattle.rules.specs.Machine.{Signal, Tree, Job, ThreadState, idle, running, Machine, thread_at, locks_of, job_of, queue, first}
 use Rattle.rules.specs.Steps.{rules_by, block_at}
-use Rattle.rules.specs.WellFormed.{open_to, place_ok, held_ok, thread_ok, threads_ok, pending_ok, tree_ok, homed, queue_ok, queues_ok, apart}
+use Rattle.rules.specs.WellFormed.{open_to, place_ok, held_ok, thread_ok, threads_ok, pending_ok, tree_ok, homed}
+use Rattle.rules.specs.WellFormed.{queue_ok, queues_ok, apart}
 use Rattle.rules.specs.WellFormed.{machine_ok}
 use Rattle.bytes_fields.specs.Each.{Each}
 use Rattle.lemmas_rules.specs.Logic.{never, and_both, both_hold}

@@ -1,5 +1,6 @@
 -- The limits that a statement of a checked image keeps: 25 registers, 8 return labels, 25 values a signal, 8 signals pending, 4 held.
-use Rattle.std.specs.Prelude.{◌≡◌, refl, Bool, true, false, cond, ◌&&◌, List, [], ◌∷◌, ◌++◌, map, ℕ, zero, suc, ◌+◌, ◌-◌, ◌*◌, ◌/◌, ◌≤◌, ◌<◌, eqb, leb, length, get_or, drop}
+use Rattle.std.specs.Prelude.{◌≡◌, refl, Bool, true, false, cond, ◌&&◌, List, [], ◌∷◌, ◌++◌, map, ℕ, zero, suc, ◌+◌, ◌-◌, ◌*◌, ◌/◌, ◌≤◌}
+use Rattle.std.specs.Prelude.{◌<◌, eqb, leb, length, get_or, drop}
 use Rattle.std.proofs.Common.{ap, ◌∙◌, arith, length-append, length-set, length-drop, leb-true, leb-false}
 use Rattle.std.proofs.Math.Option.{Option, none, some}
 use Rattle.std.proofs.lemmas.List.{length-map, length-replicate}
@@ -11,7 +12,8 @@ use Rattle.rules.specs.Statements.{ending, Sources, nothing, carried, pair, usag
 use Rattle.rules.specs.Machine.{Signal, Job, fill}
 use Rattle.rules.specs.Effects.{Got, trap, got, then, unless, Cells, read_all, read, Results, compute, store, assigned, Next, on_a, on_b}
 use Rattle.rules.specs.Effects.{into_a, call_a, back, Going, Outcome, ends, goes, View, leave, overflow, worked, chosen, perform, outcome}
-use Rattle.rules.specs.Steps.{Effect, traps, exits, moves, trap_if, older, signal_to, hold_on, alien, steer, resolve, block_at, act_by, view}
+use Rattle.rules.specs.Steps.{Effect, traps, exits, moves, trap_if, older, signal_to, hold_on, alien, steer, resolve}
+use Rattle.rules.specs.Steps.{block_at, act_by, view}
 use Rattle.rules.specs.declared.statement.Operand.{Operand}
 use Rattle.rules.specs.declared.statement.Operand.TheVariants.{Number, Register, Word}
 use Rattle.rules.specs.declared.statement.Assignment.{Assignment}

@@ -13,7 +13,8 @@ use Rattle.rules.specs.Events.{Event, arrive, turn, kind_code, kind_of, Valid, e
 use Rattle.rules.specs.Events.{events_length_ok, event_at_ok, events_from}
 use Rattle.rules.specs.Steps.{rules_by, final}
 use Rattle.rules.specs.WellFormed.{state_tidy, machine_ok, well_formed}
-use Rattle.rules.specs.Calls.{state_length_fault, state_fault, events_length_fault, event_fault, fresh_return, fresh_state, run_return, run_state}
+use Rattle.rules.specs.Calls.{state_length_fault, state_fault, events_length_fault, event_fault, fresh_return}
+use Rattle.rules.specs.Calls.{fresh_state, run_return, run_state}
 use Rattle.bytes_fields.specs.Each.{Each}
 use Rattle.lemmas_rules.specs.Faults.{first-of-zero, refusal-zero, fault-free, checked-of}
 use Rattle.lemmas_encoding.specs.Sized.{Sized}
@@ -42,9 +43,11 @@ unfolding event_ok arrival_ok event_from signal_from
 external image b h = case (eqb (get_or b event_kind_place 0) arrival_code) h
   where
     case : (c : Bool)
-        → cond c (arrival_ok image b) (eqb (get_or b event_kind_place 0) (kind_code (kind_of (get_or b event_kind_place 0))) && turn_ok b) ≡ true
+        → cond c (arrival_ok image b) (eqb (get_or b event_kind_place 0) (kind_code (kind_of (get_or b event_kind_place 0))) && turn_ok b)
+        ≡ true
         → External image
-        (cond c (arrive (signal_from (drop event_signal_place b))) (turn (kind_of (get_or b event_kind_place 0)) (get_or b event_thread_place 0)))
+        (cond c (arrive (signal_from (drop event_signal_place b)))
+        (turn (kind_of (get_or b event_kind_place 0)) (get_or b event_thread_place 0)))
     case true k =
         let thread : Bool = eqb (get_or b 1 0) 0 in
         let label : Bool = eqb (entry (record_at image (num16 (drop 2 b)))) 3 in

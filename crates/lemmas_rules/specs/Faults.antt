@@ -34,7 +34,8 @@ pub checked-rest : (image table more : List ℕ) → Checked image table → fir
 checked-rest image table more h = first-of-rest (image_faults image table []) more h
 
 -- the image and the table of a call that is not refused pass the check, whatever refusals it has besides, and none of those applies
-pub checked-of : (image table more : List ℕ) → first_refusal (image_faults image table more) ≡ 0 → Checked image table × (first_refusal more ≡ 0)
+pub checked-of : (image table more : List ℕ) → first_refusal (image_faults image table more) ≡ 0
+    → Checked image table × (first_refusal more ≡ 0)
 checked-of image table more h =
     let k : Checked image table = first-of-part (image_faults image table []) more h in
     (k, sym (checked-rest image table more k) ∙ h)

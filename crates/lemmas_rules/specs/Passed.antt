@@ -4,9 +4,11 @@ use Rattle.std.proofs.Common.{arith, ltb-true, eqb-true}
 use Rattle.rules.specs.Codes.{bad_table_field_number, bad_record_number}
 use Rattle.rules.specs.Sizes.{thread_count, block_kind_count, lock_count, block_count, operand_count, table_size}
 use Rattle.rules.specs.Bytes.{all_from, every}
-use Rattle.rules.specs.Image.{labels, record_at, block_field, entry, label_a, label_b, Row, row_at, field_at, thread_field, kind_field, lock_field}
+use Rattle.rules.specs.Image.{labels, record_at, block_field, entry, label_a, label_b, Row, row_at, field_at}
+use Rattle.rules.specs.Image.{thread_field, kind_field, lock_field}
 use Rattle.rules.specs.Statements.{statement_of, role_a, role_b}
-use Rattle.rules.specs.Check.{head_ok, operand_slot_ok, role_ok, label_ok, rule_ok, record_ok, field_ok, row_ok, first_refusal, image_faults, images_faults}
+use Rattle.rules.specs.Check.{head_ok, operand_slot_ok, role_ok, label_ok, rule_ok, record_ok, field_ok, row_ok, first_refusal}
+use Rattle.rules.specs.Check.{image_faults, images_faults}
 use Rattle.rules.specs.Check.{image_length_fault, Checked}
 use Rattle.rules.specs.Check.{table_length_fault, table_fault, record_fault}
 use Rattle.rules.specs.Link.{used}

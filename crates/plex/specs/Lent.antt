@@ -17,7 +17,8 @@ use Rattle.rules.specs.Events.{events_in, events_from, events_length_ok, event_a
 use Rattle.rules.specs.Steps.{rules_by, answers, final}
 use Rattle.rules.specs.Walk.{walk_from, met_bytes, met_count}
 use Rattle.rules.specs.Calls.{state_length_fault, state_fault, events_length_fault, event_fault, answers_length_fault, words_length_fault}
-use Rattle.rules.specs.Calls.{thread_fault, met_length_fault, fresh_return, fresh_state, run_return, run_state, run_answers, walk_fault, walk_return}
+use Rattle.rules.specs.Calls.{thread_fault, met_length_fault, fresh_return, fresh_state, run_return, run_state}
+use Rattle.rules.specs.Calls.{run_answers, walk_fault, walk_return}
 use Rattle.rules.specs.Calls.{walk_met, output_length_fault, link_return, link_out}
 use Rattle.rules.specs.Link.{linked}
 use Rattle.lemmas_rules.specs.Logic.{and_both}
@@ -83,7 +84,8 @@ module _ (image table state events space : List ℕ) where
   run-refused n = let e = ne_eqb (run_return image table state events space) 0 n in (rw e refl, rw e refl)
 
   module _ (h : run_return image table state events space ≡ 0) where
-    pub run-state : run_state image table state events space ≡ encode (final (rules_by image table) (machine_from state) (events_from events))
+    pub run-state : run_state image table state events space
+        ≡ encode (final (rules_by image table) (machine_from state) (events_from events))
     unfolding run_state
     run-state = rw h refl
 

@@ -147,7 +147,8 @@ number-faulty r e (inr k) = faulty 12 Divide divide-form r e (rw (k, and-false))
 
 pub record Divisions (image table : List ℕ) (s : Machine) (t locks : ℕ) (j : Job) : Type 0 where
   -- "stores both results together, with p = q × quotient + remainder and remainder below q": to any two destinations that are not equal
-  pub divides : (p q u v : ℕ) → p ≡ q * u + v → v < q → (d e : Operand) → d ≢ e → Place (cells_of image s j) d → Place (cells_of image s j) e
+  pub divides : (p q u v : ℕ) → p ≡ q * u + v → v < q → (d e : Operand) → d ≢ e → Place (cells_of image s j) d
+      → Place (cells_of image s j) e
       → 16 * block_at image j.label + 16 ≤ length s.words → Divides image s t locks j d e p q
       → BothStand image (step_of image table s t) t locks j d e u v
   -- "A zero q traps with reason 8, after 7, and stores neither": and an absent register, operand 2 or 3, is found before it

@@ -26,7 +26,8 @@ use Rattle.rules.specs.Sorts
 use Rattle.rules.specs.Steps.{Rules, Move, move, rules_by, newest, older, block_at, held, blocked}
 use Rattle.rules.specs.Steps.{plan_arrive, plan, exiting, carry, react, final, grown, founded, requeued, finished, admitted, lost}
 use Rattle.rules.specs.Walk.{walk, met_count}
-use Rattle.rules.specs.Calls.{state_length_fault, state_fault, events_length_fault, event_fault, answers_length_fault, run_return, run_state}
+use Rattle.rules.specs.Calls.{state_length_fault, state_fault, events_length_fault, event_fault}
+use Rattle.rules.specs.Calls.{answers_length_fault, run_return, run_state}
 use Rattle.rules.specs.declared.statement.Operand.{Operand}
 use Rattle.rules.specs.declared.statement.Relation.TheVariants.{Equal, Less}
 use Rattle.rules.specs.declared.statement.Condition.{Condition}

@@ -3,7 +3,8 @@ use Rattle.std.specs.Prelude.{cond, ◌||◌, List, [], ◌∷◌, ℕ, eqb}
 use Rattle.rules.specs.declared.answer.Answer.{Answer}
 use Rattle.rules.specs.declared.answer.Answer.TheVariants.{Taken, ListFull, NoWork, Waiting, Started, Moved, Exited, Trapped}
 use Rattle.rules.specs.declared.answer.Answer.TheVariants.{WasCut, NothingToCut}
-use Rattle.rules.specs.Codes.{arrived_code, list_full_code, no_work_code, waiting_code, started_code, moved_on_code, exited_code, trapped_code}
+use Rattle.rules.specs.Codes.{arrived_code, list_full_code, no_work_code, waiting_code, started_code}
+use Rattle.rules.specs.Codes.{moved_on_code, exited_code, trapped_code}
 use Rattle.rules.specs.Codes.{was_cut_code, nothing_to_cut_code}
 
 unfoldable pub code : Answer → ℕ

@@ -1,5 +1,6 @@
 -- Fields of lists of bytes. Multi-byte fields are little-endian. What lies past a list's end reads as 0.
-use Rattle.std.specs.Prelude.{Bool, true, false, cond, ◌&&◌, ◌||◌, List, [], ◌∷◌, ◌++◌, ℕ, zero, suc, ◌+◌, ◌*◌, ◌/◌, ◌%◌, ◌^◌, get_or, take, drop, eqb}
+use Rattle.std.specs.Prelude.{Bool, true, false, cond, ◌&&◌, ◌||◌, List, [], ◌∷◌, ◌++◌, ℕ, zero, suc, ◌+◌, ◌*◌, ◌/◌, ◌%◌, ◌^◌, get_or, take}
+use Rattle.std.specs.Prelude.{drop, eqb}
 use Rattle.std.proofs.Math.Option.{Option, none, some}
 
 -- the number that a list begins with, of 16 and of 32 bits

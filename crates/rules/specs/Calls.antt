@@ -98,7 +98,8 @@ run_answers image table state events space =
 
 unfoldable pub walk_fault : List ℕ → List ℕ → List ℕ → ℕ → List ℕ → ℕ
 walk_fault image table state t met =
-    first_refusal (image_faults image table (state_length_fault state ∷ state_fault image table state ∷ thread_fault t ∷ met_length_fault met ∷ []))
+    first_refusal (image_faults image table (state_length_fault state ∷ state_fault image table state ∷ thread_fault t
+    ∷ met_length_fault met ∷ []))
 
 unfoldable pub walk_return : List ℕ → List ℕ → List ℕ → ℕ → List ℕ → ℕ
 walk_return image table state t met =
@@ -112,7 +113,8 @@ walk_met image table state t met =
 -- ---- the link: 1 to 4, of both images and the table, the first image before the second within a number; then 13 to 15
 
 abbrev pub link_faults : List ℕ → List ℕ → List ℕ → List ℕ
-link_faults first second out = shared_block_fault first second ∷ too_many_records_fault first second ∷ output_length_fault first second out ∷ []
+link_faults first second out = shared_block_fault first second ∷ too_many_records_fault first second ∷ output_length_fault first second out
+    ∷ []
 
 unfoldable pub link_return : List ℕ → List ℕ → List ℕ → List ℕ → ℕ
 link_return first second table out = first_refusal (images_faults first second table (link_faults first second out))

@@ -49,7 +49,8 @@ head_ok r = ltb (block_field r) block_count && ltb (entry r) 4 && shape_ok (oper
 
 -- a number of any value, a register 0 to 24, a shared word 0 to 15
 abbrev pub operand_ok : ℕ → ℕ → Bool
-operand_ok k v = eqb k number_operand_code || (eqb k register_operand_code && ltb v register_count) || (eqb k word_operand_code && ltb v word_count)
+operand_ok k v = eqb k number_operand_code || (eqb k register_operand_code && ltb v register_count) || (eqb k word_operand_code
+    && ltb v word_count)
 
 -- the place k for an operand: an operand where there is one, and zero where there is none
 unfoldable pub operand_slot_ok : List ℕ → ℕ → Bool
@@ -123,7 +124,8 @@ image_faults image table more = image_length_fault image ∷ table_length_fault 
 -- and those of a call that takes two images: the first before the second within a number
 abbrev pub images_faults : List ℕ → List ℕ → List ℕ → List ℕ → List ℕ
 images_faults first second table more =
-    image_length_fault first ∷ image_length_fault second ∷ table_length_fault table ∷ table_fault table ∷ record_fault first ∷ record_fault second
+    image_length_fault first ∷ image_length_fault second ∷ table_length_fault table ∷ table_fault table ∷ record_fault first
+    ∷ record_fault second
     ∷ more
 
 -- an image and a table that pass the check

@@ -1,11 +1,13 @@
 -- What a statement does, told without image, table, other threads or locks. It sees the registers, the words of its own block, and how
 -- many return labels, pending signals and held signals there are; of labels it says only "on to A", "on to B", "into A", "call A" and
 -- "return".
-use Rattle.std.specs.Prelude.{Bool, true, cond, ◌&&◌, List, [], ◌∷◌, ◌++◌, map, ℕ, ◌+◌, ◌-◌, ◌*◌, ◌/◌, ◌%◌, length, get_or, set, drop, eqb, leb, ltb}
+use Rattle.std.specs.Prelude.{Bool, true, cond, ◌&&◌, List, [], ◌∷◌, ◌++◌, map, ℕ, ◌+◌, ◌-◌, ◌*◌, ◌/◌, ◌%◌, length, get_or, set, drop, eqb}
+use Rattle.std.specs.Prelude.{leb, ltb}
 use Rattle.std.proofs.Math.Option.{Option, none, some}
 use Rattle.rules_decimal.specs.Packed.{pack, packed, unpack, sum}
 use Rattle.rules.specs.Sizes.{return_count, held_count, pending_count}
-use Rattle.rules.specs.Codes.{absent_register_code, returns_full_code, pending_full_code, held_full_code, below_zero_code, zero_divisor_code}
+use Rattle.rules.specs.Codes.{absent_register_code, returns_full_code, pending_full_code}
+use Rattle.rules.specs.Codes.{held_full_code, below_zero_code, zero_divisor_code}
 use Rattle.rules.specs.Codes.{not_decimal_code}
 use Rattle.rules.specs.Machine.{fill}
 use Rattle.rules.specs.Statements.{Way, following, branching, transferring, entering, posting, founding, calling, returning, ending}

@@ -2,7 +2,8 @@
 use Rattle.std.specs.Prelude.{cond, List, [], ◌∷◌, ◌++◌, map, ℕ, zero, suc, ◌+◌, ◌*◌, length, get_or, drop, eqb}
 use Rattle.std.proofs.Math.Option.{Option, none, some}
 use Rattle.rules.specs.Sizes.{thread_count, word_total, register_count, return_count, held_count, tree_count, pending_count, idle_label}
-use Rattle.rules.specs.Sizes.{locks_place, return_count_place, returns_place, presence_place, registers_place, held_count_place, thread_size}
+use Rattle.rules.specs.Sizes.{locks_place, return_count_place, returns_place, presence_place}
+use Rattle.rules.specs.Sizes.{registers_place, held_count_place, thread_size}
 use Rattle.rules.specs.Sizes.{value_count_place, values_place, signal_size, pending_count_place, tree_size, threads_place, tree_count_place}
 use Rattle.rules.specs.Sizes.{trees_place}
 use Rattle.rules.specs.Bytes.{num16, num32, le16, le32, has, blocks, pad, chunks}

@@ -65,7 +65,8 @@ state_tidy state =
     all_from (thread_at_tidy state) 0 thread_count
     && leb (get_or state tree_count_place 0) tree_count
     && all_from (tree_at_tidy state) 0 (get_or state tree_count_place 0)
-    && is_zeros (part state (trees_place + tree_size * get_or state tree_count_place 0) (tree_size * (tree_count - get_or state tree_count_place 0)))
+    && is_zeros (part state (trees_place + tree_size * get_or state tree_count_place 0)
+    (tree_size * (tree_count - get_or state tree_count_place 0)))
 
 -- ---- the machine
 

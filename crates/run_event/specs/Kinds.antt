@@ -25,7 +25,8 @@ module _ {image events : List ℕ} {i : ℕ} (h : EventAt image events i) where
   thread = get_or-drop (event_size * i) events event_thread_place 0
 
   -- a step and a cut have a thread 0 to 7
-  pub turn-thread : (get_or events (event_size * i) 0 ≡ arrival_code → ⊥) → get_or events (event_size * i + event_thread_place) 0 < thread_count
+  pub turn-thread : (get_or events (event_size * i) 0 ≡ arrival_code → ⊥)
+      → get_or events (event_size * i + event_thread_place) 0 < thread_count
   unfolding event_at_ok
   turn-thread n = case (event-read image bytes (simp length-drop (omega (arith, h.room))) h.ok)
     where
@@ -33,7 +34,8 @@ module _ {image events : List ℕ} {i : ℕ} (h : EventAt image events i) where
       case (arrival k t e) = absurd (n (sym kind ∙ k))
       case (turned m k t e) = rw thread at t
 
-  pub step_is : get_or events (event_size * i) 0 ≡ step_code → event_from bytes ≡ step (get_or events (event_size * i + event_thread_place) 0)
+  pub step_is : get_or events (event_size * i) 0 ≡ step_code
+      → event_from bytes ≡ step (get_or events (event_size * i + event_thread_place) 0)
   unfolding event_from
   step_is e = let k : get_or bytes event_kind_place 0 ≡ step_code = kind ∙ e in rw (k, thread) refl
 

@@ -107,7 +107,8 @@ module _ (image table events b₀ a₀ : List ℕ) where
     unfolding events_from
     ran-state = h.ready.canonical.same ∙ ap encode h.machine
 
-    pub ran-answers : length a₀ ≡ answer_size * events_in events → a ≡ blocks answer_bytes (answers R (machine_from b₀) (events_from events))
+    pub ran-answers : length a₀ ≡ answer_size * events_in events
+        → a ≡ blocks answer_bytes (answers R (machine_from b₀) (events_from events))
     unfolding events_from
     ran-answers l =
         let all : List Event = first_events events (events_in events) in

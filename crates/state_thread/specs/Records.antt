@@ -1,7 +1,8 @@
 -- The bytes of a thread's state: written they are those of the thread that it says, and read they say the thread that they are of.
 use Rattle.std.specs.Prelude.{◌≡◌, Bool, ◌&&◌, ℕ, zero, suc, ◌+◌, ◌*◌, ◌-◌, ◌≤◌, ◌<◌, length, take, drop}
 use Rattle.std.proofs.Math.Path.{refl, sym, ap}
-use Rattle.std.proofs.Common.{◌∙◌, add-zero, length-append, length-drop, take-append-drop, drop_at, ext_get_or, get_or-take, take_all, take_at, eqb-true}
+use Rattle.std.proofs.Common.{◌∙◌, add-zero, length-append, length-drop, take-append-drop, drop_at, ext_get_or, get_or-take, take_all}
+use Rattle.std.proofs.Common.{take_at, eqb-true}
 use Rattle.std.proofs.Math.Bool.{true, false, cond}
 use mathlib.Core.List.{List, [], ◌∷◌, ◌++◌, map, append_assoc}
 use native.Mathlib.Omega.{arith}
@@ -16,7 +17,8 @@ use Rattle.rules.specs.Sizes.{returns_place, presence_place, registers_place, he
 use Rattle.rules.specs.Bytes.{num16, num32, part, is_zeros, blocks, pad, chunks}
 use Rattle.rules.specs.Machine as law
 use Rattle.rules.specs.Machine.{held_of, idle, running}
-use Rattle.rules.specs.Encoding.{no_signal, signal_bytes, signals_bytes, value_or0, presence, thread_raw, thread_bytes, thread_from, job_from}
+use Rattle.rules.specs.Encoding.{no_signal, signal_bytes, signals_bytes, value_or0, presence, thread_raw}
+use Rattle.rules.specs.Encoding.{thread_bytes, thread_from, job_from}
 use Rattle.rules.specs.WellFormed.{absent_zero, running_tidy, signals_tidy, thread_tidy}
 use Rattle.bytes_fields.specs.Blocks.{pad-full, pad-split}
 use Rattle.lemmas_rules.specs.Logic.{and_both}
@@ -143,7 +145,8 @@ module _ (b : List ℕ) where
   running-tidy e o k =
       record {
         returns = rw (get_or-drop return_count_place b 0 0) (returns-read (get_or b return_count_place 0) o.few
-            (λ j h h'. zero-num (drop returns_place b) (2 * get_or b return_count_place 0) (2 * (return_count - get_or b return_count_place 0))
+            (λ j h h'. zero-num (drop returns_place b) (2 * get_or b return_count_place 0)
+            (2 * (return_count - get_or b return_count_place 0))
             o.zeros (2 * j) (omega arith)
             (omega arith)));
         registers = record {
@@ -207,7 +210,8 @@ module _ (b : List ℕ) (l : thread_size ≤ length b) (k : TidyHeld (raw_thread
       from_is c p = unfold thread_from in rw p
 
       go : (c : Bool) → eqb (num16 b) idle_label ≡ c
-          → cond c (is_zeros (part b locks_place (thread_size - locks_place))) (running_tidy b && signals_tidy held_count held_count_place b) ≡ true
+          → cond c (is_zeros (part b locks_place (thread_size - locks_place))) (running_tidy b
+          && signals_tidy held_count held_count_place b) ≡ true
           → Says (raw_thread b) (thread_from b)
       go true p t = record {
         state = state-is true p ∙ sym (from_is true p);
@@ -229,7 +233,8 @@ held-read x q =
     let p = held-behind x in
     let S : List ℕ = signals_bytes held_count (held_of x) in
     let d : drop held_count_place (thread_bytes x ++ q) ≡ S ++ q = rw (p.1, append_assoc) (drop_at p.0 (S ++ q) held_count_place p.2) in
-    let e : drop held_place (thread_bytes x ++ q) ≡ drop 1 (S ++ q) = sym (drop-drop 1 held_count_place (thread_bytes x ++ q)) ∙ ap (drop 1) d in
+    let e : drop held_place (thread_bytes x ++ q) ≡ drop 1 (S ++ q) = sym (drop-drop 1 held_count_place (thread_bytes x ++ q))
+    ∙ ap (drop 1) d in
     rw (d, e) (ap (length (held_of x) ∷◌) (take_at (blocks signal_bytes (pad no_signal held_count (held_of x))) q held_size
     (omega (arith, length-signals held_count (held_of x)))))
 

@@ -1,6 +1,8 @@
 -- The registers that a presence set and 25 values say: after a store, after a filling, and after some are overlaid.
-use Rattle.std.specs.Prelude.{◌≡◌, refl, true, ◌||◌, List, [], ◌∷◌, ◌++◌, map, ℕ, zero, suc, ◌+◌, ◌-◌, ◌^◌, ◌≤◌, ◌<◌, eqb, length, get_or, set, drop, replicate}
-use Rattle.std.proofs.Common.{sym, ap, ◌∙◌, zero-add, arith, length-append, length-drop, length-set, pow_mono, pow_pos, ext_get_or, get_or-append-add, get_or-drop, get_or-set_same, get_or-set_other}
+use Rattle.std.specs.Prelude.{◌≡◌, refl, true, ◌||◌, List, [], ◌∷◌, ◌++◌, map, ℕ, zero, suc, ◌+◌, ◌-◌, ◌^◌, ◌≤◌, ◌<◌, eqb, length, get_or}
+use Rattle.std.specs.Prelude.{set, drop, replicate}
+use Rattle.std.proofs.Common.{sym, ap, ◌∙◌, zero-add, arith, length-append, length-drop, length-set, pow_mono, pow_pos, ext_get_or}
+use Rattle.std.proofs.Common.{get_or-append-add, get_or-drop, get_or-set_same, get_or-set_other}
 use Rattle.std.proofs.Math.Option.{Option, none, some}
 use Rattle.std.proofs.Math.Decide.{dec_lt, ℕ_discrete}
 use Rattle.std.specs.Int.Bits.{bit_or}
@@ -60,7 +62,8 @@ module _ (present : ℕ) (values : List ℕ) (r v : ℕ) (sized : length values 
       values 0 register_count) (λ i k. go i k (ℕ_discrete i r))
     where
       go : (i : ℕ) → i < register_count → Dec (i ≡ r)
-          → register_of (bit_or present (2 ^ r)) (set values r v) i ≡ get_or (set (registers_from present values 0 register_count) r (some v)) i
+          → register_of (bit_or present (2 ^ r)) (set values r v) i
+          ≡ get_or (set (registers_from present values 0 register_count) r (some v)) i
           none
       go i k (yes e) =
           rw (
@@ -128,7 +131,8 @@ module _ (vs : List ℕ) (few : length vs ≤ register_count) where
 -- ---- registers 0 upward have the values, the others stay
 
 module _ (present : ℕ) (values vs : List ℕ) (sized : length values ≡ register_count) (few : length vs ≤ register_count) where
-  pub overlaid-registers : registers_from (bit_or present (2 ^ length vs - 1)) (vs ++ drop (length vs) values) 0 register_count ≡ map some vs
+  pub overlaid-registers : registers_from (bit_or present (2 ^ length vs - 1)) (vs ++ drop (length vs) values) 0 register_count
+      ≡ map some vs
       ++ drop (length vs) (registers_from present values 0 register_count)
   overlaid-registers =
       registers-are _ _ _ (simp (length-append, length_some, length-drop, length-registers) (omega arith))

@@ -1,6 +1,7 @@
 -- The return labels of a thread: 8 places, of which the first are in use, oldest first, and zeros in the others.
 use Rattle.std.specs.Prelude.{◌≡◌, refl, List, [], ◌∷◌, ◌++◌, ℕ, suc, ◌+◌, ◌-◌, ◌≤◌, ◌<◌, length, get_or, set, take, drop, replicate}
-use Rattle.std.proofs.Common.{sym, ap, ◌∙◌, add-one, arith, length-set, take-suc-set, drop-set-lt, drop-cons, get_or-set_same, length-take-le, take-take, get_or-take}
+use Rattle.std.proofs.Common.{sym, ap, ◌∙◌, add-one, arith, length-set, take-suc-set, drop-set-lt, drop-cons, get_or-set_same}
+use Rattle.std.proofs.Common.{length-take-le, take-take, get_or-take}
 use Rattle.std.proofs.lemmas.List.{take-set-le}
 use Rattle.rules.specs.Sizes.{return_count}
 use Rattle.rules.specs.Steps.{newest, older}

@@ -1,5 +1,6 @@
 -- What a thread's state, as the code has it, says: the law's thread, with the signals that its job holds.
-use Rattle.std.specs.Prelude.{◌≡◌, refl, Bool, true, false, cond, List, ◌++◌, map, ℕ, ◌-◌, ◌^◌, ◌≤◌, ◌<◌, eqb, length, take, drop, replicate}
+use Rattle.std.specs.Prelude.{◌≡◌, refl, Bool, true, false, cond, List, ◌++◌, map, ℕ, ◌-◌, ◌^◌, ◌≤◌, ◌<◌, eqb, length}
+use Rattle.std.specs.Prelude.{take, drop, replicate}
 use Rattle.std.proofs.Common.{sym, ap, ◌∙◌, arith, take-append-drop, length-take-le, ne_eqb, eqb-true}
 use Rattle.std.proofs.Math.Option.{Option, some}
 use Rattle.std.specs.Int.Bits.{bit_or}

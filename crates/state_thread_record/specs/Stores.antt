@@ -3,7 +3,8 @@ use Rattle.std.specs.Prelude.{◌≡◌, refl, ℕ, ◌+◌, ◌*◌, ◌-◌, �
 use Rattle.std.proofs.Common.{sym, ap, ◌∙◌, add-zero, arith, length-append, drop-drop, get_or-drop, take_all}
 use mathlib.Core.List.{List, [], ◌∷◌, ◌++◌, append_assoc, append-nil}
 use Rattle.rules.specs.Sizes.{return_count, register_count, thread_count, returns_place, presence_place, registers_place, state_size}
-use Rattle.rules.specs.Sizes.{locks_place, return_count_place, held_count, held_count_place, held_place, held_size, signal_size, thread_size}
+use Rattle.rules.specs.Sizes.{locks_place, return_count_place, held_count, held_count_place, held_place}
+use Rattle.rules.specs.Sizes.{held_size, signal_size, thread_size}
 use Rattle.rules.specs.Bytes.{num16, num32, le16, le32, part, chunks, blocks}
 use Rattle.rules.specs.Encoding.{thread_raw}
 use Rattle.bytes_fields.specs.Put.{put, put_then, put_whole, length-put, length_part}
@@ -163,7 +164,8 @@ module _ (s : List ℕ) (t : ℕ) (bytes : AreBytes s) (long' : length s ≡ sta
         → s₂ ≡ put s at (raw_bytes w)
     stored-front {s₁} {s₂} e₁ e₂ =
         let f = front-stored w n m s at e₁ e₂ in
-        stored-all w n m s at e₁ e₂ (rw held-there (stays s at _ held_count_place f (length_front w n m s at) (1 + held_size) (omega arith)))
+        stored-all w n m s at e₁ e₂ (rw held-there
+        (stays s at _ held_count_place f (length_front w n m s at) (1 + held_size) (omega arith)))
 
     -- and so do the return labels and all registers but one
     module _ (k v : ℕ) (h : k < register_count) (returns : w.returns ≡ returns_in s t)

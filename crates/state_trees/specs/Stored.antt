@@ -50,7 +50,8 @@ module _ {b : List ℕ} (k : Canon b) where
 
 module _ {b : List ℕ} (k : Canon b) (i : ℕ) (h : i < length (machine_from b).trees) where
   pub tree-removed : {b₁ b₂ : List ℕ} (n at : ℕ) → n ≡ length (machine_from b).trees → at ≡ trees_place + tree_size * i
-      → b₁ ≡ put b at (part b (at + tree_size) (tree_size * (n - 1 - i)) ++ replicate tree_size 0) → b₂ ≡ put b₁ tree_count_place ((n - 1) ∷ [])
+      → b₁ ≡ put b at (part b (at + tree_size) (tree_size * (n - 1 - i)) ++ replicate tree_size 0)
+      → b₂ ≡ put b₁ tree_count_place ((n - 1) ∷ [])
       → Canon b₂ × (machine_from b₂ ≡ with_trees (machine_from b) (remove_at i (machine_from b).trees))
   tree-removed n at en ea e₁ e₂ =
       let s = machine_from b in

@@ -128,7 +128,8 @@ module _ (image table b : List ℕ) (t : ℕ) (w : ThreadState) (p : List Signal
     call_by deep e = case (ℕ_discrete x 0) (leb return_count w.depth) refl
       where
         case : Dec (x ≡ 0) → (f : Bool) → leb return_count w.depth ≡ f
-            → Passes image table (machine_from b) t w.locks (keeping w (job (label_a r) (returns_of w ++ label_b r ∷ []) (fill (take n vs))))
+            → Passes image table (machine_from b) t w.locks (keeping w (job (label_a r) (returns_of w ++ label_b r
+            ∷ []) (fill (take n vs))))
             (passage_to (machine_from b) into t w.locks (cond (eqb x 0) (cond (leb return_count w.depth) returns_full_code 0) x))
         case (yes z) true f =
             rw (z, f) (trapped-before image table (machine_from b) t w.locks _ into returns_full_code (λ q. omega arith)
@@ -163,7 +164,8 @@ module _ {image table b : List ℕ} {t : ℕ} {w : ThreadState} {r : List ℕ} (
 
   module _ {x : ℕ} {vs : List ℕ} (g : Reads (read_all (cells_of b w r) (data_of r)) x (operands r) (replicate operand_count 0) vs)
       (q : Passage) where
-    pub send-enters-as : statement_of r ≡ SendDirect → q ≡ passage_to (machine_from b) (row_at table (block_at image (label_a r))) t w.locks x
+    pub send-enters-as : statement_of r ≡ SendDirect
+        → q ≡ passage_to (machine_from b) (row_at table (block_at image (label_a r))) t w.locks x
         → Enters image table b t w r (returns_of w) vs q
     send-enters-as e f = record {
       passes = rw f (go r h.here g e (lock-inside r (send-below e)));

@@ -61,7 +61,8 @@ others-say r = (
   ),
 )
 
-says-in : (r : List ℕ) (xs : List Other) → AllSay r xs → other_at r ≡ other_in xs (opcode r) r → Says r (other_or (other_in xs (opcode r) r))
+says-in : (r : List ℕ) (xs : List Other) → AllSay r xs → other_at r ≡ other_in xs (opcode r) r
+    → Says r (other_or (other_in xs (opcode r) r))
 unfolding AllSay
 says-in r [] h f = tt
 says-in r (x ∷ xs) h f = case (eqb (opcode r) x.opcode) refl f (says-in r xs h.1)

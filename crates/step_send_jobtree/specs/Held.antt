@@ -82,7 +82,8 @@ module _ {image table b : List ℕ} {t : ℕ} {w : ThreadState} {r : List ℕ} (
 
   -- the job at label B, with the signal to label A held
   abbrev pub holding : ℕ → ℕ → ℕ → Job
-  holding to n next = with_held (signals_of w ++ record { label = to; values = take n values } ∷ []) (job next (returns_of w) (registers_of w))
+  holding to n next = with_held (signals_of w ++ record { label = to; values = take n values }
+      ∷ []) (job next (returns_of w) (registers_of w))
 
   pub held-stepped : {b' : List ℕ} {x : ThreadState} (to next : Label) (n : ℕ) → to ≡ label (label_a r) → next ≡ label (label_b r)
       → n ≡ operands r → w.held < held_count → Runs x w.locks (holding to.0 n next.0)

@@ -97,7 +97,8 @@ module _ {image table b : List ℕ} (h : Ready image table b) (t : ℕ) (rests :
       subst (λ (w : law.ThreadState). QueueIn image table w (queue t s.trees)) rests (h.sound.queues t) in
       case (queue t s.trees) q (sym (first-queue t s.trees) ∙ f)
     where
-      case : (q : List Tree) → Each (λ x. homed image table x ≡ true) q → head_pending q ≡ some (pending_at s i) → 0 < length (pending_at s i)
+      case : (q : List Tree) → Each (λ x. homed image table x ≡ true) q → head_pending q ≡ some (pending_at s i)
+          → 0 < length (pending_at s i)
       case [] k f = never (cc)
       case (x ∷ q) k f =
           let e : x.pending ≡ pending_at s i = cc in

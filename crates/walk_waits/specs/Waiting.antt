@@ -9,7 +9,8 @@ use Rattle.std.proofs.Math.Dec.{eqb}
 use Rattle.rules.specs.Sorts.{thread}
 use Rattle.rules.specs.Codes.{send_direct_code, call_code}
 use Rattle.rules.specs.Image.{opcode, operator, record_at, label_a, label_b, Row, row_at}
-use Rattle.rules.specs.Statements.{operation_at, Other, others, other_in, other_at, other_or, statement_by, statement_of, data_of, role_a, role_b}
+use Rattle.rules.specs.Statements.{operation_at, Other, others, other_in, other_at, other_or, statement_by, statement_of}
+use Rattle.rules.specs.Statements.{data_of, role_a, role_b}
 use Rattle.rules.specs.Machine.{Signal, Job, Machine, idle, running, thread_at, first}
 use Rattle.rules.specs.Encoding.{machine_from}
 use Rattle.rules.specs.Events.{step}

@@ -41,8 +41,11 @@ with_block-set-requires c =
 pub loop-l-preserved : goal.loop-l-preserved
 loop-l-preserved c =
     let image = c.args.image.now in
-    let l = c.loop-l in
-    (omega arith, rw (c.with_block-set.ensures, (own (goal.at.loop-l-preserved c).After-block_of).1) (one_more image l.l l.set l.invariant.1))
+    let l = c.loop-l in (
+      omega arith,
+      rw (c.with_block-set.ensures, (own (goal.at.loop-l-preserved c).After-block_of).1)
+          (one_more image l.l l.set l.invariant.1),
+    )
 
 pub returns : goal.returns
 returns c =

@@ -25,4 +25,5 @@ returns-in-2 c = rw c.in-2.is c.read_operand-in-2.ensures
 
 pub returns-in_default : goal.returns-in_default
 unfolding operand_of
-returns-in_default c = simp (ne_eqb _ 1 c.in_default.in_default-own.rest.0.1, ne_eqb _ 2 c.in_default.in_default-own.rest.1) c.read_operand-in_default.ensures
+returns-in_default c = simp (ne_eqb _ 1 c.in_default.in_default-own.rest.0.1, ne_eqb _ 2 c.in_default.in_default-own.rest.1)
+    c.read_operand-in_default.ensures

@@ -23,11 +23,11 @@ use Rattle.step_results.proofs.results_of.Goals as goal
 -- what an arm asks of its sources, which stand from place k on
 asked : (state r : List ℕ) (t : ℕ) (w : ThreadState) (a : Assignment) (o : Operation) (k : ℕ) → a.operation ≡ o → destinations (shape o) ≡ k
     → (length state ≡ state_size) × Readable r × Fits a.left × Fits a.right × (t < thread_count)
-        × (w.registers ≡ registers_in state t) × (a ≡ assignment_of a.operation r)
+    × (w.registers ≡ registers_in state t) × (a ≡ assignment_of a.operation r)
     → k + 1 < operand_count
     → (length state ≡ state_size) × Readable r × (k + 1 < operand_count)
-        × Fits (operand_at r k) × Fits (optional (shape o).right r (k + 1)) × (t < thread_count)
-        × (w.registers ≡ registers_in state t)
+    × Fits (operand_at r k) × Fits (optional (shape o).right r (k + 1)) × (t < thread_count)
+    × (w.registers ≡ registers_in state t)
 asked state r t w a o k by n p l =
     let f = sources-fit a r o k p.6 by n p.2 p.3 in
     (p.0, p.1, l, f.0, f.1, p.4, p.5)
@@ -66,32 +66,40 @@ work_out-requires-in-DecimalAdd c =
 
 pub returns-in-Copy : goal.returns-in-Copy
 returns-in-Copy c =
-    worked-out c.args.a c.args.r.now Copy 1 c.requires.6 c.in-Copy.is refl (cells_of c.args.state.now c.args.w c.args.r.now) _ c.work_out.ensures
+    worked-out c.args.a c.args.r.now Copy 1 c.requires.6 c.in-Copy.is refl (cells_of c.args.state.now c.args.w c.args.r.now) _
+    c.work_out.ensures
 
 pub returns-in-Add : goal.returns-in-Add
 returns-in-Add c =
-    worked-out c.args.a c.args.r.now Add 1 c.requires.6 c.in-Add.is refl (cells_of c.args.state.now c.args.w c.args.r.now) _ c.work_out-in-Add.ensures
+    worked-out c.args.a c.args.r.now Add 1 c.requires.6 c.in-Add.is refl (cells_of c.args.state.now c.args.w c.args.r.now) _
+    c.work_out-in-Add.ensures
 
 pub returns-in-Subtract : goal.returns-in-Subtract
 returns-in-Subtract c =
-    worked-out c.args.a c.args.r.now Subtract 1 c.requires.6 c.in-Subtract.is refl (cells_of c.args.state.now c.args.w c.args.r.now) _ c.work_out-in-Subtract.ensures
+    worked-out c.args.a c.args.r.now Subtract 1 c.requires.6 c.in-Subtract.is refl (cells_of c.args.state.now c.args.w c.args.r.now) _
+    c.work_out-in-Subtract.ensures
 
 pub returns-in-Multiply : goal.returns-in-Multiply
 returns-in-Multiply c =
-    worked-out c.args.a c.args.r.now Multiply 1 c.requires.6 c.in-Multiply.is refl (cells_of c.args.state.now c.args.w c.args.r.now) _ c.work_out-in-Multiply.ensures
+    worked-out c.args.a c.args.r.now Multiply 1 c.requires.6 c.in-Multiply.is refl (cells_of c.args.state.now c.args.w c.args.r.now) _
+    c.work_out-in-Multiply.ensures
 
 pub returns-in-Divide : goal.returns-in-Divide
 returns-in-Divide c =
-    worked-out c.args.a c.args.r.now Divide 2 c.requires.6 c.in-Divide.is refl (cells_of c.args.state.now c.args.w c.args.r.now) _ c.work_out-in-Divide.ensures
+    worked-out c.args.a c.args.r.now Divide 2 c.requires.6 c.in-Divide.is refl (cells_of c.args.state.now c.args.w c.args.r.now) _
+    c.work_out-in-Divide.ensures
 
 pub returns-in-Pack : goal.returns-in-Pack
 returns-in-Pack c =
-    worked-out c.args.a c.args.r.now Pack 1 c.requires.6 c.in-Pack.is refl (cells_of c.args.state.now c.args.w c.args.r.now) _ c.work_out-in-Pack.ensures
+    worked-out c.args.a c.args.r.now Pack 1 c.requires.6 c.in-Pack.is refl (cells_of c.args.state.now c.args.w c.args.r.now) _
+    c.work_out-in-Pack.ensures
 
 pub returns-in-Unpack : goal.returns-in-Unpack
 returns-in-Unpack c =
-    worked-out c.args.a c.args.r.now Unpack 1 c.requires.6 c.in-Unpack.is refl (cells_of c.args.state.now c.args.w c.args.r.now) _ c.work_out-in-Unpack.ensures
+    worked-out c.args.a c.args.r.now Unpack 1 c.requires.6 c.in-Unpack.is refl (cells_of c.args.state.now c.args.w c.args.r.now) _
+    c.work_out-in-Unpack.ensures
 
 pub returns-in-DecimalAdd : goal.returns-in-DecimalAdd
 returns-in-DecimalAdd c =
-    worked-out c.args.a c.args.r.now DecimalAdd 1 c.requires.6 c.in-DecimalAdd.is refl (cells_of c.args.state.now c.args.w c.args.r.now) _ c.work_out-in-DecimalAdd.ensures
+    worked-out c.args.a c.args.r.now DecimalAdd 1 c.requires.6 c.in-DecimalAdd.is refl (cells_of c.args.state.now c.args.w c.args.r.now) _
+    c.work_out-in-DecimalAdd.ensures

@@ -125,8 +125,12 @@ returns-then-kind_at-eq-REGISTER_OPERAND c =
     let h = s.requires.0 in
     let to = register-3 c in
     let runs = register-stored (Register k) s.args.u move-on.ensures assign-register.ensures in
-    rw to.0 (record { runs = rw c.label_a.ensures at runs; encodes = job-written s.args.t.0 h.ready.canonical h.inside (runs-itself runs.running)
-          c.write_assigned.ensures })
+    rw to.0 (record {
+      runs = rw c.label_a.ensures at runs;
+      encodes = job-written s.args.t.0 h.ready.canonical h.inside
+          (runs-itself runs.running)
+          c.write_assigned.ensures;
+    })
 
 pub write_thread-requires : goal.write_thread-requires
 write_thread-requires c =
@@ -160,5 +164,9 @@ returns c =
     let inside : block.result.0 < block_count = rw block.ensures h.readable.block in
     let stored = word-written _ _ (encoded-canonical _ _ thread) (word_count * block.result.0 + k) s.args.u
     (omega arith) c.write_word.ensures in
-    rw to.0 (record { runs = rw word-kind.label_a.ensures at next.ensures; encodes = first-written (machine_from s.args.state.now) s.args.t.0 _ next.result (Word k) s.args.u thread
-          (rw block.ensures at stored) })
+    rw to.0 (record {
+      runs = rw word-kind.label_a.ensures at next.ensures;
+      encodes = first-written (machine_from s.args.state.now)
+          s.args.t.0 _ next.result (Word k) s.args.u thread
+          (rw block.ensures at stored);
+    })

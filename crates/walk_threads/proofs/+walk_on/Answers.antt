@@ -43,9 +43,9 @@ returns-in-For t c =
     let u : awaits R m c.thread_number.result ≡ some c.in-For.next.0 = ap (awaits R m) e
     ∙ next-some _ _ _ c.awaited.ensures c.in-For.is in
     rw (← e) (
-      let l = goes (awaits R m) a.met.now a.n _ c.requires.2 c.if-n-lt-COUNT.true fresh _ _ _ u
-          c.walk_on.ensures.count c.walk_on.ensures.bytes in
-      record { count = l.0; bytes = l.1 }
+    let l = goes (awaits R m) a.met.now a.n _ c.requires.2 c.if-n-lt-COUNT.true fresh _ _ _ u
+    c.walk_on.ensures.count c.walk_on.ensures.bytes in
+    record { count = l.0; bytes = l.1 }
     )
 
 pub returns-in-Nobody : goal.returns-in-Nobody
@@ -57,8 +57,8 @@ returns-in-Nobody t c =
     let fresh = rw (← e) at (sym c.is_met.ensures ∙ c.if-is_met.false) in
     let u : awaits R m c.thread_number.result ≡ none = ap (awaits R m) e ∙ next-none _ _ c.awaited.ensures c.in-Nobody.is in
     rw (← e) (
-      let l = halts (awaits R m) a.met.now a.n _ c.requires.2 c.if-n-lt-COUNT.true fresh u in
-      record { count = l.0; bytes = l.1 }
+    let l = halts (awaits R m) a.met.now a.n _ c.requires.2 c.if-n-lt-COUNT.true fresh u in
+    record { count = l.0; bytes = l.1 }
     )
 
 pub returns : goal.returns

@@ -38,7 +38,8 @@ returns c =
     let t = s.args.t.0 in
     let i = s.args.i in
     let moved = rw label-b.ensures at go_on.ensures.encodes in
-    let first : i ≡ first_tree t (machine_from go_on.new.state).trees = rw (encoded-machine _ _ go_on.ensures.encodes) s.requires.i_value.0 in
+    let first : i ≡ first_tree t (machine_from go_on.new.state).trees = rw (encoded-machine _ _ go_on.ensures.encodes) s.requires.i_value.0
+    in
     let sent = rw (label-a.ensures, operand-count.ensures) at (push.ensures.by_index t first) in
     buffered-stepped s.requires.at.0 s.requires.at.1 s.args.values s.requires.at.2 i s.requires.i_value.0 s.requires.i_value.1
     moved push.ensures.canon sent go_on.ensures.value
