@@ -39,28 +39,34 @@ module _ (R : Rules) (L : Laws R) (s : Machine) (i : Invariant R s) where
   holds-the-group t b c locks j runs needs group =
       rw (← group) (ap (λ k. has (R.lock b) k) (sym (ap locks_of runs)) ∙ i.keeps t j (ap job_of runs) b needs)
 
+  mine : (t c locks : ℕ) (j : Job) → thread_at s t ≡ running locks j → has (R.lock c) locks ≡ true
+      → has (R.lock c) (locks_of (thread_at s t)) ≡ true
+  mine t c locks j runs own = ap (λ k. has (R.lock c) k) (ap locks_of runs) ∙ own
+
+  -- a thread that holds the lock of the block that it wants moves on
+  enters : (t c locks : ℕ) (j : Job) (m : Move) → thread_at s t ≡ running locks j → has (R.lock c) locks ≡ true → Wants R s t c m
+      → react R s (step t) ≡ record { state = applied R t m s; answer = Moved }
+  unfolding react carry attempt plan plan_step
+  enters t c locks j m runs own wants =
+      let answer : m.answer ≡ Moved = moved t (R.block j.label) (pending_of (first t s.trees)) j.held (effect_of R s t j) m
+      (rw runs at wants.planned) in
+      let free : blocked R t s.threads (some c) ≡ none =
+      clear-blocked R s.threads t (some c) (λ d e k n.
+      let g : c ≡ d = cc in rw (← g) (i.apart t k (R.lock c) (λ f. n (sym f)) (mine t c locks j runs own))) in
+      rw (wants.planned, wants.block, free, answer) refl
+
   module _ (t c locks : ℕ) (j : Job) (m : Move) (inside : t < thread_count) (runs : thread_at s t ≡ running locks j)
       (own : has (R.lock c) locks ≡ true) (wants : Wants R s t c m) where
-    mine : has (R.lock c) (locks_of (thread_at s t)) ≡ true
-    mine = ap (λ k. has (R.lock c) k) (ap locks_of runs) ∙ own
-
     -- A BLOCK WHOSE LOCK THE THREAD HOLDS, BE IT THROUGH ANOTHER BLOCK OF THE GROUP, IS ENTERED WITHOUT WAITING
     pub enters-with-its-lock : react R s (step t) ≡ record { state = applied R t m s; answer = Moved }
-    unfolding react carry attempt plan plan_step
-    enters-with-its-lock =
-        let answer : m.answer ≡ Moved = moved t (R.block j.label) (pending_of (first t s.trees)) j.held (effect_of R s t j) m
-        (rw runs at wants.planned) in
-        let free : blocked R t s.threads (some c) ≡ none =
-        clear-blocked R s.threads t (some c) (λ d e k n.
-        let g : c ≡ d = cc in rw (← g) (i.apart t k (R.lock c) (λ f. n (sym f)) mine)) in
-        rw (wants.planned, wants.block, free, answer) refl
+    enters-with-its-lock = enters t c locks j m runs own wants
 
     -- AND ITS LOCK SET STAYS AS IT IS
     pub lock-set-stays : locks_of (thread_at (react R s (step t)).state t) ≡ locks
     lock-set-stays =
-        ap (λ (r : Reply). locks_of (thread_at r.state t)) enters-with-its-lock
+        ap (λ (r : Reply). locks_of (thread_at r.state t)) (enters t c locks j m runs own wants)
         ∙ ap locks_of (at-mover R L s t m i inside)
-        ∙ rw wants.block (grant-again R c (locks_of (thread_at s t)) mine)
+        ∙ rw wants.block (grant-again R c (locks_of (thread_at s t)) (mine t c locks j runs own))
         ∙ ap locks_of runs
 
   -- A THREAD THAT WANTS A BLOCK WHOSE LOCK ANOTHER HOLDS, THROUGH WHATEVER BLOCK OF THE GROUP, WAITS FOR THE LOCK

@@ -1,6 +1,5 @@
--- What no event can do, proved of the rules. The main theorems: `every-end-is-clean` of Ends; `holds-the-group`, `enters-with-its-lock`,
--- `lock-set-stays` and `waits-for-the-lock` of Groups; `run-leaves-unheld-blocks` of UnheldBlocks; `returns-are-open-calls` of OpenCalls;
--- `return-leads-to-a-calling-block` of ReturnTargets. soundness/specs/Untouched and Places have what an event leaves as it was.
+-- What no event can do, proved of the rules: what the theorems speak of, and the theorems of groups of blocks: `holds-the-group`,
+-- `enters-with-its-lock`, `lock-set-stays` and `waits-for-the-lock` of Groups. proofs/Lib has the other theorems.
 
 -- ends of a job
 pub mod Ends
@@ -9,6 +8,4 @@ pub mod Groups
 pub mod UnheldBlocks
 -- return labels
 pub mod Paths
-pub mod Returns
-pub mod OpenCalls
 pub mod ReturnTargets

@@ -16,7 +16,7 @@ use Rattle.lemmas_rules.specs.Logic.{never, get_d-same}
 use Rattle.lemmas_rules.specs.Admitted.{admitted-threads}
 use Rattle.lemmas_invariant.specs.Happens.{Happens, remains, founds, starts, goes, ends, happens, released}
 use Rattle.theorem_safety.specs.Paths.{opened, way_at, open_after, open_calls, label_of, noted, is_of, path_next, path_from, path_of}
-use Rattle.theorem_safety.specs.Returns.{Turned, EffectTurned, act-turned}
+use Rattle.theorem_safety.proofs.Returns.{Turned, EffectTurned, act-turned}
 
 -- one more statement
 open_snoc : (image rs path : List ℕ) (l : ℕ)
