@@ -6,8 +6,6 @@
 
 -- the laws that the rules of a checked image keep, and what follows for every machine that events make of a fresh one
 pub mod Laws
-pub mod Blocks
-pub mod CheckedRules
 pub mod Invariant
 -- what an event can do, and what it leaves as it was
 pub mod Happens
@@ -23,7 +21,6 @@ pub mod Trees
 pub mod StaysWellFormed
 -- counts within the limits
 pub mod StatementLimits
-pub mod StaysSized
 -- bytes and calls
 pub mod States
 pub mod NoEvents

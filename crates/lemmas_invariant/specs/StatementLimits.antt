@@ -6,14 +6,13 @@ use Rattle.std.proofs.Math.Option.{Option, none, some}
 use Rattle.std.proofs.lemmas.List.{length-map, length-replicate}
 use Rattle.rules.specs.Sizes.{register_count, return_count, held_count, pending_count, operand_count, record_size, record_count}
 use Rattle.rules.specs.Codes.{returns_full_code, pending_full_code, held_full_code}
-use Rattle.rules.specs.Image.{labels, record_at, label_a, label_b, operands, Row, row_at}
+use Rattle.rules.specs.Image.{labels, record_at, operands, Row}
 use Rattle.rules.specs.Statements.{operands_from, Way, following, branching, transferring, entering, posting, founding, calling, returning}
-use Rattle.rules.specs.Statements.{ending, Sources, nothing, carried, pair, usage, way, read_from, reads, statement_of, data_of}
-use Rattle.rules.specs.Machine.{Signal, Job, fill}
+use Rattle.rules.specs.Statements.{ending, Sources, nothing, carried, pair, usage, way, read_from, reads}
+use Rattle.rules.specs.Machine.{Signal, fill}
 use Rattle.rules.specs.Effects.{Got, trap, got, then, unless, Cells, read_all, read, Results, compute, store, assigned, Next, on_a, on_b}
 use Rattle.rules.specs.Effects.{into_a, call_a, back, Going, Outcome, ends, goes, View, leave, overflow, worked, chosen, perform, outcome}
-use Rattle.rules.specs.Steps.{Effect, traps, exits, moves, trap_if, older, signal_to, hold_on, alien, steer, resolve}
-use Rattle.rules.specs.Steps.{block_at, act_by, view}
+use Rattle.rules.specs.Steps.{Effect, traps, exits, moves, trap_if, older, signal_to, hold_on, alien, steer}
 use Rattle.rules.specs.declared.statement.Operand.{Operand}
 use Rattle.rules.specs.declared.statement.Operand.TheVariants.{Number, Register, Word}
 use Rattle.rules.specs.declared.statement.Assignment.{Assignment}
@@ -24,15 +23,15 @@ use Rattle.bytes_fields.specs.Each.{each_append}
 use Rattle.lemmas_rules.specs.Logic.{never}
 use Rattle.lemmas_rules.specs.Heads.{few-operands}
 use Rattle.lemmas_rules.specs.Passed.{Passed}
-use Rattle.lemmas_encoding.specs.Sized.{SizedSignal, SizedSignals, SizedJob}
+use Rattle.lemmas_encoding.specs.Sized.{SizedSignal, SizedSignals}
 use Rattle.lemmas_invariant.specs.Destinations.{head}
 
 -- ---- how many operands a record has, and how many values are read
 
-operands-limit : (image table : List ℕ) → Passed image table → (l : ℕ) → l < labels image → operands (record_at image l) ≤ operand_count
+pub operands-limit : (image table : List ℕ) → Passed image table → (l : ℕ) → l < labels image → operands (record_at image l) ≤ operand_count
 operands-limit image table ok l h = few-operands (head image table ok l h)
 
-length-operands : (r : List ℕ) (k n : ℕ) → length (operands_from r k n) ≡ n
+pub length-operands : (r : List ℕ) (k n : ℕ) → length (operands_from r k n) ≡ n
 unfolding operands_from
 length-operands r k zero = refl
 length-operands r k (suc n) = ap suc (length-operands r (k + 1) n)
@@ -88,7 +87,7 @@ DepthSized depth into_a = Unit {0}
 DepthSized depth call_a = depth < return_count
 DepthSized depth back = Unit {0}
 
-abbrev OutcomeSized : View → Got Outcome → Type 0
+abbrev pub OutcomeSized : View → Got Outcome → Type 0
 OutcomeSized v (trap r) = Unit {0}
 OutcomeSized v (got ends) = Unit {0}
 OutcomeSized v (got (goes g)) =
@@ -178,7 +177,7 @@ perform-sized v s vs h k = case (overflow v s) refl
         (λ c q. leave-sized v (way s) (chosen s vs) vs c (q ∙ h) k (room_for v s e))
     case (some r) e = tt
 
-outcome-sized : (v : View) (s : Statement) (given : List Operand) → length v.cells.registers ≡ register_count
+pub outcome-sized : (v : View) (s : Statement) (given : List Operand) → length v.cells.registers ≡ register_count
     → length given ≤ operand_count
     → OutcomeSized v (outcome v s given)
 unfolding outcome
@@ -201,7 +200,7 @@ EffectSized pending (moves j words g want) =
     (length j.registers ≡ register_count) × (length j.returns ≤ return_count) × SizedSignals held_count j.held
     × SignalSized pending_count pending g
 
-sent-sized : (most n a : ℕ) (o : Option (List ℕ)) → SentSized most n o → SignalSized most n (signal_to a o)
+pub sent-sized : (most n a : ℕ) (o : Option (List ℕ)) → SentSized most n o → SignalSized most n (signal_to a o)
 sent-sized most n a none h = tt
 sent-sized most n a (some vs) h = h
 
@@ -213,7 +212,7 @@ one_more most gs g h k = record {
   each = each_append SizedSignal gs (g ∷ []) h.each (k.0, tt);
 }
 
-hold-sized : (gs : List Signal) (o : Option Signal) → SizedSignals held_count gs → SignalSized held_count (length gs) o
+pub hold-sized : (gs : List Signal) (o : Option Signal) → SizedSignals held_count gs → SignalSized held_count (length gs) o
     → SizedSignals held_count (hold_on gs o)
 hold-sized gs none h k = h
 hold-sized gs (some g) h k = one_more held_count gs g h k
@@ -234,33 +233,13 @@ module _ (pending : ℕ) where
     back-sized [] h = tt
     back-sized (r ∷ rs) h = (k, rw (length-older r rs) (omega arith), held, sent)
 
-    steer-sized : (n : Next) (rs : List ℕ) → DepthSized (length rs) n → length rs ≤ return_count
+    pub steer-sized : (n : Next) (rs : List ℕ) → DepthSized (length rs) n → length rs ≤ return_count
         → EffectSized pending (steer block row t a b gs g n rs)
     steer-sized on_a rs n h = (k, h, held, sent)
     steer-sized on_b rs n h = (k, h, held, sent)
     steer-sized into_a rs n h = trap-sized (alien (row (block a)) t) 5 _ (k, h, held, sent)
     steer-sized call_a rs n h = trap-sized (alien (row (block a)) t) 5 _ (k, rw (length-append rs (b ∷ [])) (omega arith), held, sent)
     steer-sized back rs n h = back-sized rs h
-
-  resolve-sized : (block : ℕ → ℕ) (row : ℕ → Row) (t a b : ℕ) (j : Job) (words : List ℕ) (o : Got Outcome) → SizedJob j
-      → OutcomeSized (view j words pending) o
-      → EffectSized pending (resolve block row t j.returns j.held a b o)
-  resolve-sized block row t a b j words (trap r) z h = tt
-  resolve-sized block row t a b j words (got ends) z h = tt
-  resolve-sized block row t a b j words (got (goes g)) z h =
-      steer-sized block row t a b j.held g h.0
-      (hold-sized j.held (signal_to a g.held) z.held (sent-sized held_count (length j.held) a g.held h.3))
-      (sent-sized pending_count pending a g.sent h.2) g.next j.returns h.1 z.returns
-
-pub act-sized : (image table : List ℕ) → Passed image table → (t : ℕ) (j : Job) (words : List ℕ) (n : ℕ) → j.label < labels image
-    → SizedJob j → EffectSized n (act_by image table t j words n)
-unfolding act_by
-act-sized image table ok t j words n l z =
-    let r = record_at image j.label in
-    resolve-sized n (block_at image) (row_at table) t (label_a r) (label_b r) j words
-    (outcome (view j words n) (statement_of r) (data_of r)) z
-    (outcome-sized (view j words n) (statement_of r) (data_of r) z.registers
-    (rw (length-operands r 0 (operands r)) (operands-limit image table ok j.label l)))
 
 -- labels are below 512, so that no label is the one that says idle
 pub labels-limit : (image : List ℕ) → labels image ≤ record_count

@@ -52,16 +52,13 @@ module _ (R : Rules) (s : Machine) where
   abbrev pub Elsewhere : Event → ℕ → Type 0
   Elsewhere e b = (t : ℕ) (j : Job) → thread_of e ≡ some t → job_of (thread_at s t) ≡ some j → R.block j.label ≢ b
 
-  elsewhere-kept : (b : ℕ) (e : Event) (r : Reply) → Happens R s e r → Elsewhere e b → window b r.state.words ≡ window b s.words
+  pub elsewhere-kept : (b : ℕ) (e : Event) (r : Reply) → Happens R s e r → Elsewhere e b → window b r.state.words ≡ window b s.words
   elsewhere-kept b e r (remains f a q) n = refl
   elsewhere-kept b e r (founds g room) n = refl
   elsewhere-kept b e r (starts t g p w f k) n = refl
   elsewhere-kept b e r (goes t l j j' words g want w a k) n =
       window-keep-other (R.block j.label) b words s.words (λ c. n t j refl (ap job_of w) (sym c))
   elsewhere-kept b e r (ends t l j a w f) n = ap (window b) (admitted-words R (released j a) (finished R t s))
-
-  pub words-elsewhere-stay : (e : Event) (b : ℕ) → Elsewhere e b → window b (react R s e).state.words ≡ window b s.words
-  words-elsewhere-stay e b n = elsewhere-kept b e (react R s e) (happens R s e) n
 
   -- ---- the trees
 

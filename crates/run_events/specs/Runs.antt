@@ -21,7 +21,7 @@ use Rattle.lemmas_encoding.specs.Lengths.{length-answer}
 use Rattle.lemmas_encoding.specs.Runs.{length-chunks, chunks-at}
 use Rattle.lemmas_encoding.specs.Events.{length-events}
 use Rattle.lemmas_invariant.specs.StaysWellFormed.{Accepted}
-use Rattle.lemmas_invariant.specs.States.{events-accepted}
+use Rattle.lemmas_invariant.proofs.States.{events-accepted}
 use Rattle.step_contract.specs.Ready.{Ready, Done, reply_to, ready-again}
 use Rattle.step_send_buffered.specs.Arrivals.{EventAt}
 

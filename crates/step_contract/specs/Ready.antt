@@ -16,7 +16,8 @@ use Rattle.bytes_fields.specs.Put.{put}
 use Rattle.lemmas_encoding.specs.Slots.{returns_in, registers_in}
 use Rattle.lemmas_encoding.specs.Encoded.{Encodes, Canonical, encoded-machine, encoded-canonical}
 use Rattle.lemmas_invariant.specs.Sound.{Sound}
-use Rattle.lemmas_invariant.specs.StaysWellFormed.{Accepted, sound-react}
+use Rattle.lemmas_invariant.specs.StaysWellFormed.{Accepted}
+use Rattle.lemmas_invariant.proofs.StaysWellFormed.{sound-react}
 use Rattle.state_thread.specs.Threads.{Says, Running, Runs, job_of, keeping, returns_of}
 use Rattle.state_thread.specs.Threads.{registers_of, with_job, runs-fields, runs-itself, says-runs}
 use Rattle.state_thread.specs.Records.{thread_place, raw_thread, raw_bytes}

@@ -20,7 +20,8 @@ use Rattle.lemmas_encoding.specs.Lengths.{length-encode}
 use Rattle.lemmas_encoding.specs.Sized.{Sized}
 use Rattle.lemmas_invariant.specs.Sound.{Sound}
 use Rattle.lemmas_invariant.specs.StaysWellFormed.{Accepted}
-use Rattle.lemmas_invariant.specs.States.{Ready, encoded-well-formed}
+use Rattle.lemmas_invariant.specs.States.{Ready}
+use Rattle.lemmas_invariant.proofs.States.{encoded-well-formed}
 use Rattle.theorem_event_runs.specs.Written.{written_count, written_back, passes-seven, passes-eight}
 
 -- ---- states that are accepted

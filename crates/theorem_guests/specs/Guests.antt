@@ -18,7 +18,8 @@ use Rattle.bytes_fields.specs.Runs.{any_at, any_none}
 use Rattle.lemmas_rules.specs.Logic.{not-true, both_hold}
 use Rattle.lemmas_rules.specs.Passed.{Passed, passed}
 use Rattle.lemmas_invariant.specs.Destinations.{block-below}
-use Rattle.lemmas_invariant.specs.StaysWellFormed.{Accepted, sound-fresh}
+use Rattle.lemmas_invariant.specs.StaysWellFormed.{Accepted}
+use Rattle.lemmas_invariant.proofs.StaysWellFormed.{sound-fresh}
 use Rattle.theorem_guests.specs.Parts.{Part, Fits, first_part, second-part}
 use Rattle.theorem_guests.specs.Passes.{fits, LinkAccepted, link-accepted}
 use Rattle.theorem_guests.specs.Labels.{thread-shift, locks-shift}

@@ -27,7 +27,8 @@ use Rattle.lemmas_rules.specs.Passed.{Passed, passed}
 use Rattle.lemmas_invariant.specs.Happens.{Happens, remains, founds, starts, happens, released}
 use Rattle.lemmas_invariant.specs.Members.{get_d_set}
 use Rattle.lemmas_invariant.specs.Sound.{ThreadIn, Sound}
-use Rattle.lemmas_invariant.specs.StaysWellFormed.{Accepted, effect-in, start-in, sound-react}
+use Rattle.lemmas_invariant.specs.StaysWellFormed.{Accepted}
+use Rattle.lemmas_invariant.proofs.StaysWellFormed.{effect-in, start-in, sound-react}
 
 -- ---- a statement asks for the lock of the block that it leads to, or for none
 

@@ -17,7 +17,8 @@ use Rattle.lemmas_rules.specs.Passed.{passed}
 use Rattle.lemmas_invariant.specs.Members.{each_map}
 use Rattle.lemmas_invariant.specs.Sound.{HeldIn, ThreadIn, PendingIn, TreeIn, Sound}
 use Rattle.lemmas_invariant.specs.Trees.{pending-below, held-pending}
-use Rattle.lemmas_invariant.specs.StaysWellFormed.{Accepted, sound-react, sound-fresh}
+use Rattle.lemmas_invariant.specs.StaysWellFormed.{Accepted}
+use Rattle.lemmas_invariant.proofs.StaysWellFormed.{sound-react, sound-fresh}
 use Rattle.theorem_guests.specs.Parts.{Part}
 use Rattle.theorem_guests.specs.Labels.{shift_reply, ThreadBelow, SignalBelow, TreeBelow, EventBelow, Below}
 use Rattle.theorem_guests.specs.Relabelled.{react-shift}

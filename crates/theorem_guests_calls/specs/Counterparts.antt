@@ -23,7 +23,7 @@ use Rattle.lemmas_encoding.specs.Numbers.{AreBytes}
 use Rattle.lemmas_encoding.specs.Machines.{machine-back}
 use Rattle.lemmas_encoding.specs.Events.{length-events}
 use Rattle.lemmas_invariant.specs.StaysWellFormed.{Accepted}
-use Rattle.lemmas_invariant.specs.States.{events-accepted}
+use Rattle.lemmas_invariant.proofs.States.{events-accepted}
 use Rattle.theorem_event_runs.specs.Written.{written_back}
 use Rattle.theorem_event_runs.specs.Runs.{RunOf, run_of, encoded-taken}
 use Rattle.theorem_serial_calls.specs.CallList.{Run, returned, state_left, accepted, GoesOn, Follow, EventsAreBytes}

@@ -16,9 +16,10 @@ use Rattle.lemmas_rules.specs.Logic.{and_both}
 use Rattle.lemmas_encoding.specs.Sized.{Sized}
 use Rattle.lemmas_encoding.specs.Machines.{machine-back, machine-sized}
 use Rattle.lemmas_invariant.specs.Sound.{Sound, sound-of}
-use Rattle.lemmas_invariant.specs.StaysWellFormed.{Accepted, sound-react}
-use Rattle.lemmas_invariant.specs.StaysSized.{sized-final}
-use Rattle.lemmas_invariant.specs.States.{given-of}
+use Rattle.lemmas_invariant.specs.StaysWellFormed.{Accepted}
+use Rattle.lemmas_invariant.proofs.StaysWellFormed.{sound-react}
+use Rattle.lemmas_invariant.proofs.StaysSized.{sized-final}
+use Rattle.lemmas_invariant.proofs.States.{given-of}
 use Rattle.lemmas_invariant.specs.Untouched.{words-of-other-blocks-stay}
 use Rattle.theorem_safety.specs.UnheldBlocks.{Unheld}
 

@@ -18,7 +18,8 @@ use Rattle.lemmas_rules.specs.Logic.{never}
 use Rattle.lemmas_rules.specs.Locks.{grant-again, clear-blocked, blocked-by}
 use Rattle.lemmas_invariant.specs.Happens.{effect_of}
 use Rattle.lemmas_invariant.specs.Laws.{Needs, Laws}
-use Rattle.lemmas_invariant.specs.Invariant.{Invariant, at-mover}
+use Rattle.lemmas_invariant.specs.Invariant.{Invariant}
+use Rattle.lemmas_invariant.proofs.Invariant.{at-mover}
 
 -- the next step of thread t makes this move, once it has the lock of block b
 pub record Wants (R : Rules) (s : Machine) (t b : ℕ) (m : Move) : Type 0 where

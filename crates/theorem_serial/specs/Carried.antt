@@ -10,7 +10,8 @@ use Rattle.rules.specs.Answers.{out, join, sort}
 use Rattle.rules.specs.Steps.{Rules, react, final}
 use Rattle.rules.specs.Order.{Entry, events, log, lost_by}
 use Rattle.lemmas_invariant.specs.Laws.{Laws}
-use Rattle.lemmas_invariant.specs.Invariant.{Invariant, invariant-react}
+use Rattle.lemmas_invariant.specs.Invariant.{Invariant}
+use Rattle.lemmas_invariant.proofs.Invariant.{invariant-react}
 use Rattle.theorem_serial.specs.Swap.{Swapped, swap}
 
 module _ (R : Rules) where

@@ -3,7 +3,7 @@ use Rattle.std.specs.Prelude.{List, ℕ}
 use Rattle.rules.specs.Check.{Checked}
 use Rattle.rules.specs.Events.{Event}
 use Rattle.rules.specs.Steps.{rules_by}
-use Rattle.lemmas_invariant.specs.CheckedRules.{checked-laws}
+use Rattle.lemmas_invariant.proofs.CheckedRules.{checked-laws}
 use Rattle.theorem_serial.specs.Reading.{OneByOne, AllValid, one_by_one}
 
 module _ (image table : List ℕ) where

@@ -23,7 +23,8 @@ use Rattle.lemmas_rules.specs.Logic.{get_d-same}
 use Rattle.lemmas_invariant.specs.Laws.{Laws}
 use Rattle.lemmas_rules.specs.Locks.{get_d-set-idle}
 use Rattle.lemmas_rules.specs.Admitted.{admitted-threads}
-use Rattle.lemmas_invariant.specs.Invariant.{Invariant, Good, good, at-mover, at_other, invariant-fresh, invariant-react}
+use Rattle.lemmas_invariant.specs.Invariant.{Invariant, Good}
+use Rattle.lemmas_invariant.proofs.Invariant.{good, at-mover, at_other, invariant-fresh, invariant-react}
 use Rattle.theorem_serial.specs.Reading.{AllValid, by_sort, by_row, row_is}
 
 -- events of thread t, all answered 6

@@ -15,7 +15,8 @@ use Rattle.rules.specs.Steps.{Rules, Plan, stay, grow, move, finish, exiting, Mo
 use Rattle.rules.specs.Order.{Sheet, note_as, notes_by, blank, spread, order_by, Entry, row_of, order, events, log, lost_by}
 use Rattle.lemmas_rules.specs.Logic.{never, get_d-same}
 use Rattle.lemmas_invariant.specs.Laws.{Laws}
-use Rattle.lemmas_invariant.specs.Invariant.{Invariant, Good, good, invariant-fresh}
+use Rattle.lemmas_invariant.specs.Invariant.{Invariant, Good}
+use Rattle.lemmas_invariant.proofs.Invariant.{good, invariant-fresh}
 use Rattle.theorem_serial.specs.Carried.{Carried, carried-log, carried-final, carried-snoc, carried-invariant, Apart, AllApart, shift}
 use Rattle.theorem_serial.specs.Rows.{before, behind, flatten-row, flatten-set, mem-flatten, mem-before, mem-behind}
 

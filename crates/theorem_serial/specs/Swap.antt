@@ -21,7 +21,8 @@ use Rattle.lemmas_rules.specs.Trees.{threads-put}
 use Rattle.lemmas_rules.specs.Admitted.{admitted-threads}
 use Rattle.lemmas_invariant.specs.Laws.{Laws}
 use Rattle.lemmas_rules.specs.Locks.{grant-keeps, grant-takes, grant-either, Clear, blocked-clear, clear-blocked, get_d-set-idle}
-use Rattle.lemmas_invariant.specs.Invariant.{Invariant, Sound, Good, good, at-mover, at_other}
+use Rattle.lemmas_invariant.specs.Invariant.{Invariant, Sound, Good}
+use Rattle.lemmas_invariant.proofs.Invariant.{good, at-mover, at_other}
 use Rattle.theorem_serial.specs.Frame.{Same, same-plan, same-arrive, same-applied}
 use Rattle.theorem_serial.specs.Frame.{same-grown, same-finished, comm-applied, comm-grown}
 use Rattle.theorem_serial.specs.Frame.{comm-finished, same-admitted, comm-admitted, lost-applied, unlike}

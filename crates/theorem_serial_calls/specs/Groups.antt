@@ -15,7 +15,7 @@ use Rattle.rules.specs.Answers.{Sort, out, code, detail, answer_bytes, sort_of_c
 use Rattle.rules.specs.Steps.{Rules, Move, Reply, rules_by, applied, react}
 use Rattle.rules.specs.Order.{Sheet, note_as, notes_by, blank, spread, order_by, byte_order}
 use Rattle.rules.specs.Calls.{fresh_state}
-use Rattle.lemmas_invariant.specs.CheckedRules.{checked-laws}
+use Rattle.lemmas_invariant.proofs.CheckedRules.{checked-laws}
 use Rattle.lemmas_invariant.specs.Laws.{Needs, Laws}
 use Rattle.lemmas_invariant.specs.Invariant.{Invariant}
 use Rattle.theorem_safety.specs.Groups as groups

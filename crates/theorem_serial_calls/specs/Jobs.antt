@@ -19,7 +19,7 @@ use Rattle.rules.specs.declared.answer.Answer.{Answer}
 use Rattle.rules.specs.declared.answer.Answer.TheVariants.{Taken, ListFull, NoWork, Waiting, Started, Moved}
 use Rattle.rules.specs.declared.answer.Answer.TheVariants.{Exited, Trapped, WasCut, NothingToCut}
 use Rattle.lemmas_rules.specs.Logic.{never}
-use Rattle.lemmas_invariant.specs.CheckedRules.{checked-laws}
+use Rattle.lemmas_invariant.proofs.CheckedRules.{checked-laws}
 use Rattle.theorem_serial.specs.Reading.{by_sort, by_row, row_is}
 use Rattle.theorem_serial.specs.Jobs as values
 use Rattle.theorem_serial.specs.ByteOrder.{bytes_of, over, rows_get, byte_notes, byte-row, byte-rows}

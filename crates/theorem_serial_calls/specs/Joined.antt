@@ -23,9 +23,10 @@ use Rattle.lemmas_encoding.specs.Runs.{length-chunks}
 use Rattle.lemmas_encoding.specs.Machines.{machine-back}
 use Rattle.lemmas_encoding.specs.Entries.{run-entries}
 use Rattle.lemmas_invariant.specs.Sound.{Sound}
-use Rattle.lemmas_invariant.specs.StaysWellFormed.{Accepted, sound-final, sound-fresh}
-use Rattle.lemmas_invariant.specs.StaysSized.{sized-final, sized_fresh}
-use Rattle.lemmas_invariant.specs.States.{events-accepted}
+use Rattle.lemmas_invariant.specs.StaysWellFormed.{Accepted}
+use Rattle.lemmas_invariant.proofs.StaysWellFormed.{sound-final, sound-fresh}
+use Rattle.lemmas_invariant.proofs.StaysSized.{sized-final, sized_fresh}
+use Rattle.lemmas_invariant.proofs.States.{events-accepted}
 use Rattle.theorem_serial_calls.specs.CallList.{Run, returned, state_left, answers_left, accepted, last_left, GoesOn, Follow}
 use Rattle.theorem_serial_calls.specs.CallList.{EventsAreBytes, entries_of, event_list}
 use Rattle.theorem_serial_calls.specs.Accepted.{EventsOk, events-ok}

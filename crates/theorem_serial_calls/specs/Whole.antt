@@ -16,7 +16,7 @@ use Rattle.rules.specs.Calls.{fresh_return, fresh_state, run_return, events_leng
 use Rattle.bytes_fields.specs.Each.{Each}
 use Rattle.lemmas_rules.specs.Faults.{checked-of}
 use Rattle.theorem_serial.specs.Reading.{AllValid}
-use Rattle.lemmas_invariant.specs.CheckedRules.{checked-laws}
+use Rattle.lemmas_invariant.proofs.CheckedRules.{checked-laws}
 use Rattle.theorem_serial.specs.Calls as values
 use Rattle.lemmas_rules.specs.EventLists.{log-events, log-answers}
 use Rattle.theorem_serial.specs.Calls.{logs, logs-flatten, finals-flatten}
@@ -24,8 +24,9 @@ use Rattle.theorem_serial.specs.ByteOrder.{bytes_of}
 use Rattle.lemmas_encoding.specs.Events.{SizedEvent}
 use Rattle.lemmas_encoding.specs.Machines.{machine-back}
 use Rattle.lemmas_invariant.specs.StaysWellFormed.{Accepted, accepted-valid}
-use Rattle.lemmas_invariant.specs.StaysSized.{sized-final}
-use Rattle.lemmas_invariant.specs.States.{Ready, fresh-leaves-ready, run-leaves-ready}
+use Rattle.lemmas_invariant.proofs.StaysSized.{sized-final}
+use Rattle.lemmas_invariant.specs.States.{Ready}
+use Rattle.lemmas_invariant.proofs.States.{fresh-leaves-ready, run-leaves-ready}
 use Rattle.theorem_event_runs.specs.Written.{each-sized}
 use Rattle.theorem_event_runs.specs.Runs.{run-return}
 use Rattle.theorem_serial_calls.specs.CallList.{Run, returned, state_left, accepted, next}

@@ -15,7 +15,7 @@ use Rattle.rules.specs.declared.statement.Role.{Role}
 use Rattle.rules.specs.declared.statement.Role.TheVariants.{Unused, Inner, Direct, Local, Buffered}
 use Rattle.lemmas_rules.specs.Logic.{and_both}
 use Rattle.lemmas_invariant.specs.Laws.{Laws}
-use Rattle.lemmas_invariant.specs.Blocks.{Home, statement-stays}
+use Rattle.lemmas_invariant.proofs.Blocks.{Home, statement-stays}
 use Rattle.lemmas_rules.specs.Passed.{Passed, passed, no_record, rule-parts}
 
 module _ (image table : List ℕ) where

@@ -20,11 +20,14 @@ use Rattle.lemmas_encoding.specs.Sized.{SizedJob, SizedThread, SizedSignal, Size
 use Rattle.rules.specs.declared.answer.Answer.{Answer}
 use Rattle.lemmas_invariant.specs.Happens.{effect_of, released, released-has, Happens, remains, founds, starts, goes, ends, happens}
 use Rattle.lemmas_invariant.specs.Queues.{Place, place, FirstHas, first-has, put-each}
-use Rattle.lemmas_invariant.specs.Places.{put-missing, requeued-one}
+use Rattle.lemmas_invariant.specs.Places.{put-missing}
+use Rattle.lemmas_invariant.proofs.Places.{requeued-one}
 use Rattle.lemmas_invariant.specs.Members.{each_member}
 use Rattle.lemmas_invariant.specs.Sound.{PlaceIn, JobIn, ThreadIn, Sound}
-use Rattle.lemmas_invariant.specs.StatementLimits.{length-fill, SignalSized, EffectSized, one_more, act-sized, labels-limit}
-use Rattle.lemmas_invariant.specs.StaysWellFormed.{Accepted, effect-in, start-in, sound-react}
+use Rattle.lemmas_invariant.specs.StatementLimits.{length-fill, SignalSized, EffectSized, one_more, labels-limit}
+use Rattle.lemmas_invariant.proofs.StatementLimits.{act-sized}
+use Rattle.lemmas_invariant.specs.StaysWellFormed.{Accepted}
+use Rattle.lemmas_invariant.proofs.StaysWellFormed.{effect-in, start-in, sound-react}
 
 -- ---- words
 
