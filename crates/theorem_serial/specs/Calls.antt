@@ -8,8 +8,6 @@ use Rattle.rules.specs.Events.{Event}
 use Rattle.rules.specs.Steps.{Rules, final}
 use Rattle.rules.specs.Order.{Entry, order, events, log}
 use Rattle.lemmas_rules.specs.EventLists.{log-append, final-append}
-use Rattle.lemmas_invariant.specs.Laws.{Laws}
-use Rattle.theorem_serial.specs.Reading.{OneByOne, AllValid, one_by_one}
 
 module _ (R : Rules) where
   -- each call goes on from the machine that the one before it left: their events and answers, joined, and the machine that the last one
@@ -37,12 +35,3 @@ module _ (R : Rules) where
   pub record OneByOneCalls (words : List ℕ) (l : List (List Event)) : Type 0 where
     pub answers : log R (fresh words) (events (order (logs (fresh words) l))) ≡ order (logs (fresh words) l)
     pub state : final R (fresh words) (events (order (logs (fresh words) l))) ≡ finals (fresh words) l
-
--- THE ONE-BY-ONE READING of a whole list of calls
-pub calls-one-by-one : (R : Rules) → Laws R → (words : List ℕ) (l : List (List Event)) → AllValid (flatten l) → OneByOneCalls R words l
-calls-one-by-one R L words l v =
-    let x : OneByOne R words (flatten l) = one_by_one R L words (flatten l) v in
-    record {
-      answers = rw (logs-flatten R (fresh words) l) x.answers;
-      state = rw (logs-flatten R (fresh words) l, finals-flatten R (fresh words) l) x.state;
-    }

@@ -4,7 +4,8 @@ use Rattle.rules.specs.Check.{Checked}
 use Rattle.rules.specs.Events.{Event}
 use Rattle.rules.specs.Steps.{rules_by}
 use Rattle.lemmas_invariant.proofs.CheckedRules.{checked-laws}
-use Rattle.theorem_serial.specs.Reading.{OneByOne, AllValid, one_by_one}
+use Rattle.theorem_serial.specs.Reading.{OneByOne, AllValid}
+use Rattle.theorem_serial.proofs.Reading.{one_by_one}
 
 module _ (image table : List ℕ) where
   -- DEMAND 3 over the rules that a checked image and its block table make
