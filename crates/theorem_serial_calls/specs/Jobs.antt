@@ -22,6 +22,7 @@ use Rattle.lemmas_rules.specs.Logic.{never}
 use Rattle.lemmas_invariant.proofs.CheckedRules.{checked-laws}
 use Rattle.theorem_serial.specs.Reading.{by_sort, by_row, row_is}
 use Rattle.theorem_serial.specs.Jobs as values
+use Rattle.theorem_serial.proofs.Jobs as proved
 use Rattle.theorem_serial.specs.ByteOrder.{bytes_of, over, rows_get, byte_notes, byte-row, byte-rows}
 use Rattle.theorem_serial_calls.specs.CallList.{Run, last_left, Calls, event_list}
 use Rattle.theorem_serial_calls.specs.Whole as whole
@@ -164,7 +165,7 @@ module _ (image table words state : List ℕ) (runs : List Run) (calls : Calls i
   one-job-a-row =
       let c = whole.checked image table words state runs calls in
       let valid = whole.all_valid image joint (whole.all image table words state runs calls).each in
-      let k = values.one-job-a-row (rules_by image table) (checked-laws image table c) (words_from words) joint valid in
+      let k = proved.one-job-a-row (rules_by image table) (checked-laws image table c) (words_from words) joint valid in
       rw (whole.entries image table words state runs calls)
       (of_values (log (rules_by image table) (fresh (words_from words)) joint) (whole.last image table words state runs calls)
       (last_left (fresh_state image table words state) runs) k (whole.last-machine image table words state runs calls))

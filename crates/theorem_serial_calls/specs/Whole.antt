@@ -18,6 +18,7 @@ use Rattle.lemmas_rules.specs.Faults.{checked-of}
 use Rattle.theorem_serial.specs.Reading.{AllValid}
 use Rattle.lemmas_invariant.proofs.CheckedRules.{checked-laws}
 use Rattle.theorem_serial.specs.Calls as values
+use Rattle.theorem_serial.proofs.Calls as proved
 use Rattle.lemmas_rules.specs.EventLists.{log-events, log-answers}
 use Rattle.theorem_serial.specs.Calls.{logs, logs-flatten, finals-flatten}
 use Rattle.theorem_serial.specs.ByteOrder.{bytes_of}
@@ -120,7 +121,7 @@ module _ (image table words state : List ℕ) (runs : List Run) (calls : Calls i
 
   reading : values.OneByOneCalls R (words_from words) (event_lists runs)
   reading =
-      values.calls-one-by-one R (checked-laws image table checked) (words_from words) (event_lists runs) (all_valid image joint all.each)
+      proved.calls-one-by-one R (checked-laws image table checked) (words_from words) (event_lists runs) (all_valid image joint all.each)
 
   noted-sized : Each SizedEvent (events noted)
   noted-sized = subst (Each SizedEvent) (sym noted-events) (each-sized image joint all.each)
