@@ -1,4 +1,4 @@
--- A Run of events that are given as values, from any state that numbers 1 to 6 accept: `run_of`.
+-- A Run of events that are given as values, from any state that numbers 1 to 6 accept, is accepted: `accepted`, at the end.
 use Rattle.std.specs.Prelude.{◌≡◌, List, [], ◌∷◌, ℕ, ◌*◌, ◌≤◌}
 use Rattle.std.proofs.Math.Path.{refl}
 use Rattle.std.proofs.Common.{◌∙◌}
@@ -22,7 +22,7 @@ use Rattle.lemmas_invariant.specs.Sound.{Sound}
 use Rattle.lemmas_invariant.specs.StaysWellFormed.{Accepted}
 use Rattle.lemmas_invariant.specs.States.{Ready}
 use Rattle.lemmas_invariant.proofs.States.{encoded-well-formed}
-use Rattle.theorem_event_runs.specs.Written.{written_count, written_back, passes-seven, passes-eight}
+use Rattle.theorem_event_runs.specs.Written.{written_count, passes-seven, passes-eight}
 
 -- ---- states that are accepted
 
@@ -74,18 +74,9 @@ pub record RunOf (image table state space : List ℕ) (l : List Event) : Type 0 
 
 module _ (image table state space : List ℕ) (l : List Event) (taken : Taken image table state) (each : Each (Accepted image) l)
     (few : length l ≤ event_count) (room : length space ≡ answer_size * length l) where
-  accepted : run_return image table state (blocks event_bytes l) space ≡ 0
+  pub accepted : run_return image table state (blocks event_bytes l) space ≡ 0
   unfolding answers_length_fault first_refusal
   accepted =
       let k : Parts image table state = parts image table state taken in
       run-return image table state (blocks event_bytes l) space k.checked k.ready
       ∙ rw (passes-seven l few, passes-eight image l each, written_count l, eq-eqb (length space) (answer_size * length l) room) refl
-
-  -- A RUN OF ACCEPTED EVENTS FROM AN ACCEPTED STATE IS ACCEPTED, and its answers and the state that it leaves are the rules'
-  pub run_of : RunOf image table state space l
-  unfolding run_answers run_state
-  run_of = record {
-    accepted = accepted;
-    answers = rw (accepted, written_back image l each) refl;
-    left = rw (accepted, written_back image l each) refl;
-  }

@@ -25,7 +25,8 @@ use Rattle.lemmas_encoding.specs.Events.{length-events}
 use Rattle.lemmas_invariant.specs.StaysWellFormed.{Accepted}
 use Rattle.lemmas_invariant.proofs.States.{events-accepted}
 use Rattle.theorem_event_runs.specs.Written.{written_back}
-use Rattle.theorem_event_runs.specs.Runs.{RunOf, run_of, encoded-taken}
+use Rattle.theorem_event_runs.specs.Runs.{RunOf, encoded-taken}
+use Rattle.theorem_event_runs.proofs.Runs.{run_of}
 use Rattle.theorem_serial_calls.specs.CallList.{Run, returned, state_left, accepted, GoesOn, Follow, EventsAreBytes}
 use Rattle.theorem_serial_calls.specs.Accepted.{events-ok}
 use Rattle.theorem_serial_calls.specs.Joined.{event_lists, Good, good-final}

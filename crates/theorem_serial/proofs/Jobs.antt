@@ -173,7 +173,8 @@ module _ (R : Rules) (L : Laws R) where
   unfolding notes_by log final
   notes-rows h s [] i v k = k
   notes-rows h s (e ∷ l) i v k =
-      notes-rows (note_as (sort (react R s e).answer) (row_of e) h (record { event = e; answer = (react R s e).answer; lost = lost_by R s e }))
+      let n : Entry = record { event = e; answer = (react R s e).answer; lost = lost_by R s e } in
+      notes-rows (note_as (sort n.answer) (row_of e) h n)
       (react R s e).state l (invariant-react R L s e i v.0) v.1
       (note-rows h s e v.0 k _ refl (turn-of s e i v.0))
 

@@ -219,7 +219,8 @@ module _ (R : Rules) (L : Laws R) where
     unfolding notes_by log final
     notes-kept h s [] v k = k
     notes-kept h s (e ∷ l) v k =
-        notes-kept (note_as (sort (react R s e).answer) (row_of e) h (record { event = e; answer = (react R s e).answer; lost = lost_by R s e })) (react R s e).state l v.1 (note-kept h s e v.0 k)
+        let n : Entry = record { event = e; answer = (react R s e).answer; lost = lost_by R s e } in
+        notes-kept (note_as (sort n.answer) (row_of e) h n) (react R s e).state l v.1 (note-kept h s e v.0 k)
 
   -- THE ONE-BY-ONE READING, demand 3 over the rules
   pub one_by_one : (words : List ℕ) (l : List Event) → AllValid l → OneByOne R words l
