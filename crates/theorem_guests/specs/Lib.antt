@@ -1,6 +1,4 @@
--- A guest on a linked image, of the rules: `linked-passes` of Passes (the link's result passes the image check); `react-shift` of
--- Relabelled (any rules by which an EXIT leaves with the signals that its job holds); `guest-reading` of Reading (any image of which the
--- guest's is a part); `first-guest`, `second-guest`, `reads-as-alone`, `other-words-stay` and `other-locks-free` of Guests.
+-- A guest on a linked image, of the rules: what the theorems speak of. proofs/Lib has the theorems.
 
 -- the linked image: its records, its parts, its check
 pub mod Shifted
@@ -9,7 +7,6 @@ pub mod Passes
 -- an event with its labels shifted
 pub mod Labels
 pub mod Relabelled
-pub mod Actions
 -- a guest's events
 pub mod Reading
 pub mod Unshifted

@@ -1,2 +1,2 @@
-// A guest on a linked image does what it does by itself, proved of the rules: theorems only, in specs/.
+// A guest on a linked image does what it does by itself, proved of the rules: theorems only, in specs/ and proofs/.
 #![tactic(auto)]

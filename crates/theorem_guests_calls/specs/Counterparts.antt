@@ -32,6 +32,7 @@ use Rattle.theorem_serial_calls.specs.Accepted.{events-ok}
 use Rattle.theorem_serial_calls.specs.Joined.{event_lists, Good, good-final}
 use Rattle.theorem_guests.specs.Guests.{Guest}
 use Rattle.theorem_guests.specs.Reading as of_values
+use Rattle.theorem_guests.proofs.Reading as read_values
 use Rattle.theorem_guests_calls.specs.Shifts.{lent_written, shifted-bytes}
 
 -- ---- the counterpart of a Run, and of Runs, where s is the state that the call before left on the linked image
@@ -82,10 +83,10 @@ module _ (d : ℕ) (own other L table : List ℕ) (guest : Guest d own other L t
 
   module _ (s : Machine) (both : Both s) (l : List Event) (a : Each (Accepted own) l) where
     there : Each (Accepted L) (map (shift_event d) l)
-    there = of_values.all-accepted d own L table guest.part guest.checked l a
+    there = read_values.all-accepted d own L table guest.part guest.checked l a
 
     reading : of_values.GuestReading d own L table s (shift_machine d s) l
-    reading = of_values.guest-reading d own L table guest.part guest.checked s l both.alone.sound a
+    reading = read_values.guest-reading d own L table guest.part guest.checked s l both.alone.sound a
 
     both-final : Both (final (rules_by own table) s l)
     both-final = record {

@@ -18,7 +18,7 @@ use Rattle.theorem_event_runs.specs.Written.{each-sized}
 use Rattle.theorem_serial_calls.specs.CallList.{Run, returned, Follow, Calls, event_list}
 use Rattle.theorem_serial_calls.specs.Joined.{good-fresh}
 use Rattle.theorem_serial_calls.specs.Whole as whole
-use Rattle.theorem_guests.specs.Passes.{linked-passes}
+use Rattle.theorem_guests.proofs.Passes.{linked-passes}
 use Rattle.theorem_guests.specs.Guests.{Guest}
 use Rattle.theorem_guests_calls.specs.Shifts.{all-shifted}
 use Rattle.theorem_guests_calls.specs.Guests.{IsGuest, SameEvents, GuestReading}

@@ -23,8 +23,9 @@ use Rattle.theorem_serial_calls.specs.Whole as whole
 use Rattle.theorem_guests.specs.Reading as of_values
 use Rattle.theorem_guests.specs.Unshifted.{machine-same, events-same}
 use Rattle.theorem_guests.specs.OtherBlocks.{NotOwn, Free}
-use Rattle.theorem_guests.specs.Guests as values
-use Rattle.theorem_guests.specs.Guests.{Guest, first-guest, second-guest}
+use Rattle.theorem_guests.specs.Guests.{Guest}
+use Rattle.theorem_guests.proofs.Guests as values
+use Rattle.theorem_guests.proofs.Guests.{first-guest, second-guest}
 use Rattle.theorem_guests_calls.specs.Shifts.{all-shifted}
 use Rattle.theorem_guests_calls.specs.Guests.{IsGuest, the-first, the_second, SameEvents, GuestReading}
 
