@@ -1,4 +1,4 @@
--- A guest on a linked image, of the rules: what the theorems speak of. proofs/Lib has the theorems.
+-- A guest on a linked image, of the rules: what the theorems speak of. proofs/Lib has the main theorems.
 
 -- the linked image: its records, its parts, its check
 pub mod Shifted

@@ -1,5 +1,4 @@
--- A guest's calls on a linked image. Guests says what is claimed; Reading has the theorems `guest-reading`, `first-guest-state`,
--- `other-words-stay` and `other-locks-free`; LinkedCalls has `has-counterparts` and `counterparts-read-alike`.
+-- A guest's calls on a linked image: what the theorems speak of. proofs/Lib has the main theorems.
 pub mod Shifts
 pub mod Guests
 pub mod Reading

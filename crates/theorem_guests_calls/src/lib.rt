@@ -1,2 +1,2 @@
-// A guest's calls on a linked image: theorems only, in specs/.
+// A guest's calls on a linked image: theorems only, in specs/ and proofs/.
 #![tactic(auto)]
