@@ -6,7 +6,8 @@ use Rattle.std.proofs.Math.Option.{Option, none, some}
 use Prim.Native.Nat.{ℕ, zero, suc, ◌+◌, ◌*◌, ◌<◌}
 use Rattle.std.proofs.Math.ListN.{get_or-append}
 use Rattle.std.proofs.Math.Seq.{get_or-take, drop_at}
-use Rattle.rules.specs.Sizes.{block_count, operand_count, opcode_place, block_place, entry_place, operator_place, label_a_place, label_b_place}
+use Rattle.rules.specs.Sizes.{block_count, operand_count, opcode_place, block_place, entry_place, operator_place}
+use Rattle.rules.specs.Sizes.{label_a_place, label_b_place}
 use Rattle.rules.specs.Sizes.{operand_count_place, operands_place, operand_size, record_size}
 use Rattle.rules.specs.Bytes.{num16, le16}
 use Rattle.rules.specs.Image.{opcode, operator, label_a, label_b, operands, kind, value}
@@ -139,7 +140,9 @@ module _ (d : ℕ) (r : List ℕ) (whole : length r ≡ record_size) where
   pub shifted_by : Shifted d r (shift_record d r)
   shifted_by = record {
     statement = same-statement r (shift_record d r) byte-before rest-on;
-    given = rw (same_count r (shift_record d r) byte-before rest-on) (same_operands r (shift_record d r) byte-before rest-on (operands r) 0);
+    given =
+        rw (same_count r (shift_record d r) byte-before rest-on)
+        (same_operands r (shift_record d r) byte-before rest-on (operands r) 0);
     block = byte-before block_place block_count (omega arith);
     entry = byte-before entry_place 0 (omega arith);
     head = same_head r (shift_record d r) byte-before rest-on;

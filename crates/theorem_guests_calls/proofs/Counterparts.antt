@@ -121,7 +121,8 @@ module _ (d : ℕ) (own other L table : List ℕ) (guest : Guest d own other L t
     pub follow : Follow L table (encode (shift_machine d s)) (counterparts d L (encode (shift_machine d s)) runs)
     pub bytes : Each EventsAreBytes (counterparts d L (encode (shift_machine d s)) runs)
     pub accepted : Each (λ r. returned r ≡ 0) (counterparts d L (encode (shift_machine d s)) runs)
-    pub values : flatten (event_lists (counterparts d L (encode (shift_machine d s)) runs)) ≡ map (shift_event d) (flatten (event_lists runs))
+    pub values : flatten (event_lists (counterparts d L (encode (shift_machine d s)) runs))
+        ≡ map (shift_event d) (flatten (event_lists runs))
 
   pub counterparts-accepted : (s : Machine) (runs : List Run) → Both s → Each EventsAreBytes runs → Follow own table (encode s) runs
       → CounterpartsAccepted s runs
