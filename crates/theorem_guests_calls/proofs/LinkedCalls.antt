@@ -16,7 +16,7 @@ use Rattle.lemmas_rules.specs.Faults.{checked-rest}
 use Rattle.theorem_event_runs.specs.Written.{each-sized}
 use Rattle.theorem_serial_calls.specs.CallList.{Run, Follow, Calls, event_list}
 use Rattle.theorem_serial_calls.specs.Joined.{good-fresh}
-use Rattle.theorem_serial_calls.specs.Whole as whole
+use Rattle.theorem_serial_calls.proofs.Whole as whole
 use Rattle.theorem_guests.proofs.Passes.{linked-passes}
 use Rattle.theorem_guests.specs.Guests.{Guest}
 use Rattle.theorem_guests_calls.specs.Shifts.{all-shifted}

@@ -19,7 +19,7 @@ use Rattle.lemmas_encoding.specs.Lengths.{length-words}
 use Rattle.lemmas_invariant.specs.StaysWellFormed.{Accepted}
 use Rattle.theorem_event_runs.specs.Written.{each-sized, same-events}
 use Rattle.theorem_serial_calls.specs.CallList.{Run, last_left, Calls, event_list}
-use Rattle.theorem_serial_calls.specs.Whole as whole
+use Rattle.theorem_serial_calls.proofs.Whole as whole
 use Rattle.theorem_guests.specs.Reading as of_values
 use Rattle.theorem_guests.specs.Unshifted.{machine-same, events-same}
 use Rattle.theorem_guests.specs.OtherBlocks.{NotOwn, Free}

@@ -33,7 +33,8 @@ use Rattle.theorem_event_runs.specs.Runs.{run-return}
 use Rattle.theorem_serial_calls.specs.CallList.{Run, returned, state_left, accepted, next}
 use Rattle.theorem_serial_calls.specs.CallList.{last_left, Follow, Calls, event_list, events_of}
 use Rattle.theorem_serial_calls.specs.CallList.{answers_of, losses_of, OneByOneCalls, NoChange}
-use Rattle.theorem_serial_calls.specs.Joined.{event_lists, Good, good-fresh, Joined, joined}
+use Rattle.theorem_serial_calls.specs.Joined.{event_lists, Good, good-fresh, Joined}
+use Rattle.theorem_serial_calls.proofs.Joined.{joined}
 use Rattle.theorem_serial_calls.specs.Ordered.{events-listed, events-ordered, events-written, answers-written, answers-ordered}
 
 -- what the reading of values asks of events that the image accepts: their threads are 0 to 7
