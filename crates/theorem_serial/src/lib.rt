@@ -1,2 +1,2 @@
-// The one-by-one reading, proved of the rules: theorems only, in specs/.
+// The one-by-one reading, proved of the rules: theorems only, in specs/ and proofs/.
 #![tactic(auto)]
