@@ -18,7 +18,8 @@ use Rattle.image_record.specs.Records.{no_record}
 
 module _ (image s : List ℕ) (at : ℕ) where
   pub arrival-at : arrival_ok image (drop at s)
-      ≡ (eqb (get_or s (at + event_thread_place) 0) 0 && eqb (entry (record_at image (num16 (drop (at + event_signal_place) s)))) external_code
+      ≡ (eqb (get_or s (at + event_thread_place) 0) 0
+      && eqb (entry (record_at image (num16 (drop (at + event_signal_place) s)))) external_code
       && signal_tidy (drop (at + event_signal_place) s))
   unfolding arrival_ok signal_tidy
   arrival-at =
@@ -27,14 +28,25 @@ module _ (image s : List ℕ) (at : ℕ) where
       let c = get_or s (at + 4) 0 in
       let f : at + 2 + 2 ≡ at + 4 = omega arith in
       let g : at + 2 + (3 + 2 * c) ≡ at + (5 + 2 * c) = omega arith in
-      rw (get_or-drop at s 1 0, drop-drop 2 at s, get_or-drop at s 4 0, get_or-drop (at + event_signal_place) s 2 0, f, part-drop, part-drop, g)
+      rw (
+        get_or-drop at s 1 0,
+        drop-drop 2 at s,
+        get_or-drop at s 4 0,
+        get_or-drop (at
+            + event_signal_place) s 2 0,
+        f,
+        part-drop,
+        part-drop,
+        g,
+      )
       (and_assoc (a && e) (leb c register_count) (is_zeros (part s (at + (5 + 2 * c)) (2 * (register_count - c)))))
 
   pub arrival-past : labels image ≤ num16 (drop (at + event_signal_place) s) → arrival_ok image (drop at s) ≡ false
   arrival-past h = arrival-at ∙ rw (no_record image (num16 (drop (at + event_signal_place) s)) h, and-false)
 
 pub turn_at : (s : List ℕ) (at : ℕ)
-    → turn_ok (drop at s) ≡ (ltb (get_or s (at + event_thread_place) 0) thread_count && is_zeros (part s (at + event_signal_place) signal_size))
+    → turn_ok (drop at s) ≡ (ltb (get_or s (at + event_thread_place) 0) thread_count
+    && is_zeros (part s (at + event_signal_place) signal_size))
 unfolding turn_ok
 turn_at s at = rw (get_or-drop at s 1 0, part-drop)
 

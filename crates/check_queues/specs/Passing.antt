@@ -72,7 +72,8 @@ module _ (image table s : List ℕ) (n : ℕ) where
             (and-swap (all_from (tree_at_good image s) (i + 1) (n - (i + 1))) (stands image table (get_or flags x.thread 0) x)
             (pass image table (set flags x.thread 0) l))
 
-        pub passing-lost : stands image table (get_or flags t 0) (tree_from (drop (trees_place + tree_size * i) s)) ≡ false → false ≡ trees_good
+        pub passing-lost : stands image table (get_or flags t 0) (tree_from (drop (trees_place + tree_size * i) s)) ≡ false
+            → false ≡ trees_good
         passing-lost q = sym (one ∙ rw q)
 
         pub passing-next : stands image table (get_or flags t 0) (tree_from (drop (trees_place + tree_size * i) s)) ≡ true

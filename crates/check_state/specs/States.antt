@@ -38,7 +38,8 @@ module _ (image table s : List ℕ) where
   unfolding thread_at_tidy
   all-threads =
       rw (threads-at 0 thread_count)
-      (sym (all_both (thread_at_tidy s) (λ i. thread_ok image table i (thread_from (drop (threads_place + thread_size * i) s))) 0 thread_count)
+      (sym (all_both (thread_at_tidy s) (λ i. thread_ok image table i (thread_from (drop (threads_place
+      + thread_size * i) s))) 0 thread_count)
       ∙ all_same _ (thread_at_good image table s) 0 thread_count (λ i l h. good-thread image table i
       (drop (threads_place + thread_size * i) s)))
 

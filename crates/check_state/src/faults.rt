@@ -3,7 +3,8 @@
 ghost use Rattle.std.specs.Prelude.{◌≡◌, length};
 ghost use Rattle.rules.specs.Sizes.{state_size};
 ghost use Rattle.rules.specs.Check.{first_refusal, Checked};
-ghost use Rattle.rules.specs.Calls.{state_length_fault, state_fault, words_length_fault, thread_fault, met_length_fault, fresh_return, walk_fault};
+ghost use Rattle.rules.specs.Calls.{state_length_fault, state_fault, words_length_fault, thread_fault};
+ghost use Rattle.rules.specs.Calls.{met_length_fault, fresh_return, walk_fault};
 ghost use Rattle.check_state.specs.Faults.{machine_faults};
 
 use crate::form::well_formed;

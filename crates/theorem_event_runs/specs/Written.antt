@@ -12,7 +12,8 @@ use Rattle.rules.specs.Image.{record_at, entry}
 use Rattle.rules.specs.Machine.{Signal}
 use Rattle.rules.specs.Encoding.{signal_bytes, no_signal}
 use Rattle.rules.specs.WellFormed.{signal_tidy}
-use Rattle.rules.specs.Events.{Kind, stepping, cutting, Event, arrive, turn, step, kind_code, kind_of, event_bytes, arrival_ok, turn_ok, event_ok}
+use Rattle.rules.specs.Events.{Kind, stepping, cutting, Event, arrive, turn, step, kind_code, kind_of, event_bytes}
+use Rattle.rules.specs.Events.{arrival_ok, turn_ok, event_ok}
 use Rattle.rules.specs.Events.{event_from, events_in, event_at_ok, events_from}
 use Rattle.rules.specs.Calls.{events_length_fault, event_fault}
 use Rattle.bytes_fields.specs.Put.{part-drop}

@@ -7,7 +7,8 @@ use mathlib.Core.List.Memᴰ
 use mathlib.Core.List.{List, [], ◌∷◌}
 use Rattle.std.proofs.lemmas.List.{set_comm}
 use Rattle.rules.specs.Bytes.{has}
-use Rattle.rules.specs.Machine.{Signal, Tree, Job, ThreadState, idle, running, Machine, thread_at, locks_of, job_of, first, put, tree_threads}
+use Rattle.rules.specs.Machine.{Signal, Tree, Job, ThreadState, idle, running, Machine, thread_at, locks_of, job_of}
+use Rattle.rules.specs.Machine.{first, put, tree_threads}
 use Rattle.rules.specs.Machine.{window}
 use Rattle.rules.specs.Events.{Kind, stepping, cutting, Event, arrive, turn, thread_of}
 use Rattle.rules.specs.Steps.{Rules, Move, plan, plan_step, plan_turn, plan_arrive, written, applied, grown, founded, finished, requeued}

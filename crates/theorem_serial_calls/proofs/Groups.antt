@@ -74,7 +74,8 @@ module _ (image table words state : List ℕ) (runs : List Run) (calls : Calls i
           )
 
       -- A THREAD THAT WANTS A BLOCK WHOSE LOCK ANOTHER HOLDS: IT WAITS, AND THE ONE-BY-ONE ORDER IS THE SAME
-      pub waits-for-the-lock : (u : ℕ) → u ≢ t → has (row_at table c).lock (locks_of (thread_at s u)) ≡ true → Waited image table words state runs calls c before after t
+      pub waits-for-the-lock : (u : ℕ) → u ≢ t → has (row_at table c).lock (locks_of (thread_at s u)) ≡ true
+          → Waited image table words state runs calls c before after t
       unfolding answer_bytes code detail byte_order sort_of_code
       waits-for-the-lock u n held =
           let r = groups.waits-for-the-lock R laws s invariant t u c m n held wants in

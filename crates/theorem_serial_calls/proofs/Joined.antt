@@ -38,7 +38,8 @@ module _ (image table : List ℕ) (checked : Checked image table) where
     run-state events space h = rw (h, machine-back s g.sized) refl
 
     run-logs : (events space : List ℕ) → AreBytes events → run_return image table (encode s) events space ≡ 0
-        → byte_entries (events_in events) events (run_answers image table (encode s) events space) ≡ map bytes_of (log R s (events_from events))
+        → byte_entries (events_in events) events (run_answers image table (encode s) events space)
+        ≡ map bytes_of (log R s (events_from events))
     unfolding run_answers
     run-logs events space b h =
         let k : EventsOk image events = events-ok image table (encode s) events space h in
@@ -93,5 +94,6 @@ module _ (image table : List ℕ) (checked : Checked image table) where
           let k : GoesOn image table (encode s) r = f.0 h in
           let s' : Machine = final R s (events_from r.events) in
           joined-accepted s r l g b.0 h k
-          (more s' (good-final image table checked s (events_from r.events) g (run-accepted s g r h k)) (rw (e, state-left s g r h k) at f.1))
+          (more s' (good-final image table checked s (events_from r.events) g (run-accepted s g r h k))
+          (rw (e, state-left s g r h k) at f.1))
       case false e same more = joined-refused s r l e (same (rw e at f.1))

@@ -1,6 +1,7 @@
 -- "The one-by-one reading" of docs/MACHINE.md: an accepted Fresh and any number of Runs, the event list that they make, and what is
 -- claimed of
--- its second order. The calls are those of the law, which the exported calls promise: `fresh_return`, `fresh_state`, `run_return`, `run_state`
+-- its second order. The calls are those of the law, which the exported calls promise: `fresh_return`, `fresh_state`, `run_return`,
+-- `run_state`
 -- and `run_answers`.
 use Rattle.std.specs.Prelude.{◌≡◌, Bool, cond, List, [], ◌∷◌, ◌++◌, map, ℕ}
 use Rattle.rules.specs.Machine.{Signal}

@@ -17,8 +17,10 @@ use Rattle.rules.specs.Events.{event_from, arrival_ok, turn_ok, event_ok, event_
 use Rattle.rules.specs.Effects.{read_all, perform, outcome}
 use Rattle.rules.specs.Steps.{alien, act_by, plan_arrive, plan_idle, plan_running, plan_step, plan, held, blocked, attempt}
 use Rattle.rules.specs.Steps.{admitted, lost, carry, react, answers, final}
-use Rattle.rules.specs.WellFormed.{absent_zero, running_tidy, thread_tidy, signal_tidy, signal_at_tidy, signals_tidy, tree_tidy, thread_at_tidy}
-use Rattle.rules.specs.WellFormed.{tree_at_tidy, state_tidy, apart, place_ok, held_ok, thread_ok, threads_ok, pending_ok, tree_ok, homed, queues_ok}
+use Rattle.rules.specs.WellFormed.{absent_zero, running_tidy, thread_tidy, signal_tidy, signal_at_tidy}
+use Rattle.rules.specs.WellFormed.{signals_tidy, tree_tidy, thread_at_tidy}
+use Rattle.rules.specs.WellFormed.{tree_at_tidy, state_tidy, apart, place_ok, held_ok, thread_ok, threads_ok, pending_ok}
+use Rattle.rules.specs.WellFormed.{tree_ok, homed, queues_ok}
 use Rattle.rules.specs.WellFormed.{machine_ok, well_formed}
 use Rattle.rules.specs.Link.{shift_record, records, linked, names, share_block}
 use Rattle.rules.specs.Calls.{state_length_fault, state_fault, events_length_fault, event_fault, answers_length_fault, words_length_fault}
@@ -77,7 +79,8 @@ pub record Divisions : Type 0 where
   pub below : words_after (dividing (word 0) (word 1) (register 1) (register 0)) 4 ≡ 0 ∷ 0 ∷ 5 ∷ 0 ∷ []
   -- a zero q: 8, 8, and after it the state is Fresh's again; an absent register, p or q, is found first: 8, 1
   pub zero-divisor : answers_to (divided_by_zero (register 0) (word 0)) ≡ 1 ∷ 0 ∷ 5 ∷ 0 ∷ 8 ∷ 8 ∷ []
-  pub zero-divisor-left : state_with table (divided_by_zero (register 0) (word 0)) 3 carried_out ≡ fresh_with table (divided_by_zero (register 0) (word 0))
+  pub zero-divisor-left : state_with table (divided_by_zero (register 0) (word 0)) 3 carried_out
+      ≡ fresh_with table (divided_by_zero (register 0) (word 0))
   pub absent-p : answers_to (dividing (register 0) (word 0) (register 2) (number 0 0)) ≡ 1 ∷ 0 ∷ 5 ∷ 0 ∷ 8 ∷ 1 ∷ []
   pub absent-q : answers_to (dividing (register 0) (word 0) (register 0) (register 2)) ≡ 1 ∷ 0 ∷ 5 ∷ 0 ∷ 8 ∷ 1 ∷ []
   -- equal destinations: number 4 at the label; a register and a word of one number are none, nor are two registers of two numbers
@@ -95,14 +98,15 @@ pub record Divisions : Type 0 where
 pub divisions : Divisions
 unfolding num16 num32 part is_zeros all_from any_from first_bad blocks pad chunks every labels record_at row_at operand_of operand_at
     operands_from operation_at optional assignment_by other_at statement_of assign_ok other_ok head_ok operand_slot_ok label_ok rule_ok
-    record_ok row_ok image_length_fault table_length_fault table_fault record_fault first_refusal ℕ_discrete fresh queue first put cells stores
-    window keep presence thread_raw thread_bytes registers_from job_from thread_from signal_bytes signal_from tree_bytes tree_from encode
-    words_from machine_from code detail answer_bytes event_from arrival_ok turn_ok event_ok event_at_ok events_from read_all perform outcome
-    alien act_by plan_arrive plan_idle plan_running plan_step plan held blocked attempt admitted lost carry react answers final
+    record_ok row_ok image_length_fault table_length_fault table_fault record_fault first_refusal ℕ_discrete fresh queue first put cells
+    stores window keep presence thread_raw thread_bytes registers_from job_from thread_from signal_bytes signal_from tree_bytes tree_from
+    encode words_from machine_from code detail answer_bytes event_from arrival_ok turn_ok event_ok event_at_ok events_from read_all perform
+    outcome alien act_by plan_arrive plan_idle plan_running plan_step plan held blocked attempt admitted lost carry react answers final
     absent_zero running_tidy thread_tidy signal_tidy signal_at_tidy signals_tidy tree_tidy thread_at_tidy tree_at_tidy state_tidy apart
-    place_ok thread_ok threads_ok pending_ok tree_ok homed queues_ok machine_ok well_formed state_length_fault state_fault events_length_fault
-    event_fault answers_length_fault words_length_fault check_return fresh_return fresh_state run_return run_state run_answers Option-elim
-    shift_record records linked names share_block shared_block_fault too_many_records_fault output_length_fault link_return link_out held_ok
+    place_ok thread_ok threads_ok pending_ok tree_ok homed queues_ok machine_ok well_formed state_length_fault state_fault
+    events_length_fault event_fault answers_length_fault words_length_fault check_return fresh_return fresh_state run_return run_state
+    run_answers Option-elim shift_record records linked names share_block shared_block_fault too_many_records_fault output_length_fault
+    link_return link_out held_ok
 divisions = record {
   answers = refl;
   on-to-A = refl;

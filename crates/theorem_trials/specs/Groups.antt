@@ -20,8 +20,10 @@ use Rattle.rules.specs.Events.{event_from, arrival_ok, turn_ok, event_ok, event_
 use Rattle.rules.specs.Effects.{read_all, perform, outcome}
 use Rattle.rules.specs.Steps.{alien, act_by, plan_arrive, plan_idle, plan_running, plan_step, plan_cut, plan, held, blocked, attempt}
 use Rattle.rules.specs.Steps.{admitted, lost, carry, react, answers, final}
-use Rattle.rules.specs.WellFormed.{absent_zero, running_tidy, thread_tidy, signal_tidy, signal_at_tidy, signals_tidy, tree_tidy, thread_at_tidy}
-use Rattle.rules.specs.WellFormed.{tree_at_tidy, state_tidy, apart, place_ok, held_ok, thread_ok, threads_ok, pending_ok, tree_ok, homed, queues_ok}
+use Rattle.rules.specs.WellFormed.{absent_zero, running_tidy, thread_tidy, signal_tidy, signal_at_tidy}
+use Rattle.rules.specs.WellFormed.{signals_tidy, tree_tidy, thread_at_tidy}
+use Rattle.rules.specs.WellFormed.{tree_at_tidy, state_tidy, apart, place_ok, held_ok, thread_ok, threads_ok, pending_ok}
+use Rattle.rules.specs.WellFormed.{tree_ok, homed, queues_ok}
 use Rattle.rules.specs.WellFormed.{machine_ok, well_formed}
 use Rattle.rules.specs.Order.{ByteEntry, note_as, notes_by, order_by, byte_entries, byte_order}
 use Rattle.rules.specs.Answers.{sort_of_code}
@@ -48,7 +50,8 @@ rows = beginning (0 ∷ 0 ∷ 0 ∷ 0 ∷ 1 ∷ 5 ∷ 1 ∷ 1 ∷ 5 ∷ 0 ∷ 0 
 
 -- arrivals at blocks 1, 2 and 5; steps of threads 0, 1, 2 and 0: a job in each of blocks 1 and 5, and that in block 1 enters block 2
 abbrev entered : List ℕ
-entered = arrival_bytes 0 [] ++ arrival_bytes 4 [] ++ arrival_bytes 6 [] ++ turn_bytes 2 0 ++ turn_bytes 2 1 ++ turn_bytes 2 2 ++ turn_bytes 2 0
+entered = arrival_bytes 0 [] ++ arrival_bytes 4 [] ++ arrival_bytes 6 [] ++ turn_bytes 2 0 ++ turn_bytes 2 1 ++ turn_bytes 2 2
+    ++ turn_bytes 2 0
 
 -- and it stores 5 there, goes back to block 1 and EXITs, thread 1 asking for block 2 before each of its steps; then the others run to
 -- their ends
@@ -99,16 +102,16 @@ pub record Groups : Type 0 where
 
 pub groups : Groups
 unfolding num16 num32 part is_zeros all_from first_bad blocks pad chunks every labels record_at row_at operand_of operand_at operands_from
-    operation_at optional assignment_by relation_of condition_of other_at statement_of assign_ok other_ok head_ok operand_slot_ok label_ok rule_ok
-    record_ok row_ok image_length_fault table_length_fault table_fault record_fault first_refusal ℕ_discrete fresh queue first put cells stores
-    window keep presence thread_raw thread_bytes registers_from job_from thread_from signal_bytes signal_from tree_bytes tree_from encode
-    words_from machine_from code detail answer_bytes event_from arrival_ok turn_ok event_ok event_at_ok events_from read_all perform outcome
-    alien act_by plan_arrive plan_idle plan_running plan_step plan_cut plan held blocked attempt admitted lost carry react answers final
-    absent_zero running_tidy thread_tidy signal_tidy signal_at_tidy signals_tidy held_ok tree_tidy thread_at_tidy tree_at_tidy state_tidy apart
-    place_ok thread_ok threads_ok pending_ok tree_ok homed queues_ok machine_ok well_formed state_length_fault state_fault events_length_fault
-    event_fault answers_length_fault words_length_fault check_return fresh_return fresh_state run_return run_state run_answers Option-elim mem?
-    walk_on walk holder awaits walk_from met_bytes met_count thread_fault met_length_fault walk_fault walk_return walk_met flatten sort_of_code
-    note_as notes_by order_by byte_entries byte_order
+    operation_at optional assignment_by relation_of condition_of other_at statement_of assign_ok other_ok head_ok operand_slot_ok label_ok
+    rule_ok record_ok row_ok image_length_fault table_length_fault table_fault record_fault first_refusal ℕ_discrete fresh queue first put
+    cells stores window keep presence thread_raw thread_bytes registers_from job_from thread_from signal_bytes signal_from tree_bytes
+    tree_from encode words_from machine_from code detail answer_bytes event_from arrival_ok turn_ok event_ok event_at_ok events_from
+    read_all perform outcome alien act_by plan_arrive plan_idle plan_running plan_step plan_cut plan held blocked attempt admitted lost
+    carry react answers final absent_zero running_tidy thread_tidy signal_tidy signal_at_tidy signals_tidy held_ok tree_tidy thread_at_tidy
+    tree_at_tidy state_tidy apart place_ok thread_ok threads_ok pending_ok tree_ok homed queues_ok machine_ok well_formed
+    state_length_fault state_fault events_length_fault event_fault answers_length_fault words_length_fault check_return fresh_return
+    fresh_state run_return run_state run_answers Option-elim mem? walk_on walk holder awaits walk_from met_bytes met_count thread_fault
+    met_length_fault walk_fault walk_return walk_met flatten sort_of_code note_as notes_by order_by byte_entries byte_order
 groups = record {
   answers = refl;
   state = refl;

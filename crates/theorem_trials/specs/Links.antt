@@ -4,7 +4,8 @@ use Rattle.std.specs.Prelude.{◌≡◌, refl, List, [], ◌∷◌, ◌++◌, �
 use Rattle.rules.specs.Bytes.{num16, all_from, any_from, first_bad, blocks, chunks, every, pad}
 use Rattle.rules.specs.Image.{labels, record_at}
 use Rattle.rules.specs.Statements.{operation_at, other_at, statement_of}
-use Rattle.rules.specs.Check.{other_ok, head_ok, operand_slot_ok, label_ok, rule_ok, record_ok, row_ok, image_length_fault, table_length_fault}
+use Rattle.rules.specs.Check.{other_ok, head_ok, operand_slot_ok, label_ok, rule_ok, record_ok}
+use Rattle.rules.specs.Check.{row_ok, image_length_fault, table_length_fault}
 use Rattle.rules.specs.Check.{table_fault, record_fault, first_refusal}
 use Rattle.rules.specs.Link.{shift_record, records, linked, names, share_block}
 use Rattle.rules.specs.Calls.{shared_block_fault, too_many_records_fault, output_length_fault, check_return, link_return, link_out}
@@ -42,9 +43,10 @@ pub record Links : Type 0 where
   pub table-field : link_return faulty faulty (replicate 47 0 ++ 16 ∷ []) space ≡ 196623
 
 pub links : Links
-unfolding num16 all_from any_from first_bad blocks chunks every pad labels record_at operation_at other_at statement_of other_ok head_ok operand_slot_ok
-    label_ok rule_ok record_ok row_ok image_length_fault table_length_fault table_fault record_fault first_refusal shift_record records linked names
-    share_block shared_block_fault too_many_records_fault output_length_fault check_return link_return link_out
+unfolding num16 all_from any_from first_bad blocks chunks every pad labels record_at operation_at other_at statement_of other_ok head_ok
+    operand_slot_ok label_ok rule_ok record_ok row_ok image_length_fault table_length_fault table_fault record_fault first_refusal
+    shift_record records linked names share_block shared_block_fault too_many_records_fault output_length_fault check_return link_return
+    link_out
 links = record {
   accepted = refl;
   linked = refl;

@@ -18,8 +18,10 @@ use Rattle.rules.specs.Events.{event_from, arrival_ok, turn_ok, event_ok, event_
 use Rattle.rules.specs.Effects.{read_all, perform, outcome}
 use Rattle.rules.specs.Steps.{alien, act_by, plan_arrive, plan_idle, plan_running, plan_step, plan_cut, plan, held, blocked, attempt}
 use Rattle.rules.specs.Steps.{admitted, lost, carry, react, answers, final}
-use Rattle.rules.specs.WellFormed.{absent_zero, running_tidy, thread_tidy, signal_tidy, signal_at_tidy, signals_tidy, tree_tidy, thread_at_tidy}
-use Rattle.rules.specs.WellFormed.{tree_at_tidy, state_tidy, apart, place_ok, held_ok, thread_ok, threads_ok, pending_ok, tree_ok, homed, queues_ok}
+use Rattle.rules.specs.WellFormed.{absent_zero, running_tidy, thread_tidy, signal_tidy, signal_at_tidy}
+use Rattle.rules.specs.WellFormed.{signals_tidy, tree_tidy, thread_at_tidy}
+use Rattle.rules.specs.WellFormed.{tree_at_tidy, state_tidy, apart, place_ok, held_ok, thread_ok, threads_ok, pending_ok}
+use Rattle.rules.specs.WellFormed.{tree_ok, homed, queues_ok}
 use Rattle.rules.specs.WellFormed.{machine_ok, well_formed}
 use Rattle.rules.specs.Walk.{mem?, walk_on, walk, holder, awaits, walk_from, met_bytes, met_count}
 use Rattle.rules.specs.Calls.{thread_fault, met_length_fault, walk_fault, walk_return, walk_met}
@@ -170,11 +172,14 @@ pub record OnBytes : Type 0 where
   pub arrivals : answers_to assigning 17 (times 17 (arrival_bytes 0 [])) ≡ times 16 (1 ∷ 0 ∷ []) ++ 2 ∷ 0 ∷ []
   -- "EXIT two calls deep: lock set, return count, presence all 0": before it three locks are held and there are two return labels;
   -- after it the state is Fresh's again
-  pub deep : part (state_with own_locks (nested 10) 4 (arrival_bytes 0 [] ++ times 3 (turn_bytes 2 0))) threads_place 5 ≡ 4 ∷ 0 ∷ 7 ∷ 0 ∷ 2 ∷ []
-  pub exit : answers_with own_locks (nested 10) 5 (arrival_bytes 0 [] ++ times 4 (turn_bytes 2 0)) ≡ 1 ∷ 0 ∷ 5 ∷ 0 ∷ 6 ∷ 0 ∷ 6 ∷ 0 ∷ 7 ∷ 0 ∷ []
+  pub deep : part (state_with own_locks (nested 10) 4 (arrival_bytes 0 [] ++ times 3 (turn_bytes 2 0))) threads_place 5
+      ≡ 4 ∷ 0 ∷ 7 ∷ 0 ∷ 2 ∷ []
+  pub exit : answers_with own_locks (nested 10) 5 (arrival_bytes 0 [] ++ times 4 (turn_bytes 2 0))
+      ≡ 1 ∷ 0 ∷ 5 ∷ 0 ∷ 6 ∷ 0 ∷ 6 ∷ 0 ∷ 7 ∷ 0 ∷ []
   pub exited : state_with own_locks (nested 10) 5 (arrival_bytes 0 [] ++ times 4 (turn_bytes 2 0)) ≡ initial (nested 10)
   -- "The fourth held signal is kept; the fifth: 8, 6"
-  pub held-signals : answers_to holding 7 (arrival_bytes 0 [] ++ times 6 (turn_bytes 2 0)) ≡ 1 ∷ 0 ∷ 5 ∷ 0 ∷ times 4 (6 ∷ 0 ∷ []) ++ 8 ∷ 6 ∷ []
+  pub held-signals : answers_to holding 7 (arrival_bytes 0 [] ++ times 6 (turn_bytes 2 0))
+      ≡ 1 ∷ 0 ∷ 5 ∷ 0 ∷ times 4 (6 ∷ 0 ∷ []) ++ 8 ∷ 6 ∷ []
   pub held_kept : part (state_after holding 6 (arrival_bytes 0 [] ++ times 5 (turn_bytes 2 0))) (threads_place + held_count_place) 3
       ≡ 4 ∷ 1 ∷ 0 ∷ []
   pub held-dropped : state_after holding 7 (arrival_bytes 0 [] ++ times 6 (turn_bytes 2 0)) ≡ initial holding
@@ -217,23 +222,26 @@ pub record OnBytes : Type 0 where
   pub walk-alone : walk_return crossing both ring 2 (replicate 8 0) ≡ 1
   pub alone-met : walk_met crossing both ring 2 (replicate 8 0) ≡ 2 ∷ replicate 7 255
   -- also: after two CALLs and a RETURN all three locks are held
-  pub return : part (state_with own_locks (nested 8) 5 (arrival_bytes 0 [] ++ times 4 (turn_bytes 2 0))) threads_place 5 ≡ 3 ∷ 0 ∷ 7 ∷ 0 ∷ 1 ∷ []
+  pub return : part (state_with own_locks (nested 8) 5 (arrival_bytes 0 [] ++ times 4 (turn_bytes 2 0))) threads_place 5
+      ≡ 3 ∷ 0 ∷ 7 ∷ 0 ∷ 1 ∷ []
   -- also: a cut two calls deep leaves Fresh's state
   pub cut : answers_with own_locks (nested 10) 5 (arrival_bytes 0 [] ++ times 3 (turn_bytes 2 0) ++ turn_bytes 3 0)
       ≡ 1 ∷ 0 ∷ 5 ∷ 0 ∷ 6 ∷ 0 ∷ 6 ∷ 0 ∷ 9 ∷ 0 ∷ []
-  pub cut-clears : state_with own_locks (nested 10) 5 (arrival_bytes 0 [] ++ times 3 (turn_bytes 2 0) ++ turn_bytes 3 0) ≡ initial (nested 10)
+  pub cut-clears : state_with own_locks (nested 10) 5 (arrival_bytes 0 [] ++ times 3 (turn_bytes 2 0) ++ turn_bytes 3 0)
+      ≡ initial (nested 10)
 
 pub on_bytes : OnBytes
 unfolding num16 num32 part is_zeros all_from first_bad blocks pad chunks every labels record_at row_at operand_of operand_at operands_from
-    operation_at optional assignment_by relation_of condition_of other_at statement_of assign_ok other_ok head_ok operand_slot_ok label_ok rule_ok
-    record_ok row_ok image_length_fault table_length_fault table_fault record_fault first_refusal ℕ_discrete fresh queue first put cells stores
-    window keep presence thread_raw thread_bytes registers_from job_from thread_from signal_bytes signal_from tree_bytes tree_from encode
-    words_from machine_from code detail answer_bytes event_from arrival_ok turn_ok event_ok event_at_ok events_from read_all perform outcome
-    alien act_by plan_arrive plan_idle plan_running plan_step plan_cut plan held blocked attempt admitted lost carry react answers final
-    absent_zero running_tidy thread_tidy signal_tidy signal_at_tidy signals_tidy held_ok tree_tidy thread_at_tidy tree_at_tidy state_tidy apart
-    place_ok thread_ok threads_ok pending_ok tree_ok homed queues_ok machine_ok well_formed state_length_fault state_fault events_length_fault
-    event_fault answers_length_fault words_length_fault check_return fresh_return fresh_state run_return run_state run_answers Option-elim mem?
-    walk_on walk holder awaits walk_from met_bytes met_count thread_fault met_length_fault walk_fault walk_return walk_met
+    operation_at optional assignment_by relation_of condition_of other_at statement_of assign_ok other_ok head_ok operand_slot_ok label_ok
+    rule_ok record_ok row_ok image_length_fault table_length_fault table_fault record_fault first_refusal ℕ_discrete fresh queue first put
+    cells stores window keep presence thread_raw thread_bytes registers_from job_from thread_from signal_bytes signal_from tree_bytes
+    tree_from encode words_from machine_from code detail answer_bytes event_from arrival_ok turn_ok event_ok event_at_ok events_from
+    read_all perform outcome alien act_by plan_arrive plan_idle plan_running plan_step plan_cut plan held blocked attempt admitted lost
+    carry react answers final absent_zero running_tidy thread_tidy signal_tidy signal_at_tidy signals_tidy held_ok tree_tidy thread_at_tidy
+    tree_at_tidy state_tidy apart place_ok thread_ok threads_ok pending_ok tree_ok homed queues_ok machine_ok well_formed
+    state_length_fault state_fault events_length_fault event_fault answers_length_fault words_length_fault check_return fresh_return
+    fresh_state run_return run_state run_answers Option-elim mem? walk_on walk holder awaits walk_from met_bytes met_count thread_fault
+    met_length_fault walk_fault walk_return walk_met
 on_bytes = record {
   sum = refl;
   below-zero = refl;

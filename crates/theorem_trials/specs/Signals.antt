@@ -6,12 +6,15 @@ use Rattle.std.proofs.Math.Decide.{ℕ_discrete}
 use Rattle.rules.specs.Bytes.{num16, num32, part, is_zeros, all_from, first_bad, pad, chunks, every}
 use Rattle.rules.specs.Image.{labels, record_at, row_at}
 use Rattle.rules.specs.Statements.{operation_at, other_at, statement_of}
-use Rattle.rules.specs.Check.{other_ok, head_ok, operand_slot_ok, label_ok, rule_ok, record_ok, row_ok, image_length_fault, table_length_fault}
+use Rattle.rules.specs.Check.{other_ok, head_ok, operand_slot_ok, label_ok, rule_ok, record_ok}
+use Rattle.rules.specs.Check.{row_ok, image_length_fault, table_length_fault}
 use Rattle.rules.specs.Check.{table_fault, record_fault, first_refusal}
 use Rattle.rules.specs.Machine.{queue}
 use Rattle.rules.specs.Encoding.{registers_from, job_from, thread_from, signal_from, tree_from, words_from, machine_from}
-use Rattle.rules.specs.WellFormed.{absent_zero, running_tidy, thread_tidy, signal_tidy, signal_at_tidy, signals_tidy, tree_tidy, thread_at_tidy}
-use Rattle.rules.specs.WellFormed.{tree_at_tidy, state_tidy, apart, place_ok, held_ok, thread_ok, threads_ok, pending_ok, tree_ok, homed, queues_ok}
+use Rattle.rules.specs.WellFormed.{absent_zero, running_tidy, thread_tidy, signal_tidy, signal_at_tidy}
+use Rattle.rules.specs.WellFormed.{signals_tidy, tree_tidy, thread_at_tidy}
+use Rattle.rules.specs.WellFormed.{tree_at_tidy, state_tidy, apart, place_ok, held_ok, thread_ok, threads_ok, pending_ok}
+use Rattle.rules.specs.WellFormed.{tree_ok, homed, queues_ok}
 use Rattle.rules.specs.WellFormed.{machine_ok, well_formed}
 use Rattle.rules.specs.Calls.{state_length_fault, state_fault, events_length_fault, event_fault, answers_length_fault, run_return}
 use Rattle.theorem_trials.specs.Lent.{exiting, times, table}
@@ -59,10 +62,11 @@ pub record Signals : Type 0 where
 
 pub signals : Signals
 unfolding num16 num32 part is_zeros all_from first_bad pad chunks every labels record_at row_at operation_at other_at statement_of other_ok
-    head_ok operand_slot_ok label_ok rule_ok record_ok row_ok image_length_fault table_length_fault table_fault record_fault first_refusal queue registers_from
-    job_from thread_from signal_from tree_from words_from machine_from absent_zero running_tidy thread_tidy signal_tidy signal_at_tidy
-    signals_tidy tree_tidy thread_at_tidy tree_at_tidy state_tidy apart place_ok held_ok thread_ok threads_ok pending_ok tree_ok homed queues_ok
-    machine_ok well_formed state_length_fault state_fault events_length_fault event_fault answers_length_fault run_return ℕ_discrete Option-elim
+    head_ok operand_slot_ok label_ok rule_ok record_ok row_ok image_length_fault table_length_fault table_fault record_fault first_refusal
+    queue registers_from job_from thread_from signal_from tree_from words_from machine_from absent_zero running_tidy thread_tidy
+    signal_tidy signal_at_tidy signals_tidy tree_tidy thread_at_tidy tree_at_tidy state_tidy apart place_ok held_ok thread_ok threads_ok
+    pending_ok tree_ok homed queues_ok machine_ok well_formed state_length_fault state_fault events_length_fault event_fault
+    answers_length_fault run_return ℕ_discrete Option-elim
 signals = record {
   held_inner = refl;
   held-direct = refl;

@@ -8,7 +8,11 @@ pub returns-then-fault-ne0 : goal.returns-then-fault-ne0
 returns-then-fault-ne0 c =
     let a = c.args in
     let e = c.fresh_fault-fault.ensures in
-    record { value = e; state_after = sym (fresh-refused a.image.now a.table.now a.words.now a.state.now (λ z. c.if-fault-ne0.true (e ∙ z))) }
+    record {
+      value = e;
+      state_after = sym (fresh-refused a.image.now a.table.now a.words.now a.state.now (λ z. c.if-fault-ne0.true (e
+          ∙ z)));
+    }
 
 pub fresh-requires : goal.fresh-requires
 fresh-requires c =

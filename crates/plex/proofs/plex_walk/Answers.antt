@@ -50,6 +50,9 @@ returns c =
     let a = c.args in
     let h = sym c.walk_fault-fault.ensures
     ∙ c.if-fault-ne0.false in
-    let e = ap (λ (t : Thread). t.0) c.thread_of.ensures in record { value = c.walk.ensures.count
-          ∙ rw e (sym (walk-return a.image.now a.table.now a.state.now a.thread a.met.now h)); met_after = c.walk.ensures.bytes
-          ∙ rw e (sym (walk-met a.image.now a.table.now a.state.now a.thread a.met.now h)) }
+    let e = ap (λ (t : Thread). t.0) c.thread_of.ensures in record {
+      value = c.walk.ensures.count
+          ∙ rw e (sym (walk-return a.image.now a.table.now a.state.now a.thread a.met.now h));
+      met_after = c.walk.ensures.bytes
+          ∙ rw e (sym (walk-met a.image.now a.table.now a.state.now a.thread a.met.now h));
+    }
