@@ -96,8 +96,9 @@ sorts:
 style:
 	sh tests/style.sh
 
+CRATES = $(shell sed -n 's/^\([a-z_0-9]*\)\( staticlib\)*:.*/\1/p' crates.txt)
 format:
-	for crate in crates/*/; do (cd $$crate && rt fmt) || exit 1; done
+	for crate in $(CRATES); do (cd crates/$$crate && rt fmt) || exit 1; done
 	for crate in second compare; do (cd $$crate && cargo fmt) || exit 1; done
 	clang-format -i $$(git ls-files '*.c' '*.h')
 
