@@ -20,7 +20,7 @@ use Rattle.step_operands.specs.Statements.{first-lands, no-operator}
 use Rattle.theorem_serial_calls.specs.CallList.{Run, Calls}
 use Rattle.theorem_serial_calls.proofs.Assigning.{record-parts, place, stores, traps, absent-source}
 use Rattle.theorem_serial_calls.specs.Decimal as decimal
-use Rattle.theorem_serial_calls.specs.Decimal.{Turn, cells, operand_of, Leaves, Traps, Claims}
+use Rattle.theorem_serial_calls.specs.Decimal.{Turn, cells, operand_of, Leaves, Traps, Claims, Laws}
 
 module _ (image table words state : List ℕ) (runs : List Run) (calls : Calls image table words state runs) where
   -- ---- an operation without operator
@@ -62,8 +62,6 @@ module _ (image table words state : List ℕ) (runs : List Run) (calls : Calls i
         absent-source image table words state runs calls u.before u.after u.thread u.split u.locks u.job u.busy a
         statement
 
-  -- ---- PACK
-
   -- operand 1 of each is read as p
   abbrev Reads : {op : ℕ} → Turn image table words runs op → ℕ → Type 0
   Reads u p = decimal.Reads image table words state runs calls u p
@@ -73,38 +71,8 @@ module _ (image table words state : List ℕ) (runs : List Run) (calls : Calls i
   unfolding read_all
   alone u p e = rw e
 
-  -- A NUMBER UP TO 9,999 IS STORED PACKED
-  pub packs : (u : Turn image table words runs 13) (p : ℕ) → p ≤ 9999 → Reads u p → Leaves u state (pack 4 p)
-  unfolding operation_at assignment_by optional
-  packs u p l e = leaves 13 Pack (omega arith) refl refl u p 0 (pack 4 p) (alone u p e) (rw (le-ltb 9999 p l))
-
-  -- ABOVE IT THE STEP IS ANSWERED 8, 9
-  pub traps-above-9999 : (u : Turn image table words runs 13) (p : ℕ) → 9999 < p → Reads u p → Traps u state 9
-  unfolding operation_at assignment_by optional
-  traps-above-9999 u p l e = traps-by 13 Pack (omega arith) refl refl u p 0 (alone u p e) (rw (lt-ltb 9999 p l))
-
-  -- ---- UNPACK
-
-  -- A PACKED NUMBER IS STORED UNPACKED
-  pub unpacks : (u : Turn image table words runs 14) (x : ℕ) → packed 4 x ≡ true → Reads u x → Leaves u state (unpack 4 x)
-  unfolding operation_at assignment_by optional
-  unpacks u x h e = leaves 14 Unpack (omega arith) refl refl u x 0 (unpack 4 x) (alone u x e) (rw h)
-
-  -- WITH A DIGIT ABOVE 9 THE STEP IS ANSWERED 8, 9
-  pub traps-unpacking : (u : Turn image table words runs 14) (x : ℕ) → packed 4 x ≡ false → Reads u x → Traps u state 9
-  unfolding operation_at assignment_by optional
-  traps-unpacking u x h e = traps-by 14 Unpack (omega arith) refl refl u x 0 (alone u x e) (rw h)
-
-  -- ---- DECIMAL ADD
-
   abbrev ReadsBoth : Turn image table words runs 15 → ℕ → ℕ → Type 0
   ReadsBoth u x y = decimal.ReadsBoth image table words state runs calls u x y
-
-  -- THE DECIMAL SUM OF TWO PACKED NUMBERS IS STORED
-  pub adds : (u : Turn image table words runs 15) (x y : ℕ) → packed 4 x ≡ true → packed 4 y ≡ true → ReadsBoth u x y
-      → Leaves u state (sum 4 x y)
-  unfolding operation_at assignment_by optional
-  adds u x y h k e = leaves 15 DecimalAdd (omega arith) refl refl u x y (sum 4 x y) e (rw (h, k))
 
   -- WITH A DIGIT ABOVE 9 IN EITHER THE STEP IS ANSWERED 8, 9
   pub traps-adding : (u : Turn image table words runs 15) (x y : ℕ) → (packed 4 x ≡ false) ⊎ (packed 4 y ≡ false) → ReadsBoth u x y
@@ -128,49 +96,76 @@ module _ (image table words state : List ℕ) (runs : List Run) (calls : Calls i
   absent-first op (inr (inr o)) u (inl n) = absent op DecimalAdd (omega (arith, o)) (rw o) refl u n.0 (inl n.1) n.2
   absent-first op (inr (inr o)) u (inr n) = absent op DecimalAdd (omega (arith, o)) (rw o) refl u n.1.0 (inr n.1.1) n.1.2
 
+  -- what is claimed of these steps holds
+  pub claims : Claims image table words state runs calls
+  unfolding operation_at assignment_by optional
+  claims = record {
+    packs = λ u p l e. leaves 13 Pack (omega arith) refl refl u p 0 (pack 4 p) (alone u p e) (rw (le-ltb 9999 p l));
+    traps-above-9999 = λ u p l e. traps-by 13 Pack (omega arith) refl refl u p 0 (alone u p e) (rw (lt-ltb 9999 p l));
+    unpacks = λ u x h e. leaves 14 Unpack (omega arith) refl refl u x 0 (unpack 4 x) (alone u x e) (rw h);
+    traps-unpacking = λ u x h e. traps-by 14 Unpack (omega arith) refl refl u x 0 (alone u x e) (rw h);
+    adds = λ u x y h k e. leaves 15 DecimalAdd (omega arith) refl refl u x y (sum 4 x y) e (rw (h, k));
+    traps-adding = λ u x y h e. traps-adding u x y h e;
+    absent-first = λ op o u n. absent-first op o u n;
+  }
+
+  -- A NUMBER UP TO 9,999 IS STORED PACKED
+  pub packs : (u : Turn image table words runs 13) (p : ℕ) → p ≤ 9999 → Reads u p → Leaves u state (pack 4 p)
+  packs = claims.packs
+
+  -- ABOVE IT THE STEP IS ANSWERED 8, 9
+  pub traps-above-9999 : (u : Turn image table words runs 13) (p : ℕ) → 9999 < p → Reads u p → Traps u state 9
+  traps-above-9999 = claims.traps-above-9999
+
+  -- A PACKED NUMBER IS STORED UNPACKED
+  pub unpacks : (u : Turn image table words runs 14) (x : ℕ) → packed 4 x ≡ true → Reads u x → Leaves u state (unpack 4 x)
+  unpacks = claims.unpacks
+
+  -- WITH A DIGIT ABOVE 9 THE STEP IS ANSWERED 8, 9
+  pub traps-unpacking : (u : Turn image table words runs 14) (x : ℕ) → packed 4 x ≡ false → Reads u x → Traps u state 9
+  traps-unpacking = claims.traps-unpacking
+
+  -- THE DECIMAL SUM OF TWO PACKED NUMBERS IS STORED
+  pub adds : (u : Turn image table words runs 15) (x y : ℕ) → packed 4 x ≡ true → packed 4 y ≡ true → ReadsBoth u x y
+      → Leaves u state (sum 4 x y)
+  adds = claims.adds
+
   -- ---- the three laws, of four digits
+
+  pub laws : Laws image table words state runs calls
+  laws = record {
+    unpack-undoes-pack = λ u p l e. (
+      pack 4 p,
+      packs u p l e,
+      λ w f. subst (Leaves w state) (unpack-pack 4 p (omega arith)) (unpacks w (pack 4 p) (pack-packed 4 p) f),
+    );
+    pack-undoes-unpack = λ u x h e. (
+      unpack 4 x,
+      unpacks u x h e,
+      λ w f.
+          let below = unpack-below 4 x h in
+          subst (Leaves w state) (pack-unpack 4 x h) (packs w (unpack 4 x) (omega arith) f),
+    );
+    sum-unpacked = λ u x y h k e. (
+      sum 4 x y,
+      adds u x y h k e,
+      λ w f. subst (Leaves w state) (unpack-sum 4 x y) (unpacks w (sum 4 x y) (sum-packed 4 x y) f),
+    );
+  }
 
   -- UNPACK UNDOES PACK: what a step of PACK stores for p up to 9,999, a step of UNPACK that reads it stores as p
   pub unpack-undoes-pack : (u : Turn image table words runs 13) (p : ℕ) → p ≤ 9999 → Reads u p
       → (v : ℕ) × Leaves u state v × ((w : Turn image table words runs 14) → Reads w v → Leaves w state p)
-  unpack-undoes-pack u p l e = (
-    pack 4 p,
-    packs u p l e,
-    λ w f. subst (Leaves w state) (unpack-pack 4 p (omega arith)) (unpacks w (pack 4 p) (pack-packed 4 p) f),
-  )
+  unpack-undoes-pack = laws.unpack-undoes-pack
 
   -- PACK UNDOES UNPACK: what a step of UNPACK stores for a packed number, a step of PACK that reads it stores as that number
   pub pack-undoes-unpack : (u : Turn image table words runs 14) (x : ℕ) → packed 4 x ≡ true → Reads u x
       → (v : ℕ) × Leaves u state v × ((w : Turn image table words runs 13) → Reads w v → Leaves w state x)
-  pack-undoes-unpack u x h e = (
-    unpack 4 x,
-    unpacks u x h e,
-    λ w f.
-        let below = unpack-below 4 x h in
-        subst (Leaves w state) (pack-unpack 4 x h) (packs w (unpack 4 x) (omega arith) f),
-  )
+  pack-undoes-unpack = laws.pack-undoes-unpack
 
   -- A DECIMAL SUM, UNPACKED, IS THE SUM OF THE UNPACKED NUMBERS MODULO 10,000: what a step of DECIMAL ADD stores, a step of UNPACK that
   -- reads it stores as that sum
   pub sum-unpacked : (u : Turn image table words runs 15) (x y : ℕ) → packed 4 x ≡ true → packed 4 y ≡ true → ReadsBoth u x y
       → (v : ℕ) × Leaves u state v
       × ((w : Turn image table words runs 14) → Reads w v → Leaves w state ((unpack 4 x + unpack 4 y) % 10000))
-  sum-unpacked u x y h k e = (
-    sum 4 x y,
-    adds u x y h k e,
-    λ w f. subst (Leaves w state) (unpack-sum 4 x y) (unpacks w (sum 4 x y) (sum-packed 4 x y) f),
-  )
-
-  pub claims : Claims image table words state runs calls
-  claims = record {
-    packs = packs;
-    traps-above-9999 = traps-above-9999;
-    unpacks = unpacks;
-    traps-unpacking = traps-unpacking;
-    adds = adds;
-    traps-adding = traps-adding;
-    absent-first = absent-first;
-    unpack-undoes-pack = unpack-undoes-pack;
-    pack-undoes-unpack = pack-undoes-unpack;
-    sum-unpacked = sum-unpacked;
-  }
+  sum-unpacked = laws.sum-unpacked

@@ -46,35 +46,39 @@ module _ (image table words state : List ℕ) (runs : List Run) (calls : Calls i
   placed : (d : Operand) → Lands d → Place (job_cells image s j) d
   placed = place image table words state runs calls before after t split locks j h.thread
 
+  -- what is claimed of the step holds
+  pub claims : Claims image table words state runs calls before after t split locks j h
+  unfolding assignment_by optional
+  claims = record {
+    traps-by-zero = λ p e.
+        traps image table words state runs calls before after t split locks j h.thread a statement p 0 8 e (by_zero p);
+    divides = λ p q u v d e. record {
+      stepped =
+          stores image table words state runs calls before after t split locks j h.thread a statement p q
+          (record { first = u; second = v }) e (computed p q u v d);
+      quotient =
+          first-stored (job_cells image s j) (operand image j 0) (operand image j 1) u v (differ parts a statement refl)
+          (placed (operand image j 0) (first-lands parts a statement));
+      remainder =
+          second-stored (job_cells image s j) (operand image j 0) (operand image j 1) u v (differ parts a statement refl)
+          (placed (operand image j 1) (second-lands parts a statement refl));
+      others = λ z m n.
+          read-other (store (operand image j 0) u (job_cells image s j)) z (operand image j 1) v n
+          ∙ read-other (job_cells image s j) z (operand image j 0) u m;
+    };
+    absent-first = absent-source image table words state runs calls before after t split locks j h.thread a statement;
+  }
+
   -- WHERE Q IS ZERO, THE STEP IS ANSWERED 8, 8, AND NOTHING IS STORED
   pub traps-by-zero : (p : ℕ) → sources image s j 2 3 ≡ got (p ∷ 0 ∷ []) → Trapped image table words state runs before after t 8
-  unfolding assignment_by optional
-  traps-by-zero p e = traps image table words state runs calls before after t split locks j h.thread a statement p 0 8 e (by_zero p)
+  traps-by-zero = claims.traps-by-zero
 
   -- P = Q × QUOTIENT + REMAINDER, REMAINDER BELOW Q: BOTH ARE STORED
   pub divides : (p q u v : ℕ) → Divided p q u v → sources image s j 2 3 ≡ got (p ∷ q ∷ [])
       → Both image table words state runs before after t locks j u v
-  unfolding assignment_by optional
-  divides p q u v d e = record {
-    stepped =
-        stores image table words state runs calls before after t split locks j h.thread a statement p q
-        (record { first = u; second = v }) e (computed p q u v d);
-    quotient =
-        first-stored (job_cells image s j) (operand image j 0) (operand image j 1) u v (differ parts a statement refl)
-        (placed (operand image j 0) (first-lands parts a statement));
-    remainder =
-        second-stored (job_cells image s j) (operand image j 0) (operand image j 1) u v (differ parts a statement refl)
-        (placed (operand image j 1) (second-lands parts a statement refl));
-    others = λ z m n.
-        read-other (store (operand image j 0) u (job_cells image s j)) z (operand image j 1) v n
-        ∙ read-other (job_cells image s j) z (operand image j 0) u m;
-  }
+  divides = claims.divides
 
   -- AN ABSENT REGISTER IS FOUND FIRST: 8, 1, whatever the other operand is
   pub absent-first : (r : ℕ) → (operand image j 2 ≡ Register r) ⊎ (operand image j 3 ≡ Register r) → get_or j.registers r none ≡ none
       → Trapped image table words state runs before after t 1
-  unfolding assignment_by optional
-  absent-first = absent-source image table words state runs calls before after t split locks j h.thread a statement
-
-  pub claims : Claims image table words state runs calls before after t split locks j h
-  claims = record { traps-by-zero = traps-by-zero; divides = divides; absent-first = absent-first }
+  absent-first = claims.absent-first

@@ -34,29 +34,32 @@ module _ (image table words state : List ℕ) (runs : List Run) (calls : Calls i
   unfolding statement_of operation_at
   statement = rw (h.assign, h.subtract)
 
+  -- what is claimed of the step holds
+  pub claims : Claims image table words state runs calls before after t split locks j h
+  unfolding assignment_by optional
+  claims = record {
+    traps-below-zero = λ p q l e.
+        traps image table words state runs calls before after t split locks j h.thread a statement p q 7 e (rw (lt-ltb p q l));
+    subtracts-exactly = λ p q v d e.
+        let exact : p - q ≡ v = omega arith in
+        let above : ltb p q ≡ false = le-ltb p q (omega arith) in
+        stores image table words state runs calls before after t split locks j h.thread a statement p q
+        (record { first = v; second = 0 }) e (rw (above, exact));
+    absent-first = absent-source image table words state runs calls before after t split locks j h.thread a statement;
+  }
+
   -- WHERE Q IS ABOVE P, THE STEP IS ANSWERED 8, 7, AND NOTHING IS STORED
   pub traps-below-zero : (p q : ℕ) → p < q → sources image s j 1 2 ≡ got (p ∷ q ∷ [])
       → Trapped image table words state runs before after t 7
-  unfolding assignment_by optional
-  traps-below-zero p q l e =
-      traps image table words state runs calls before after t split locks j h.thread a statement p q 7 e (rw (lt-ltb p q l))
+  traps-below-zero = claims.traps-below-zero
 
   -- WHERE Q IS UP TO P, THE STEP IS ANSWERED 6, AND P - Q IS STORED
   pub subtracts-exactly : (p q v : ℕ) → v + q ≡ p → sources image s j 1 2 ≡ got (p ∷ q ∷ [])
       → Stepped image table words state runs before after t 6 0
       (leaving image s t locks j (store (operand image j 0) v (job_cells image s j)))
-  unfolding assignment_by optional
-  subtracts-exactly p q v d e =
-      let exact : p - q ≡ v = omega arith in
-      let above : ltb p q ≡ false = le-ltb p q (omega arith) in
-      stores image table words state runs calls before after t split locks j h.thread a statement p q
-      (record { first = v; second = 0 }) e (rw (above, exact))
+  subtracts-exactly = claims.subtracts-exactly
 
   -- AN ABSENT REGISTER IS FOUND FIRST: 8, 1, whatever the other operand is
   pub absent-first : (r : ℕ) → (operand image j 1 ≡ Register r) ⊎ (operand image j 2 ≡ Register r) → get_or j.registers r none ≡ none
       → Trapped image table words state runs before after t 1
-  unfolding assignment_by optional
-  absent-first = absent-source image table words state runs calls before after t split locks j h.thread a statement
-
-  pub claims : Claims image table words state runs calls before after t split locks j h
-  claims = record { traps-below-zero = traps-below-zero; subtracts-exactly = subtracts-exactly; absent-first = absent-first }
+  absent-first = claims.absent-first

@@ -77,6 +77,9 @@ module _ (image table words state : List ℕ) (runs : List Run) (calls : Calls i
     -- AN ABSENT REGISTER IS FOUND FIRST: 8, 1, whatever the other operand is
     pub absent-first : (op : ℕ) → (op ≡ 13) ⊎ (op ≡ 14) ⊎ (op ≡ 15) → (u : Turn image table words runs op)
         → Absent u 1 ⊎ ((op ≡ 15) × Absent u 2) → Traps u state 1
+
+  -- and of what such a step stores, read by another: the three laws, of four digits
+  pub record Laws : Type 0 where
     -- UNPACK UNDOES PACK: what a step of PACK stores for p up to 9,999, a step of UNPACK that reads it stores as p
     pub unpack-undoes-pack : (u : Turn image table words runs 13) (p : ℕ) → p ≤ 9999 → Reads u p
         → (v : ℕ) × Leaves u state v × ((w : Turn image table words runs 14) → Reads w v → Leaves w state p)

@@ -3,7 +3,7 @@
 -- Reached parts a list at one step. By it Groups has what the locks of several blocks come to there, `enters-with-its-lock` and
 -- `waits-for-the-lock`, and Assigning what a statement of ASSIGN's kind does. By that Subtraction has `traps-below-zero`,
 -- `subtracts-exactly` and `absent-first`, Division `divides`, `traps-by-zero` and `absent-first`, and Decimal `unpack-undoes-pack`,
--- `pack-undoes-unpack`, `sum-unpacked` and what each step stores or traps with: of each, the claims, and that they hold is `claims`.
+-- `pack-undoes-unpack`, `sum-unpacked` and what each step stores or traps with: there is what is claimed, proofs/ has that it holds.
 pub mod CallList
 pub mod Accepted
 pub mod Joined
