@@ -1,7 +1,6 @@
 -- A thread record: what is written is read back and passes the tests, and what passes the tests is written again as it was.
 use Rattle.std.specs.Prelude.{◌≡◌, Bool, true, false, cond, ◌&&◌, eqb, leb, ltb, take, drop, replicate}
-use Rattle.std.proofs.Math.Path.{refl, sym, ap}
-use Rattle.std.proofs.Common.{◌∙◌, drop_at, drop-drop}
+use Rattle.std.proofs.Common.{refl, sym, ap, ◌∙◌, drop_at, drop-drop}
 use mathlib.Core.List.{List, [], ◌∷◌, ◌++◌, map, append_assoc}
 use Prim.Native.Nat.{ℕ, ◌+◌, ◌*◌, ◌-◌, ◌^◌, ◌≤◌, ◌<◌}
 use native.Mathlib.Omega.{arith}
@@ -13,8 +12,7 @@ use Rattle.rules.specs.Sizes.{presence_place, registers_place, held_count_place,
 use Rattle.rules.specs.Bytes.{num16, num32, le16, le32, part, is_zeros, blocks, pad, chunks, all_from}
 use Rattle.rules.specs.Machine.{Job, ThreadState, idle, running, held_of}
 use Rattle.rules.specs.Encoding.{signal_bytes, signals_bytes, signals_from, presence, value_or0, registers_from}
-use Rattle.rules.specs.Encoding.{thread_raw, thread_bytes, job_from}
-use Rattle.rules.specs.Encoding.{thread_from}
+use Rattle.rules.specs.Encoding.{thread_raw, thread_bytes, job_from, thread_from}
 use Rattle.rules.specs.WellFormed.{absent_zero, running_tidy, signals_tidy, thread_tidy}
 use Rattle.bytes_fields.specs.Runs.{all-at, all-holds}
 use Rattle.bytes_fields.specs.Put.{part_at, part-drop}
