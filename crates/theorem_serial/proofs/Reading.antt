@@ -1,4 +1,4 @@
--- The proof of "The one_by_one reading": `one_by_one`, at the end.
+-- The proof of "The one-by-one reading": `one_by_one`, at the end.
 use Rattle.std.specs.Prelude.{◌≡◌, ◌≢◌, ◌⊎◌, ℕ, ◌<◌, length, get_or, set}
 use Rattle.std.proofs.Math.Path.{refl}
 use Rattle.std.proofs.Common.{sym, ap, ◌∙◌, subst, inl, inr, length-set, get_or-set_same, get_or-set_other}

@@ -1,4 +1,4 @@
--- The events of call after call, joined in call order, are one event list: the one_by_one reading of a list of calls.
+-- The events of call after call, joined in call order, are one event list: the one-by-one reading of a list of calls.
 use Rattle.std.specs.Prelude.{◌≡◌, ℕ}
 use Rattle.std.proofs.Math.Path.{refl, sym, ap}
 use Rattle.std.proofs.Common.{◌∙◌}

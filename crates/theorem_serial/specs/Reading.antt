@@ -1,4 +1,4 @@
--- "The one_by_one reading", for any rules that keep the law of Laws.antt and event lists of any length: `one_by_one`, at the end.
+-- "The one-by-one reading", for any rules that keep the law of Laws.antt and event lists of any length: `one_by_one`, at the end.
 use Rattle.std.specs.Prelude.{◌≡◌, ℕ}
 use Rattle.std.proofs.Common.{sym, ap, ◌∙◌}
 use Rattle.std.proofs.Math.Option.{some}

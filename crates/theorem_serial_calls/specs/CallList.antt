@@ -1,8 +1,6 @@
 -- "The one-by-one reading" of docs/MACHINE.md: an accepted Fresh and any number of Runs, the event list that they make, and what is
--- claimed of
--- its second order. The calls are those of the law, which the exported calls promise: `fresh_return`, `fresh_state`, `run_return`,
--- `run_state`
--- and `run_answers`.
+-- claimed of its second order. The calls are those of the law, which the exported calls promise: `fresh_return`, `fresh_state`,
+-- `run_return`, `run_state` and `run_answers`.
 use Rattle.std.specs.Prelude.{◌≡◌, Bool, cond, List, [], ◌∷◌, ◌++◌, map, ℕ}
 use Rattle.rules.specs.Machine.{Signal}
 use Rattle.rules.specs.Encoding.{encode, machine_from}
@@ -40,8 +38,7 @@ accepted r = accepts (returned r)
 -- ---- Runs, one after the other
 
 -- the state that the last accepted call left, where s is what the accepted call before this Run left. A refused Run, whatever it was
--- handed, is
--- passed over
+-- handed, is passed over
 abbrev pub next : List ℕ → Run → List ℕ
 next s r = cond (accepted r) (state_left r) s
 

@@ -1,6 +1,5 @@
 -- The order of the link's own numbers: `link_order`, of two images of EXITs, over their blocks, their counts and the output. The numbers
--- are
--- those of docs/MACHINE.md, so that a wrong one in the law, or another order, fails here.
+-- are those of docs/MACHINE.md, so that a wrong one in the law, or another order, fails here.
 use Rattle.std.specs.Prelude.{◌≡◌, Bool, ◌&&◌, List, ℕ, ◌+◌, ◌*◌, ◌≤◌, ◌<◌, length}
 use Rattle.std.proofs.Math.Path.{refl, sym}
 use Rattle.std.proofs.Common.{◌∙◌, arith}
