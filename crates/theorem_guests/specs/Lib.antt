@@ -10,5 +10,6 @@ pub mod Relabelled
 -- a guest's events
 pub mod Reading
 pub mod Unshifted
+pub mod Inverse
 pub mod OtherBlocks
 pub mod Guests

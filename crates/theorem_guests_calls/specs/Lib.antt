@@ -4,3 +4,4 @@ pub mod Guests
 pub mod Reading
 pub mod Counterparts
 pub mod LinkedCalls
+pub mod OwnCalls
