@@ -2,20 +2,18 @@
 use Rattle.std.specs.Prelude.{◌≡◌, refl, Bool, true, false, cond, not, ◌&&◌, List, [], ◌∷◌, ℕ, ◌+◌, ◌^◌, ◌<◌, eqb, ltb}
 use Rattle.std.proofs.Common.{sym, eqb-true, ltb-true}
 use Rattle.std.proofs.lemmas.Bool.{false≢true}
-use Rattle.std.proofs.Math.Option.{Option, none, some}
+use Rattle.std.proofs.Math.Option.{some}
 use Rattle.rules.specs.Codes.{skip_code, assign_code, goto_code, if_code, send_direct_code, send_buffered_code, call_code, transfer_code}
 use Rattle.rules.specs.Codes.{send_tree_code, divide_code, pack_code, unpack_code, decimal_add_code}
 use Rattle.rules.specs.Bytes.{has, every}
-use Rattle.rules.specs.Image.{opcode, operator, operands}
-use Rattle.rules.specs.Statements.{Form, forms, operation_in, operation_at, Other, others, other_in, other_at, assignment_of, statement_of}
+use Rattle.rules.specs.Image.{opcode}
+use Rattle.rules.specs.Statements.{Form, forms, operation_in, Other, others, other_in, statement_of}
 use Rattle.rules.specs.Statements.{role_a, role_b}
-use Rattle.rules.specs.Check.{usage_ok, other_ok, shape_ok, head_ok}
 use Rattle.rules.specs.Link.{used}
 use Rattle.rules.specs.declared.statement.Operation.{Operation}
 use Rattle.rules.specs.declared.statement.Statement.{Statement}
-use Rattle.rules.specs.declared.statement.Statement.TheVariants.{Skip, Assign}
+use Rattle.rules.specs.declared.statement.Statement.TheVariants.{Skip}
 use Rattle.lemmas_rules.specs.Logic.{and_both, never}
-use Rattle.lemmas_rules.specs.Heads.{head-fields}
 
 abbrev pub using_a : ℕ
 using_a =
@@ -48,15 +46,15 @@ other-agrees r x = agrees x.opcode (x.statement r)
 abbrev form-agrees : Form → Bool
 form-agrees f = agrees f.opcode Skip
 
-others-agree : (r : List ℕ) → every (other-agrees r) others ≡ true
+pub others-agree : (r : List ℕ) → every (other-agrees r) others ≡ true
 unfolding every
 others-agree r = refl
 
-forms-agree : every form-agrees forms ≡ true
+pub forms-agree : every form-agrees forms ≡ true
 unfolding every
 forms-agree = refl
 
-other-found : (xs : List Other) (r : List ℕ) (op : ℕ) (s : Statement) → every (other-agrees r) xs ≡ true → other_in xs op r ≡ some s
+pub other-found : (xs : List Other) (r : List ℕ) (op : ℕ) (s : Statement) → every (other-agrees r) xs ≡ true → other_in xs op r ≡ some s
     → agrees op s ≡ true
 unfolding every
 other-found [] r op s h e = never (cc)
@@ -71,7 +69,7 @@ other-found (x ∷ xs) r op s h e =
         rw (o, ← t) (and_both (other-agrees r x) (every (other-agrees r) xs) h).0
     case false p q more = more q
 
-form-found : (fs : List Form) (op o : ℕ) (k : Operation) → every form-agrees fs ≡ true → operation_in fs op o ≡ some k
+pub form-found : (fs : List Form) (op o : ℕ) (k : Operation) → every form-agrees fs ≡ true → operation_in fs op o ≡ some k
     → agrees op Skip ≡ true
 unfolding every
 form-found [] op o k h e = never (cc)
@@ -92,7 +90,7 @@ pub record Using (r : List ℕ) : Type 0 where
   pub b : has (opcode r) using_b ≡ used (role_b (statement_of r))
   pub small : opcode r < 16
 
-using-by : (r : List ℕ) (s : Statement) → agrees (opcode r) s ≡ true → statement_of r ≡ s → Using r
+pub using-by : (r : List ℕ) (s : Statement) → agrees (opcode r) s ≡ true → statement_of r ≡ s → Using r
 using-by r s h e =
     let both = same (used (role_a s)) (has (opcode r) using_a) && same (used (role_b s)) (has (opcode r) using_b) in
     let k = and_both both (ltb (opcode r) 16) h in
@@ -102,18 +100,3 @@ using-by r s h e =
       b = rw e (sym (same-is (used (role_b s)) _ l.1));
       small = ltb-true (opcode r) 16 k.1;
     }
-
-other-using : (r : List ℕ) (x : Option Statement) → other_at r ≡ x → operation_at (opcode r) (operator r) ≡ none
-    → usage_ok x (operator r) (operands r) ≡ true → Using r
-unfolding other_at statement_of
-other-using r none e n h = absurd (false≢true h)
-other-using r (some s) e n h = using-by r s (other-found others r (opcode r) s (others-agree r) e) (rw (n, e) refl)
-
-using-of : (r : List ℕ) (x : Option Operation) → operation_at (opcode r) (operator r) ≡ x → shape_ok x r ≡ true → Using r
-unfolding operation_at other_ok statement_of
-using-of r none e h = other-using r (other_at r) refl e h
-using-of r (some k) e h =
-    using-by r (Assign (assignment_of k r)) (form-found forms (opcode r) (operator r) k forms-agree e) (rw e refl)
-
-pub uses-of : (r : List ℕ) → head_ok r ≡ true → Using r
-uses-of r h = using-of r (operation_at (opcode r) (operator r)) refl (head-fields r h).shaped

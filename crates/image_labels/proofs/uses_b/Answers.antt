@@ -1,6 +1,5 @@
 use mathlib.Core.Path.{◌∙◌}
-use borrow.Author.Rules.{rules}
-use Rattle.image_labels.specs.Uses.{uses-of}
+use Rattle.image_labels.proofs.Uses.{uses-of}
 use Rattle.image_labels.proofs.uses_b.Goals as goal
 
 pub is_in-requires : goal.is_in-requires

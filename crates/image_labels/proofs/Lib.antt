@@ -1,0 +1,2 @@
+-- The theorem that rests on the sets of specs/Uses.
+pub mod Uses
