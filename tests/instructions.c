@@ -46,7 +46,7 @@ static const struct {
     /* What an opcode allows is looked up, the operand count is looked at once, and the places for operands are tested
      * 16 bytes at a time, with one comparison of each with their end. */
     {"check, 512 records", 106, 0},
-    {"check, 512 EXIT", 53, 0},
+    {"check, 512 EXIT", 58, 0},
     /* Nothing is laid out before the first record. */
     {"check, 1 record", 207, 0},
     /* The zeros of an idle machine's state are tested 16 bytes at a time. */

@@ -40,8 +40,12 @@ if [ "${1-}" = proved ]; then
         set -- "$@" --extern "$crate=../$crate/out/rlib/$crate.rlib"
     done
     mkdir -p crates/plex_c/out
-    (cd crates/plex_c && rattle build "$@") >"$log" 2>&1 && cp crates/plex_c/out/libplex_c.a "$library" &&
+    if (cd crates/plex_c && rattle build "$@") >"$log" 2>&1; then
+        cp crates/plex_c/out/libplex_c.a "$library"
         echo 'libplex.a: built over the crates that rt ci has proved'
+    else
+        echo "libplex.a: not built over the crates that rt ci has proved ($log says why); it is made by rt lib"
+    fi
     exit 0
 fi
 

@@ -1,3 +1,3 @@
--- What an accepted walk returns and writes: `walk_call` of WalkCall.
+-- What an accepted walk returns and writes: `WalkCall`; proofs/WalkCall has the proof.
 pub mod Places
 pub mod WalkCall

@@ -1,0 +1,2 @@
+-- What an accepted walk returns and writes: `walk_call` of WalkCall.
+pub mod WalkCall
