@@ -11,7 +11,7 @@ from gdb.unwinder import Unwinder, register_unwinder
 
 FUNCTIONS = {
     "check_image::record_fault",
-    "check_image::table_fault",
+    "check_image::row_fault",
     "check_signals::signals_good",
     "check_state::faults::machine_fault",
     "plex_check",
@@ -21,6 +21,7 @@ FUNCTIONS = {
     "plex_version",
     "plex_walk",
     "state_shared::locks::other_holder",
+    "step_dispatch::end_by_trap",
 }
 
 # the registers that a call leaves as they were

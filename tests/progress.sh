@@ -14,7 +14,7 @@ one_by_one: rules_2
 waits: rules_2 fields
 plex: rules_2 waits
 plex_c staticlib: rules_2 plex
-trials: plex io
+trials: plex
 END
 cat >"$folder/rt" <<'END'
 #!/bin/sh

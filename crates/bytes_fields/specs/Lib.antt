@@ -5,6 +5,7 @@ pub mod Numbers
 pub mod Blocks
 pub mod Filled
 pub mod Tests
+pub mod Found
 pub mod Runs
 pub mod Bits
 pub mod Marked

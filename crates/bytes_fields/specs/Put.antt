@@ -47,6 +47,14 @@ put-at p m q a i e h =
 pub put_whole : (m a : List ℕ) → length m ≡ length a → put m 0 a ≡ a
 put_whole m a e = simp append-nil at (put-at [] m [] a 0 refl e)
 
+-- the n bytes from place i on, replaced whole
+pub put_pasted : (s : List ℕ) (i n : ℕ) (a : List ℕ) → length a ≡ n → i + n ≤ length s → take i s ++ a ++ drop (i + n) s ≡ put s i a
+unfolding put
+put_pasted s i n a e h = sym (sets-eq a s i (omega arith) ∙ rw e)
+
+pub put_over : (s : List ℕ) (i n : ℕ) (a : List ℕ) → length a ≡ n → i + n ≤ length s → take i s ++ (a ++ drop n (drop i s)) ≡ put s i a
+put_over s i n a e h = rw (drop-drop, ← append_assoc) (put_pasted s i n a e h)
+
 -- a store within the middle part
 pub put-inside : (p m q : List ℕ) (at j : ℕ) (a : List ℕ) → at ≡ length p + j → j + length a ≤ length m
     → put (p ++ m ++ q) at a ≡ p ++ put m j a ++ q

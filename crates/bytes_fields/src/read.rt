@@ -7,28 +7,29 @@ ghost use Rattle.bytes_fields.specs.Numbers.{num64};
 pub fn wide(b: u8) -> usize
     ensures { (result ≡ b) × (result < 256) }
 {
-    b as usize
+    usize::from(b)
 }
 
 // Two bytes make a 16-bit number, two of those a 32-bit one, and two of those a 64-bit one.
 pub fn join16(low: u8, high: u8) -> u16
     ensures { result ≡ low + 256 * high }
 {
-    low as u16 + 256 * (high as u16)
+    u16::from_le_bytes([low, high])
 }
 
 pub fn join32(low: u16, high: u16) -> u32
     ensures { result ≡ low + 65536 * high }
 {
-    low as u32 + 65536 * (high as u32)
+    u32::from(low) + 65536 * u32::from(high)
 }
 
 pub fn join64(low: u32, high: u32) -> u64
     ensures { result ≡ low + 4294967296 * high }
 {
-    low as u64 + 4294967296 * (high as u64)
+    u64::from(low) + 4294967296 * u64::from(high)
 }
 
+// Kept: a function for each width, since the law has a definition for each: num16, num32 (and num64, here).
 pub fn get8(s: &[u8], at: usize) -> usize
     requires { at < length s.now }
     ensures { (result ≡ get_or s.now at 0) × (result < 256) }
@@ -62,10 +63,8 @@ pub fn get16s(s: &[u8], at: usize, out: &mut [u16])
     requires { at + 2 * length out.old ≤ length s.now }
     ensures { out.new ≡ chunks num16 2 (length out.old) (drop at s.now) }
 {
-    let mut k = 0;
-    while k < out.len() {
+    for k in 0..out.len() {
         out[k] = get16(s, at + 2 * k);
-        k += 1;
     }
 }
 
@@ -75,10 +74,8 @@ fn few_zero(s: &[u8], at: usize, n: usize) -> bool
     ensures { result ≡ is_zeros (part s.now at n) }
 {
     let mut set = 0;
-    let mut k = 0;
-    while k < n {
-        set = set | s[at + k];
-        k += 1;
+    for b in &s[at..at + n] {
+        set |= *b;
     }
     set == 0
 }
@@ -93,10 +90,9 @@ pub fn all_zero(s: &[u8], at: usize, n: usize) -> bool
     }
     let half = n / 16 * 8;
     let mut set = get64(s, at + n - 16) | get64(s, at + n - 8);
-    let mut k = 0;
-    while k < half {
-        set = set | get64(s, at + k) | get64(s, at + half + k);
-        k += 8;
+    for k in 0..n / 16 {
+        set |= get64(s, at + 8 * k);
+        set |= get64(s, at + half + 8 * k);
     }
     set == 0
 }

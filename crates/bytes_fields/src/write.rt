@@ -3,6 +3,7 @@ ghost use Rattle.std.specs.Prelude.{◌≡◌, [], ◌∷◌, ◌++◌, ◌+◌,
 ghost use Rattle.rules.specs.Bytes.{part, le16, le32, blocks};
 ghost use Rattle.bytes_fields.specs.Put.{put};
 
+// Kept: a function for each width, since the law has a definition for each: le16, le32.
 pub fn put8(s: &mut [u8], at: usize, v: u8)
     requires { at < length s.old }
     ensures { s.new ≡ put s.old at (v ∷ []) }
@@ -14,8 +15,7 @@ pub fn put16(s: &mut [u8], at: usize, v: u16)
     requires { at + 1 < length s.old }
     ensures { s.new ≡ put s.old at (le16 v) }
 {
-    s[at] = (v % 256) as u8;
-    s[at + 1] = (v / 256) as u8;
+    s[at..at + 2].copy_from_slice(&v.to_le_bytes());
 }
 
 pub fn put32(s: &mut [u8], at: usize, v: u32)
@@ -30,10 +30,8 @@ pub fn put16s(s: &mut [u8], at: usize, vs: &[u16])
     requires { at + 2 * length vs.now ≤ length s.old }
     ensures { s.new ≡ put s.old at (blocks le16 vs.now) }
 {
-    let mut k = 0;
-    while k < vs.len() {
+    for k in 0..vs.len() {
         put16(s, at + 2 * k, vs[k]);
-        k += 1;
     }
 }
 
@@ -42,11 +40,7 @@ pub fn clear(s: &mut [u8], at: usize, n: usize)
     requires { at + n ≤ length s.old }
     ensures { s.new ≡ put s.old at (replicate n 0) }
 {
-    let mut k = 0;
-    while k < n {
-        s[at + k] = 0;
-        k += 1;
-    }
+    s[at..at + n].fill(0);
 }
 
 // The n bytes of `from` at the place `start` go to the place `at` of s.
@@ -54,10 +48,9 @@ pub fn copy(s: &mut [u8], at: usize, from: &[u8], start: usize, n: usize)
     requires { (at + n ≤ length s.old) × (start + n ≤ length from.now) }
     ensures { s.new ≡ put s.old at (part from.now start n) }
 {
-    let mut k = 0;
-    while k < n {
+    // Kept: with `copy_from_slice` the compiled code tests, each time, whether the two runs overlap.
+    for k in 0..n {
         s[at + k] = from[start + k];
-        k += 1;
     }
 }
 
@@ -66,10 +59,6 @@ pub fn remove(s: &mut [u8], at: usize, n: usize, more: usize)
     requires { at + n + more ≤ length s.old }
     ensures { s.new ≡ put s.old at (part s.old (at + n) more ++ replicate n 0) }
 {
-    let mut k = 0;
-    while k < more {
-        s[at + k] = s[at + n + k];
-        k += 1;
-    }
+    s.copy_within(at + n..at + n + more, at);
     clear(s, at + more, n);
 }

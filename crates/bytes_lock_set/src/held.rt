@@ -5,13 +5,14 @@ ghost use Rattle.rules.specs.Bytes.{has};
 ghost use Rattle.rules.specs.Machine.{locks_held, lowest_held};
 ghost use Rattle.bytes_lock_set.specs.Lowest.{lowest_by};
 
-use rules::sorts::{Lock, lock_number, lock_of};
+use crate::sets::BitSet;
+use rules::sorts::Lock;
 
 pub fn holds(set: u16, lock: Lock) -> bool
     requires { lock.0 < lock_count }
     ensures { result ≡ has lock.0 set }
 {
-    (set >> lock_number(lock)) % 2 == 1
+    set.has(usize::from(u8::from(lock)))
 }
 
 pub fn number_held(set: u16) -> u32
@@ -20,19 +21,13 @@ pub fn number_held(set: u16) -> u32
     u16::count_ones(set)
 }
 
-#[derive(Clone, Copy)]
-pub enum LowestLock {
-    Held(Lock),
-    None,
-}
-
-pub fn lowest_held(set: u16) -> LowestLock
+pub fn lowest_held(set: u16) -> Option<Lock>
     ensures { result ≡ lowest_by (lowest_held set) }
 {
     let zeros = u16::trailing_zeros(set);
     if zeros < Lock::COUNT as u32 {
-        LowestLock::Held(lock_of(zeros as u8))
+        Some(Lock::from(zeros as u8))
     } else {
-        LowestLock::None
+        None
     }
 }

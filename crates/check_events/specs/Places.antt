@@ -1,6 +1,7 @@
 -- An event where it stands in the lent bytes.
 use Rattle.std.specs.Prelude.{◌≡◌, refl, Bool, true, false, cond, ◌&&◌, ◌||◌, List, ℕ, ◌+◌, ◌*◌, ◌-◌, ◌/◌, ◌%◌, ◌≤◌, leb, ltb, drop}
-use Rattle.std.proofs.Common.{◌∙◌, eqb-true}
+use Rattle.std.specs.Prelude.{Result, Ok, Err}
+use Rattle.std.proofs.Common.{◌∙◌, sym}
 use Rattle.std.proofs.Math.Bool.{and_assoc, and-false}
 use Rattle.std.proofs.Math.Nat.{add-zero}
 use native.Mathlib.Omega.{arith}
@@ -11,6 +12,10 @@ use Rattle.rules.specs.Sizes.{thread_count, register_count, signal_size, event_t
 use Rattle.rules.specs.Codes.{external_code, arrival_code, step_code, cut_code}
 use Rattle.rules.specs.Bytes.{num16, part, is_zeros}
 use Rattle.rules.specs.Image.{labels, record_at, entry}
+use Rattle.rules.specs.Kinds.{event_kind}
+use Rattle.rules.specs.declared.kinds.EventKind.{EventKind}
+use Rattle.rules.specs.declared.kinds.EventKind.TheVariants.{Arrival, Step, Cut}
+use Rattle.rules.specs.declared.kinds.UnknownKind.{UnknownKind}
 use Rattle.rules.specs.Events.{stepping, cutting, kind_code, kind_of, arrival_ok, turn_ok, event_ok, event_at_ok}
 use Rattle.rules.specs.WellFormed.{signal_tidy}
 use Rattle.bytes_fields.specs.Put.{part-drop}
@@ -58,28 +63,34 @@ turn-kinds c = case (eqb c step_code) refl
     case true e = e
     case false e = refl
 
--- a turn is no arrival: its kind can be asked for first
-by_kind : (k : ℕ) (t a : Bool) → cond (eqb k arrival_code) a ((eqb k step_code || eqb k cut_code) && t)
-    ≡ cond (eqb k step_code || eqb k cut_code) t (eqb k arrival_code && a)
-by_kind k t a = case (eqb k arrival_code) refl
-  where
-    other : (d : Bool) → (d && t) ≡ cond d t false
-    other true = refl
-    other false = refl
+-- an event by its kind: an arrival's test, a turn's, or none
+abbrev pub of_kind : Result EventKind UnknownKind → Bool → Bool → Bool
+of_kind (Ok Arrival) a t = a
+of_kind (Ok Step) a t = t
+of_kind (Ok Cut) a t = t
+of_kind (Err e) a t = false
 
-    case : (d : Bool) → eqb k arrival_code ≡ d → cond d a ((eqb k step_code || eqb k cut_code) && t)
-        ≡ cond (eqb k step_code || eqb k cut_code) t (d && a)
-    case true e = let f : k ≡ arrival_code = eqb-true k arrival_code e in rw f refl
-    case false e = other (eqb k step_code || eqb k cut_code)
+by_kind : (k : ℕ) (a t : Bool) → cond (eqb k arrival_code) a ((eqb k step_code || eqb k cut_code) && t) ≡ of_kind (event_kind k) a t
+by_kind k a t = case (eqb k arrival_code) (eqb k step_code) (eqb k cut_code)
+  where
+    case : (x y z : Bool) → cond x a ((y || z) && t)
+        ≡ of_kind (cond x (Ok Arrival) (cond y (Ok Step) (cond z (Ok Cut) (Err (record { 0 = k }))))) a t
+    case true y z = refl
+    case false true z = refl
+    case false false true = refl
+    case false false false = refl
 
 module _ (image s : List ℕ) (at : ℕ) where
-  -- an event by its kind: a turn's, an arrival's, or none
-  pub event-at : event_ok image (drop at s) ≡ cond (eqb (get_or s at 0) step_code || eqb (get_or s at 0) cut_code) (turn_ok (drop at s))
-      (eqb (get_or s at 0) arrival_code && arrival_ok image (drop at s))
+  pub event-at : event_ok image (drop at s) ≡ of_kind (event_kind (get_or s at 0)) (arrival_ok image (drop at s)) (turn_ok (drop at s))
   unfolding event_ok
   event-at =
       rw (get_or-drop at s 0 0, add-zero, turn-kinds (get_or s at 0))
-      (by_kind (get_or s at 0) (turn_ok (drop at s)) (arrival_ok image (drop at s)))
+      (by_kind (get_or s at 0) (arrival_ok image (drop at s)) (turn_ok (drop at s)))
+
+  -- the same where the kind is known
+  pub event-of : (r : Result EventKind UnknownKind) → r ≡ event_kind (get_or s at 0)
+      → of_kind r (arrival_ok image (drop at s)) (turn_ok (drop at s)) ≡ event_ok image (drop at s)
+  event-of r e = rw e (sym event-at)
 
   -- at a place that is a whole number of events from the first
   pub event-here : at % event_size ≡ 0 → event_ok image (drop at s) ≡ event_at_ok image s (at / event_size)

@@ -3,26 +3,26 @@ ghost use Rattle.std.specs.Prelude.{◌≡◌, ◌+◌, ◌*◌, ◌≤◌, leng
 ghost use Rattle.rules.specs.Sizes.{event_size};
 ghost use Rattle.rules.specs.Bytes.{first_bad};
 ghost use Rattle.rules.specs.Events.{arrival_ok, turn_ok, event_ok, event_at_ok};
+ghost use Rattle.check_events.specs.Faults.{index_before};
 
 use bytes_fields::read::{all_zero, get8, get16};
 use check_signals::signal_tidy;
 use image_record::record_fields::entry_field;
-use image_record::records::record_at;
-use rules::codes::{ARRIVAL, CUT, EXTERNAL, STEP};
+use image_record::records::find_record;
+use rules::kinds::{Entry, EventKind};
 use rules::layout::{EVENT_SIGNAL_PLACE, EVENT_SIZE, EVENT_THREAD_PLACE, SIGNAL_SIZE};
-use rules::sorts::{Thread, label_of};
+use rules::sorts::{Label, Thread};
 
 // An arrival has thread zero, a label of entry 3, a count 0 to 25 and zeros in what is unused.
 pub fn arrival_ok(image: &[u8], s: &[u8], at: usize) -> bool
     requires { at + event_size ≤ length s.now }
     ensures { result ≡ arrival_ok image.now (drop at s.now) }
 {
-    let r = record_at(image, label_of(get16(s, at + EVENT_SIGNAL_PLACE)));
-    if r.len() == 0 {
+    let Some(r) = find_record(image, Label::from(get16(s, at + EVENT_SIGNAL_PLACE))) else {
         return false;
-    }
+    };
     (s[at + EVENT_THREAD_PLACE] == 0)
-        & (entry_field(r) == EXTERNAL)
+        & (entry_field(r) == Entry::External as u8)
         & signal_tidy(s, at + EVENT_SIGNAL_PLACE)
 }
 
@@ -40,25 +40,24 @@ pub fn event_ok(image: &[u8], events: &[u8], at: usize) -> bool
     requires { at + event_size ≤ length events.now }
     ensures { result ≡ event_ok image.now (drop at events.now) }
 {
-    let kind = events[at];
-    if (kind == STEP) | (kind == CUT) {
-        return turn_ok(events, at);
+    let Ok(kind) = EventKind::try_from(events[at]) else {
+        return false;
+    };
+    if kind == EventKind::Arrival {
+        return arrival_ok(image, events, at);
     }
-    (kind == ARRIVAL) & arrival_ok(image, events, at)
+    turn_ok(events, at)
 }
 
-// The first of m events that breaks a rule, or m. The loop goes by their places.
-pub fn first_bad_event(image: &[u8], events: &[u8], m: usize) -> usize
+// The first of m events that breaks a rule. The loop goes by their places.
+pub fn first_bad_event(image: &[u8], events: &[u8], m: usize) -> Option<usize>
     requires { event_size * m ≤ length events.now }
-    ensures { result ≡ first_bad (event_at_ok image.now events.now) 0 m }
+    ensures { result ≡ index_before m (first_bad (event_at_ok image.now events.now) 0 m) }
 {
-    let end = EVENT_SIZE * m;
-    let mut at = 0;
-    while at < end {
+    for at in (0..EVENT_SIZE * m).step_by(EVENT_SIZE) {
         if !event_ok(image, events, at) {
-            return at / EVENT_SIZE;
+            return Some(at / EVENT_SIZE);
         }
-        at += EVENT_SIZE;
     }
-    m
+    None
 }

@@ -1,71 +1,71 @@
 // The image check: the refusals 1 to 4, lowest number first.
-#![tactic(auto)]
+#![tactic(auto, using(check_refusal::specs::Refusals::refusing))]
 
 ghost use Rattle.std.specs.Prelude.{◌≡◌, [], length};
 ghost use Rattle.rules.specs.Sizes.{table_size};
-ghost use Rattle.rules.specs.Image.{labels};
 ghost use Rattle.rules.specs.Check.{image_length_fault, table_length_fault, table_fault, record_fault, first_refusal, image_faults};
+ghost use Rattle.check_refusal.specs.Refusals.{number_of};
 
-use check_records::first_bad_record;
-use check_refusal::{first_of, refuse};
-use image_record::records::count_labels;
+use check_records::Records;
+use check_refusal::{Refusal, ensure};
 use image_table::{first_bad_row, rows_ok};
-use rules::codes::{BAD_IMAGE_LENGTH, BAD_RECORD, BAD_TABLE_FIELD, BAD_TABLE_LENGTH};
 use rules::layout::TABLE_SIZE;
-use rules::sorts::Block;
 
-pub fn image_length_fault(image: &[u8], n: usize) -> u32
-    requires { n ≡ labels image.now }
-    ensures { result ≡ image_length_fault image.now }
+#[tactic(auto, unfolding(rules::specs::Check::image_length_fault))]
+pub fn image_length_fault(records: &Records) -> Result<(), Refusal>
+    ensures { number_of result ≡ image_length_fault records.now.image.now }
 {
-    refuse(0 < n, BAD_IMAGE_LENGTH, 0)
+    ensure(0 < records.count, Refusal::ImageLength)
 }
 
-pub fn table_length_fault(table: &[u8]) -> u32
-    ensures { result ≡ table_length_fault table.now }
+#[tactic(auto, unfolding(rules::specs::Check::table_length_fault))]
+pub fn table_length_fault(table: &[u8]) -> Result<(), Refusal>
+    ensures { number_of result ≡ table_length_fault table.now }
 {
-    refuse(table.len() == TABLE_SIZE, BAD_TABLE_LENGTH, 0)
+    ensure(table.len() == TABLE_SIZE, Refusal::TableLength)
 }
 
-// Number 3, at the first row that is out of range.
-pub fn row_fault(table: &[u8]) -> u32
+// Number 3, at the first row that is out of range. It is compiled once: few calls come here, and a good table costs no call.
+#[inline(never)]
+pub fn row_fault(table: &[u8]) -> Result<(), Refusal>
     requires { length table.now ≡ table_size }
-    ensures { result ≡ table_fault table.now }
+    ensures { number_of result ≡ table_fault table.now }
 {
-    let b = first_bad_row(table);
-    refuse(b == Block::COUNT, BAD_TABLE_FIELD, b)
+    match first_bad_row(table) {
+        Some(b) => Err(Refusal::TableField(b)),
+        None => Ok(()),
+    }
 }
 
 // The same. The first row is looked for only where there is one.
-pub fn table_fault(table: &[u8]) -> u32
+pub fn table_fault(table: &[u8]) -> Result<(), Refusal>
     requires { length table.now ≡ table_size }
-    ensures { result ≡ table_fault table.now }
+    ensures { number_of result ≡ table_fault table.now }
 {
-    if rows_ok(table) { 0 } else { row_fault(table) }
+    if rows_ok(table) {
+        Ok(())
+    } else {
+        row_fault(table)
+    }
 }
 
-pub fn record_fault(image: &[u8], n: usize) -> u32
-    requires { n ≡ labels image.now }
-    ensures { result ≡ record_fault image.now }
+pub fn record_fault(records: &Records) -> Result<(), Refusal>
+    ensures { number_of result ≡ record_fault records.now.image.now }
 {
-    let l = first_bad_record(image, n);
-    refuse(l == n, BAD_RECORD, l)
+    match records.first_bad() {
+        Some(l) => Err(Refusal::Record(l)),
+        None => Ok(()),
+    }
 }
 
-// The first of the refusals 1 to 4, or 0.
-pub fn image_fault(image: &[u8], table: &[u8]) -> u32
-    ensures { result ≡ first_refusal (image_faults image.now table.now []) }
+// The first of the refusals 1 to 4. It is compiled into its callers, since a result is handed over in memory.
+#[inline(always)]
+pub fn image_fault(image: &[u8], table: &[u8]) -> Result<(), Refusal>
+    ensures { number_of result ≡ first_refusal (image_faults image.now table.now []) }
 {
-    let n = count_labels(image);
-    let a = image_length_fault(image, n);
-    if a != 0 {
-        return a;
-    }
-    let b = table_length_fault(table);
-    if b != 0 {
-        return b;
-    }
-    let rows = table_fault(table);
-    let records = record_fault(image, n);
-    first_of(rows, records)
+    let records = Records::of(image);
+    image_length_fault(&records)?;
+    table_length_fault(table)?;
+    table_fault(table)?;
+    record_fault(&records)
 }

@@ -1,10 +1,12 @@
--- The refusals of two images as the code goes through them: number 4 of both; and 2 to 4.
-use Rattle.std.specs.Prelude.{List, [], ◌∷◌, ℕ}
-use Rattle.rules.specs.Check.{table_length_fault, table_fault, record_fault}
+-- The refusals of two images as the code goes through them.
+use Rattle.std.specs.Prelude.{◌≡◌, List, [], ◌∷◌, ℕ}
+use Rattle.rules.specs.Check.{first_refusal, images_faults}
+use Rattle.check_refusal.specs.FirstOf.{joined}
+use Rattle.check_refusal.specs.Refusals.{refusing}
 
-abbrev pub record_faults : List ℕ → List ℕ → List ℕ
-record_faults first second = record_fault first ∷ record_fault second ∷ []
+-- 1 to 4 of both images and the table, and then others
+pub images_first : (first second table more : List ℕ)
+    → first_refusal (images_faults first second table more) ≡ first_refusal (first_refusal (images_faults first second table []) ∷ more)
+images_first first second table more = joined (images_faults first second table []) more
 
--- 2 to 4
-abbrev pub rest : List ℕ → List ℕ → List ℕ → List ℕ
-rest first second table = table_length_fault table ∷ table_fault table ∷ record_faults first second
+pub ruleset link_refusing = (refusing, images_first)

@@ -1,10 +1,9 @@
 // The places for operands of a record, sixteen bytes at a time: a run is the byte before five places and their bytes. Each byte of a run is
 // tested by itself, in the same way, so that the compiler tests all of them at once.
-ghost use Rattle.std.specs.Prelude.{◌≡◌, ◌+◌, ◌*◌, ◌<◌, ◌≤◌, ◌&&◌, length, ◌==◌, nat_le};
-ghost use Rattle.rules.specs.Sizes.{operand_count, record_size};
+ghost use Rattle.std.specs.Prelude.{◌≡◌, ◌+◌, ◌*◌, ◌<◌, ◌≤◌, ◌&&◌, ◌==◌, nat_le};
+ghost use Rattle.rules.specs.Sizes.{operand_count};
 ghost use Rattle.rules.specs.Bytes.{all_from};
 ghost use Rattle.rules.specs.Image.{operands};
-ghost use Rattle.check_operands.specs.Operands.{numbers_of, low_of, high_of, least_of, limit_of};
 ghost use Rattle.check_operands.specs.Operands.{run_step, run_size, most_of, less_of, bound_of};
 ghost use Rattle.check_operands.specs.Operands.{byte_ok, run_ok, slots_ok};
 
@@ -83,53 +82,31 @@ fn wrong_byte(x: u8, least: u8, bound: u8, used: bool) -> u8
 
 // What is wrong with the run at a byte, of a record whose places are used up to another. A kind stands one byte before the low byte of its
 // value, and two before the high one.
-fn wrong_run(
-    r: &[u8],
-    numbers: &[u8; RUN_SIZE],
-    low: &[u8; RUN_SIZE],
-    high: &[u8; RUN_SIZE],
-    least: &[u8; RUN_SIZE],
-    limit: &[u8; RUN_SIZE],
-    at: u8,
-    end: u8,
-) -> u8
-    requires { (length r.now ≡ record_size) × (at ≤ 4 * run_step) × (numbers.now ≡ numbers_of) × (low.now ≡ low_of) × (high.now ≡ high_of)
-        × (least.now ≡ least_of) × (limit.now ≡ limit_of) }
+fn wrong_run(r: &[u8; RECORD_SIZE], at: u8, end: u8) -> u8
+    requires { at ≤ 4 * run_step }
     ensures { (result == 0) ≡ all_from (run_ok r.now at end) 0 run_size }
 {
     let from = OPERAND_COUNT_PLACE + wide(at);
     let mut wrong: u8 = 0;
-    let mut i = 0;
-    while i < RUN_SIZE {
-        let kind = (r[from + i - 1] & low[i]) | (r[from + i - 2] & high[i]);
-        let bound = bound_of(kind, limit[i], FEWER & low[i]);
-        wrong = wrong | wrong_byte(r[from + i], least[i], bound, numbers[i] + at < end);
-        i += 1;
+    for i in 0..RUN_SIZE {
+        let kind = (r[from + i - 1] & LOW[i]) | (r[from + i - 2] & HIGH[i]);
+        let bound = bound_of(kind, LIMIT[i], FEWER & LOW[i]);
+        wrong |= wrong_byte(r[from + i], LEAST[i], bound, NUMBERS[i] + at < end);
     }
     wrong
 }
 
 // The same of the four runs behind the first.
-fn wrong_rest(
-    r: &[u8],
-    numbers: &[u8; RUN_SIZE],
-    low: &[u8; RUN_SIZE],
-    high: &[u8; RUN_SIZE],
-    least: &[u8; RUN_SIZE],
-    limit: &[u8; RUN_SIZE],
-    end: u8,
-) -> u8
-    requires { (length r.now ≡ record_size) × (numbers.now ≡ numbers_of) × (low.now ≡ low_of) × (high.now ≡ high_of)
-        × (least.now ≡ least_of) × (limit.now ≡ limit_of) }
+fn wrong_rest(r: &[u8; RECORD_SIZE], end: u8) -> u8
     ensures { (result == 0) ≡ (all_from (run_ok r.now run_step end) 0 run_size
         && all_from (run_ok r.now (2 * run_step) end) 0 run_size
         && all_from (run_ok r.now (3 * run_step) end) 0 run_size
         && all_from (run_ok r.now (4 * run_step) end) 0 run_size) }
 {
-    wrong_run(r, numbers, low, high, least, limit, RUN_STEP, end)
-        | wrong_run(r, numbers, low, high, least, limit, 2 * RUN_STEP, end)
-        | wrong_run(r, numbers, low, high, least, limit, 3 * RUN_STEP, end)
-        | wrong_run(r, numbers, low, high, least, limit, 4 * RUN_STEP, end)
+    wrong_run(r, RUN_STEP, end)
+        | wrong_run(r, 2 * RUN_STEP, end)
+        | wrong_run(r, 3 * RUN_STEP, end)
+        | wrong_run(r, 4 * RUN_STEP, end)
 }
 
 // Where the places of so many operands end, counted from the byte before them. The remainder tells the compiler that this is below 128: it
@@ -142,41 +119,31 @@ fn end_of(c: u8) -> u8
 }
 
 // No operand: every place is zero.
-pub fn none_ok(r: &[u8]) -> bool
-    requires { (length r.now ≡ record_size) × (operands r.now ≡ 0) }
+pub fn none_ok(r: &[u8; RECORD_SIZE]) -> bool
+    requires { operands r.now ≡ 0 }
     ensures { result ≡ slots_ok r.now }
 {
     all_zero(r, OPERANDS_PLACE, PLACES_SIZE)
 }
 
 // Up to five operands: they are in the first run, and the places behind it are zero.
-pub fn few_ok(r: &[u8], c: u8) -> bool
-    requires { (length r.now ≡ record_size) × (c ≡ operands r.now) × (c ≤ 5) }
+pub fn few_ok(r: &[u8; RECORD_SIZE]) -> bool
+    requires { operands r.now ≤ 5 }
     ensures { result ≡ slots_ok r.now }
 {
-    let numbers = NUMBERS;
-    let low = LOW;
-    let high = HIGH;
-    let least = LEAST;
-    let limit = LIMIT;
-    let end = end_of(c);
-    if wrong_run(r, &numbers, &low, &high, &least, &limit, 0, end) != 0 {
+    let end = end_of(r[OPERAND_COUNT_PLACE]);
+    if wrong_run(r, 0, end) != 0 {
         return false;
     }
     all_zero(r, REST_PLACE, REST_SIZE)
 }
 
 // More operands: the first run is used to its end, which is known beforehand.
-pub fn many_ok(r: &[u8], c: u8) -> bool
-    requires { (length r.now ≡ record_size) × (c ≡ operands r.now) × (5 < c) × (c ≤ operand_count) }
+pub fn many_ok(r: &[u8; RECORD_SIZE]) -> bool
+    requires { (5 < operands r.now) × (operands r.now ≤ operand_count) }
     ensures { result ≡ slots_ok r.now }
 {
-    let numbers = NUMBERS;
-    let low = LOW;
-    let high = HIGH;
-    let least = LEAST;
-    let limit = LIMIT;
-    let end = end_of(c);
-    let first = wrong_run(r, &numbers, &low, &high, &least, &limit, 0, RUN_STEP + 1);
-    first | wrong_rest(r, &numbers, &low, &high, &least, &limit, end) == 0
+    let end = end_of(r[OPERAND_COUNT_PLACE]);
+    let first = wrong_run(r, 0, RUN_STEP + 1);
+    first | wrong_rest(r, end) == 0
 }

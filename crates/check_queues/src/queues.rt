@@ -1,6 +1,6 @@
 // The trees of the state, and the queues that they make, in one pass.
 ghost use Rattle.std.specs.Prelude.{◌≡◌, map, ◌+◌, ◌<◌, ◌≤◌, length, drop};
-ghost use Rattle.rules.specs.Sizes.{thread_count, tree_count, thread_size, tree_size, words_size, state_size};
+ghost use Rattle.rules.specs.Sizes.{thread_count, tree_count, thread_size, tree_size, words_size};
 ghost use Rattle.rules.specs.Sorts.{thread};
 ghost use Rattle.rules.specs.Bytes.{chunks};
 ghost use Rattle.rules.specs.Image.{row_at};
@@ -14,35 +14,32 @@ ghost use Rattle.check_queues.specs.Passing.{trees_good};
 use bytes_fields::read::{all_zero, get8, get16};
 use check_trees::tree_good;
 use image_record::record_fields::block_field;
-use image_record::records::record_at;
+use image_record::records::find_record;
 use image_table::thread_at;
 use rules::layout::{
-    PENDING_COUNT_PLACE, SIGNALS_PLACE, THREAD_SIZE, THREADS_PLACE, TREE_SIZE, TREES_PLACE,
+    PENDING_COUNT_PLACE, SIGNALS_PLACE, STATE_SIZE, THREAD_SIZE, THREADS_PLACE, TREE_SIZE,
+    TREES_PLACE,
 };
-use rules::sorts::{Label, Thread, label_of, thread_number, thread_of};
+use rules::sorts::{Label, Thread};
 
 // A flag for each thread: 1 where it runs, 0 where it is idle.
-pub fn flag_running(state: &[u8], flags: &mut [u8])
-    requires { (length state.now ≡ state_size) × (length flags.old ≡ thread_count) }
+pub fn flag_running(state: &[u8; STATE_SIZE], flags: &mut [u8; Thread::COUNT])
     ensures { flags.new ≡ map flag (chunks thread_from thread_size thread_count (drop words_size state.now)) }
 {
-    let mut t = 0;
-    while t < Thread::COUNT {
+    for t in 0..Thread::COUNT {
         flags[t] = (get16(state, THREADS_PLACE + THREAD_SIZE * t) != Label::IDLE) as u8;
-        t += 1;
     }
 }
 
 // The thread of a label's block; where there is no record, one that nobody has.
+// Kept: the law says this thread where there is no record, and a tree of thread 8 equals it: `None` would say something else.
 pub fn home(image: &[u8], table: &[u8], l: Label) -> Thread
     requires { Passed image.now table.now }
     ensures { result ≡ thread (row_at table.now (block_at image.now l.0)).thread }
 {
-    let r = record_at(image, l);
-    if r.len() == 0 {
-        thread_of(Thread::COUNT as u8)
-    } else {
-        thread_at(table, block_field(r))
+    match find_record(image, l) {
+        Some(r) => thread_at(table, block_field(r)),
+        None => Thread::from(Thread::COUNT as u8),
     }
 }
 
@@ -54,19 +51,18 @@ pub fn is_homed(image: &[u8], table: &[u8], s: &[u8], at: usize) -> bool
     if s[at + PENDING_COUNT_PLACE] == 0 {
         return false;
     }
-    s[at] == thread_number(home(image, table, label_of(get16(s, at + SIGNALS_PLACE))))
+    s[at] == u8::from(home(image, table, Label::from(get16(s, at + SIGNALS_PLACE))))
 }
 
 // Every tree is good. A running thread's first tree may stand where it stands; any other has to belong there. At the end no running
 // thread is without a tree.
-pub fn trees_good(image: &[u8], table: &[u8], state: &[u8], count: usize) -> bool
-    requires { Passed image.now table.now × (length state.now ≡ state_size) × (count ≤ tree_count) }
+pub fn trees_good(image: &[u8], table: &[u8], state: &[u8; STATE_SIZE], count: usize) -> bool
+    requires { Passed image.now table.now × (count ≤ tree_count) }
     ensures { result ≡ trees_good image.now table.now state.now count }
 {
     let mut unmet = [0u8; Thread::COUNT];
     flag_running(state, &mut unmet);
-    let mut i = 0;
-    while i < count {
+    for i in 0..count {
         let at = TREES_PLACE + TREE_SIZE * i;
         if !tree_good(image, state, at) {
             return false;
@@ -76,7 +72,6 @@ pub fn trees_good(image: &[u8], table: &[u8], state: &[u8], count: usize) -> boo
             return false;
         }
         unmet[t] = 0;
-        i += 1;
     }
     all_zero(&unmet, 0, Thread::COUNT)
 }

@@ -1,7 +1,7 @@
 // The tests of a record's head, of its labels, and of what it stores to.
-ghost use Rattle.std.specs.Prelude.{◌≡◌, ◌+◌, ◌*◌, ◌%◌, ◌<◌, length, drop};
+ghost use Rattle.std.specs.Prelude.{◌≡◌, ◌<◌, drop};
 ghost use Rattle.rules.specs.Bytes.{has};
-ghost use Rattle.rules.specs.Sizes.{record_size, block_place};
+ghost use Rattle.rules.specs.Sizes.{block_place};
 ghost use Rattle.rules.specs.Image.{labels, record_at, label_a, label_b};
 ghost use Rattle.bytes_fields.specs.Marked.{clear};
 ghost use Rattle.bytes_fields.specs.Numbers.{num64};
@@ -15,8 +15,7 @@ use rules::layout::{
 };
 
 // The sum of operand count and four times the operator is one of these.
-pub fn sum_ok(r: &[u8], sums: u32) -> bool
-    requires { length r.now ≡ record_size }
+pub fn sum_ok(r: &[u8; RECORD_SIZE], sums: u32) -> bool
     ensures { result ≡ has (summed r.now) sums }
 {
     let sum = wide(r[OPERAND_COUNT_PLACE]) + 4 * wide(r[OPERATOR_PLACE]);
@@ -24,8 +23,7 @@ pub fn sum_ok(r: &[u8], sums: u32) -> bool
 }
 
 // None of these bits is set in bytes 1 to 8.
-pub fn zeros_ok(r: &[u8], zeros: u64) -> bool
-    requires { length r.now ≡ record_size }
+pub fn zeros_ok(r: &[u8; RECORD_SIZE], zeros: u64) -> bool
     ensures { result ≡ clear (num64 (drop block_place r.now)) zeros }
 {
     get64(r, BLOCK_PLACE) & zeros == 0
@@ -47,8 +45,7 @@ const FIRST_VALUE_PLACE: usize = OPERANDS_PLACE + 1;
 const SECOND_VALUE_PLACE: usize = SECOND_PLACE + 1;
 
 // The second destination is no number, and not the first.
-pub fn second_ok(r: &[u8]) -> bool
-    requires { length r.now ≡ record_size }
+pub fn second_ok(r: &[u8; RECORD_SIZE]) -> bool
     ensures { result ≡ second_ok r.now }
 {
     let same = (r[OPERANDS_PLACE] == r[SECOND_PLACE])
@@ -57,8 +54,7 @@ pub fn second_ok(r: &[u8]) -> bool
 }
 
 // The first operand is of this kind or a greater one, and DIVIDE has two destinations.
-pub fn stores_ok(r: &[u8], least: u8, op: u8) -> bool
-    requires { length r.now ≡ record_size }
+pub fn stores_ok(r: &[u8; RECORD_SIZE], least: u8, op: u8) -> bool
     ensures { result ≡ stores_ok r.now least op }
 {
     let first = least <= r[OPERANDS_PLACE];
@@ -71,9 +67,9 @@ pub fn stores_ok(r: &[u8], least: u8, op: u8) -> bool
 
 // The tests of a row, of a record whose labels are a and b. A good record fails none, so the processor foresees each. The sum comes before
 // the eight bytes that are read as one number: else the compiler takes count and operator out of it, which is slower.
-pub fn row_ok(image: &[u8], r: &[u8], a: usize, b: usize, row: Row) -> bool
-    requires { (length r.now ≡ record_size) × (a ≡ label_a r.now) × (b ≡ label_b r.now)
-        × (a < labels image.now) × (b < labels image.now) }
+// Kept: a and b are handed on beside the record: read from it once more they take 6 instructions of 106 a record.
+pub fn row_ok(image: &[u8], r: &[u8; RECORD_SIZE], a: usize, b: usize, row: Row) -> bool
+    requires { (a ≡ label_a r.now) × (b ≡ label_b r.now) × (a < labels image.now) × (b < labels image.now) }
     ensures { result ≡ allows image.now r.now row }
 {
     if !sum_ok(r, row.sums) {

@@ -1,11 +1,12 @@
 // What each opcode allows, as bits: no test of a record branches by its opcode.
 ghost use Rattle.std.specs.Prelude.{◌≡◌};
-ghost use Rattle.check_record.specs.Rows.{row_by, row_of};
+ghost use Rattle.check_record.specs.Rows.{row_of};
 
 use rules::codes::{
-    ASSIGN, BUFFERED, CALL, DECIMAL_ADD, DIRECT, DIVIDE, EXIT, GOTO, IF, PACK, REGISTER_OPERAND,
-    RETURN, SEND_BUFFERED, SEND_DIRECT, SEND_TREE, SKIP, TRANSFER, UNPACK,
+    ASSIGN, CALL, DECIMAL_ADD, DIVIDE, EXIT, GOTO, IF, PACK, REGISTER_OPERAND, RETURN,
+    SEND_BUFFERED, SEND_DIRECT, SEND_TREE, SKIP, TRANSFER, UNPACK,
 };
+use rules::kinds::Entry;
 
 // The bits that are zero in bytes 1 to 8, byte 1 lowest; the sums of an operand count and four times an operator that are allowed, a bit
 // for each; of the records at the labels A and B the bits that are given, the block in the low byte and the entry in the high one; the
@@ -50,37 +51,104 @@ const BLOCK: u16 = 0x00ff;
 
 const ENTRY: u16 = 0xff00;
 
-fn row_by(zeros: u64, sums: u32, given: u16, entry: u8, inner: u16, least: u8) -> Row
-    ensures { result ≡ row_by zeros sums given entry inner least }
-{
-    Row {
-        zeros,
-        sums,
-        given,
-        entry,
-        inner,
-        least,
-    }
-}
+// No opcode: no count is allowed.
+const UNKNOWN: Row = Row {
+    zeros: PLAIN + NO_A + NO_B,
+    sums: 0,
+    given: 0,
+    entry: 0,
+    inner: 0,
+    least: 0,
+};
 
-// An opcode that there is not allows no count.
+// EXIT has no operand and no label, and SKIP and GOTO have label A.
+const EXITS: Row = Row {
+    sums: NONE,
+    ..UNKNOWN
+};
+
+const GOES: Row = Row {
+    zeros: PLAIN + NO_B,
+    given: BLOCK,
+    ..EXITS
+};
+
+// Signals, with any number of operands. A direct SEND has one at label A; CALL has a label B too.
+const RETURNS: Row = Row {
+    sums: ANY,
+    ..UNKNOWN
+};
+
+const SENDS_DIRECT: Row = Row {
+    zeros: PLAIN + NO_B,
+    given: ENTRY,
+    entry: Entry::Direct as u8,
+    ..RETURNS
+};
+
+const TRANSFERS: Row = Row {
+    given: BLOCK + ENTRY,
+    ..SENDS_DIRECT
+};
+
+const CALLS: Row = Row {
+    zeros: PLAIN,
+    inner: BLOCK,
+    ..SENDS_DIRECT
+};
+
+const SENDS_BUFFERED: Row = Row {
+    entry: Entry::Buffered as u8,
+    ..CALLS
+};
+
+// What stores, by operand count or operator, and IF, which only reads and has a label B.
+const PACKS: Row = Row {
+    sums: TWO,
+    least: REGISTER_OPERAND,
+    ..GOES
+};
+
+const ADDS: Row = Row {
+    sums: THREE,
+    ..PACKS
+};
+
+const DIVIDES: Row = Row {
+    sums: FOUR,
+    ..PACKS
+};
+
+const ASSIGNS: Row = Row {
+    zeros: CHOICE + NO_B,
+    sums: ASSIGNED,
+    ..PACKS
+};
+
+const BRANCHES: Row = Row {
+    zeros: CHOICE,
+    sums: COMPARED,
+    inner: BLOCK,
+    ..GOES
+};
+
 pub fn row_of(opcode: u8) -> Row
     ensures { result ≡ row_of opcode }
 {
     match opcode {
-        SKIP | GOTO => row_by(PLAIN + NO_B, NONE, BLOCK, 0, 0, 0),
-        ASSIGN => row_by(CHOICE + NO_B, ASSIGNED, BLOCK, 0, 0, REGISTER_OPERAND),
-        IF => row_by(CHOICE, COMPARED, BLOCK, 0, BLOCK, 0),
-        SEND_DIRECT => row_by(PLAIN + NO_B, ANY, ENTRY, DIRECT, 0, 0),
-        SEND_BUFFERED | SEND_TREE => row_by(PLAIN, ANY, ENTRY, BUFFERED, BLOCK, 0),
-        CALL => row_by(PLAIN, ANY, ENTRY, DIRECT, BLOCK, 0),
-        RETURN => row_by(PLAIN + NO_A + NO_B, ANY, 0, 0, 0, 0),
-        TRANSFER => row_by(PLAIN + NO_B, ANY, BLOCK + ENTRY, DIRECT, 0, 0),
-        EXIT => row_by(PLAIN + NO_A + NO_B, NONE, 0, 0, 0, 0),
-        DIVIDE => row_by(PLAIN + NO_B, FOUR, BLOCK, 0, 0, REGISTER_OPERAND),
-        PACK => row_by(PLAIN + NO_B, TWO, BLOCK, 0, 0, REGISTER_OPERAND),
-        UNPACK => row_by(PLAIN + NO_B, TWO, BLOCK, 0, 0, REGISTER_OPERAND),
-        DECIMAL_ADD => row_by(PLAIN + NO_B, THREE, BLOCK, 0, 0, REGISTER_OPERAND),
-        _ => row_by(PLAIN + NO_A + NO_B, 0, 0, 0, 0, 0),
+        SKIP | GOTO => GOES,
+        ASSIGN => ASSIGNS,
+        IF => BRANCHES,
+        SEND_DIRECT => SENDS_DIRECT,
+        SEND_BUFFERED | SEND_TREE => SENDS_BUFFERED,
+        CALL => CALLS,
+        RETURN => RETURNS,
+        TRANSFER => TRANSFERS,
+        EXIT => EXITS,
+        DIVIDE => DIVIDES,
+        PACK => PACKS,
+        UNPACK => PACKS,
+        DECIMAL_ADD => ADDS,
+        _ => UNKNOWN,
     }
 }

@@ -10,16 +10,15 @@ use crate::outline::{row_ok, stores_ok};
 use crate::rows::row_of;
 use check_operands::runs::{few_ok, many_ok, none_ok};
 use image_record::record_fields::{label_a, label_b};
-use image_record::records::index_of;
 use rules::codes::DECIMAL_ADD;
-use rules::layout::{OPCODE_PLACE, OPERAND_COUNT_PLACE};
+use rules::layout::{OPCODE_PLACE, OPERAND_COUNT_PLACE, RECORD_SIZE};
 
 // The most operands of a record that are few.
 const FEW: u8 = 5;
 
 // The operands of a record. No record that stores has none or more than a few, so the others are not tested for what they store to.
-fn operands_ok(r: &[u8], least: u8, op: u8) -> bool
-    requires { (length r.now ≡ record_size) × (operands r.now ≤ operand_count) × Stores r.now least op }
+fn operands_ok(r: &[u8; RECORD_SIZE], least: u8, op: u8) -> bool
+    requires { (operands r.now ≤ operand_count) × Stores r.now least op }
     ensures { result ≡ (stores_ok r.now least op && slots_ok r.now) }
 {
     let c = r[OPERAND_COUNT_PLACE];
@@ -27,12 +26,12 @@ fn operands_ok(r: &[u8], least: u8, op: u8) -> bool
         return none_ok(r);
     }
     if FEW < c {
-        return many_ok(r, c);
+        return many_ok(r);
     }
     if !stores_ok(r, least, op) {
         return false;
     }
-    few_ok(r, c)
+    few_ok(r)
 }
 
 // A record breaks no rule. A label that is not used is 0, which is below n.
@@ -40,11 +39,12 @@ pub fn rule_ok(image: &[u8], n: usize, r: &[u8]) -> bool
     requires { (n ≡ labels image.now) × (0 < n) × (length r.now ≡ record_size) }
     ensures { result ≡ rule_ok image.now r.now }
 {
-    let a = index_of(label_a(r));
+    let r: &[u8; RECORD_SIZE] = r.try_into().unwrap();
+    let a = usize::from(u16::from(label_a(r)));
     if n <= a {
         return false;
     }
-    let b = index_of(label_b(r));
+    let b = usize::from(u16::from(label_b(r)));
     if n <= b {
         return false;
     }

@@ -2,26 +2,43 @@
 #![tactic(auto)]
 
 ghost use Rattle.std.specs.Prelude.{◌≡◌};
-ghost use Rattle.rules.specs.Bytes.{first_bad};
 ghost use Rattle.rules.specs.Image.{labels};
-ghost use Rattle.rules.specs.Check.{record_ok};
+ghost use Rattle.check_records.specs.BadRecord.{bad_record};
 
 use check_record::rule::rule_ok;
+use image_record::records::count_labels;
 use rules::layout::RECORD_SIZE;
+use rules::sorts::Label;
 
-// The first label whose record breaks a rule, or n.
-pub fn first_bad_record(image: &[u8], n: usize) -> usize
-    requires { n ≡ labels image.now }
-    ensures { result ≡ first_bad (record_ok image.now) 0 n }
-{
-    let mut l = 0;
-    while l < n {
-        let at = RECORD_SIZE * l;
-        let r = &image[at..at + RECORD_SIZE];
-        if !rule_ok(image, n, r) {
-            return l;
+// An image and how many records it has.
+#[derive(Clone, Copy)]
+pub struct Records<'a> {
+    pub image: &'a [u8],
+    pub count: usize,
+    ghost counted: { count ≡ labels image.now },
+}
+
+impl<'a> Records<'a> {
+    pub fn of(image: &'a [u8]) -> Self
+        ensures { result.image.now ≡ image.now }
+    {
+        Records {
+            image,
+            count: count_labels(image),
         }
-        l += 1;
     }
-    l
+
+    // The first label whose record breaks a rule.
+    pub fn first_bad(&self) -> Option<Label>
+        ensures { result ≡ bad_record self.now.image.now }
+    {
+        for l in 0..self.count {
+            let at = RECORD_SIZE * l;
+            let r = &self.image[at..at + RECORD_SIZE];
+            if !rule_ok(self.image, self.count, r) {
+                return Some(Label::from(l as u16));
+            }
+        }
+        None
+    }
 }

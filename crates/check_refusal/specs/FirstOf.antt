@@ -37,10 +37,10 @@ module _ (xs ys : List ℕ) where
   pub after : first_refusal xs ≡ 0 → first_refusal (xs ++ ys) ≡ first_refusal ys
   after h = then xs ys ∙ rw (eq-eqb (first_refusal xs) 0 h)
 
--- one refusal, and then the first of others
-pub nested : (x : ℕ) (xs : List ℕ) → first_refusal (x ∷ first_refusal xs ∷ []) ≡ first_refusal (x ∷ xs)
-nested x xs = case (ℕ_discrete x 0)
+-- the first of some refusals, and then others
+pub joined : (xs ys : List ℕ) → first_refusal (xs ++ ys) ≡ first_refusal (first_refusal xs ∷ ys)
+joined xs ys = case (ℕ_discrete (first_refusal xs) 0)
   where
-    case : Dec (x ≡ 0) → first_refusal (x ∷ first_refusal xs ∷ []) ≡ first_refusal (x ∷ xs)
-    case (yes e) = passed x _ e ∙ last (first_refusal xs) ∙ sym (passed x xs e)
-    case (no n) = found x _ n ∙ sym (found x xs n)
+    case : Dec (first_refusal xs ≡ 0) → first_refusal (xs ++ ys) ≡ first_refusal (first_refusal xs ∷ ys)
+    case (yes e) = after xs ys e ∙ sym (passed _ ys e)
+    case (no n) = before xs ys n ∙ sym (found _ ys n)

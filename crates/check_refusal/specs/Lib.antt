@@ -1,1 +1,2 @@
 pub mod FirstOf
+pub mod Refusals

@@ -1,23 +1,64 @@
-// A refusal as one number: 65,536 × number + place, or 0 where its cause does not apply.
+// Why a call is refused. C knows each cause by its number, which comes back as one number with the place: 65,536 × number + place.
 #![tactic(auto)]
 
-ghost use Rattle.std.specs.Prelude.{◌≡◌, [], ◌∷◌, ◌<◌};
-ghost use Rattle.rules.specs.Check.{refusal, first_refusal};
+ghost use Rattle.std.specs.Prelude.{◌≡◌, cond};
+ghost use Rattle.check_refusal.specs.Refusals.{refusal_number, number_of};
 
-pub fn refuse(ok: bool, number: u32, place: usize) -> u32
-    requires { (number < 256) × (place < 65536) }
-    ensures { result ≡ refusal ok number place }
-{
-    if ok {
-        0
-    } else {
-        65536 * number + (place as u32)
+use rules::codes::{
+    BAD_ANSWERS_LENGTH, BAD_EVENT, BAD_EVENTS_LENGTH, BAD_IMAGE_LENGTH, BAD_MET_LENGTH,
+    BAD_OUTPUT_LENGTH, BAD_RECORD, BAD_STATE, BAD_STATE_LENGTH, BAD_TABLE_FIELD, BAD_TABLE_LENGTH,
+    BAD_WALK_THREAD, BAD_WORDS_LENGTH, SHARED_BLOCK, TOO_MANY_RECORDS,
+};
+use rules::sorts::{Block, Label};
+
+// With the place, where it has one: the block of a table field's row, a record's label, an event's index.
+#[derive(Clone, Copy, PartialEq, Eq)]
+pub enum Refusal {
+    ImageLength,
+    TableLength,
+    TableField(Block),
+    Record(Label),
+    StateLength,
+    State,
+    EventsLength,
+    Event(u16),
+    AnswersLength,
+    WordsLength,
+    WalkThread,
+    MetLength,
+    SharedBlock,
+    TooManyRecords,
+    OutputLength,
+}
+
+impl From<Refusal> for u32 {
+    ghost from_gives = { λ r n. n ≡ refusal_number r };
+
+    fn from(refusal: Refusal) -> Self {
+        let (number, place) = match refusal {
+            Refusal::ImageLength => (BAD_IMAGE_LENGTH, 0),
+            Refusal::TableLength => (BAD_TABLE_LENGTH, 0),
+            Refusal::TableField(block) => (BAD_TABLE_FIELD, u16::from(u8::from(block))),
+            Refusal::Record(label) => (BAD_RECORD, u16::from(label)),
+            Refusal::StateLength => (BAD_STATE_LENGTH, 0),
+            Refusal::State => (BAD_STATE, 0),
+            Refusal::EventsLength => (BAD_EVENTS_LENGTH, 0),
+            Refusal::Event(index) => (BAD_EVENT, index),
+            Refusal::AnswersLength => (BAD_ANSWERS_LENGTH, 0),
+            Refusal::WordsLength => (BAD_WORDS_LENGTH, 0),
+            Refusal::WalkThread => (BAD_WALK_THREAD, 0),
+            Refusal::MetLength => (BAD_MET_LENGTH, 0),
+            Refusal::SharedBlock => (SHARED_BLOCK, 0),
+            Refusal::TooManyRecords => (TOO_MANY_RECORDS, 0),
+            Refusal::OutputLength => (BAD_OUTPUT_LENGTH, 0),
+        };
+        65536 * number + u32::from(place)
     }
 }
 
-// Of two refusals, the first that is not 0.
-pub fn first_of(first: u32, second: u32) -> u32
-    ensures { result ≡ first_refusal (first ∷ second ∷ []) }
+// Refused for this reason unless the condition holds.
+pub fn ensure(ok: bool, refusal: Refusal) -> Result<(), Refusal>
+    ensures { number_of result ≡ cond ok 0 (refusal_number refusal) }
 {
-    if first != 0 { first } else { second }
+    if ok { Ok(()) } else { Err(refusal) }
 }

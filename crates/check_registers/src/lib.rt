@@ -1,25 +1,18 @@
 // The bytes of a running thread's record: counts within limits, unused bytes zero.
 #![tactic(auto)]
 
-ghost use Rattle.std.specs.Prelude.{◌≡◌, ◌+◌, ◌<◌, ◌≤◌, length, drop};
+ghost use Rattle.std.specs.Prelude.{◌≡◌, ◌+◌, ◌≤◌, length, drop};
 ghost use Rattle.rules.specs.Sizes.{register_count, thread_size};
-ghost use Rattle.rules.specs.Bytes.{all_from, has};
+ghost use Rattle.rules.specs.Bytes.{all_from};
 ghost use Rattle.rules.specs.WellFormed.{absent_zero, running_tidy};
 
 use bytes_fields::read::{all_zero, get8, get16, get32};
+use bytes_lock_set::sets::BitSet;
 use rules::layout::{PRESENCE_PLACE, REGISTERS_PLACE, RETURN_COUNT_PLACE, RETURNS_PLACE};
 use rules::sorts::Thread;
 
 // A presence set has bits 0 to 24 only.
 const PRESENCE_END: u32 = 33554432;
-
-// Whether register r is in a presence set.
-pub fn is_present(set: u32, r: usize) -> bool
-    requires { r < register_count }
-    ensures { result ≡ has r set }
-{
-    (set >> r) % 2 == 1
-}
 
 // Whether the values of absent registers are zero.
 pub fn absent_zero(s: &[u8], at: usize) -> bool
@@ -28,10 +21,8 @@ pub fn absent_zero(s: &[u8], at: usize) -> bool
 {
     let set = get32(s, at + PRESENCE_PLACE);
     let mut ok = true;
-    let mut r = 0;
-    while r < Thread::REGISTERS {
-        ok = ok & (is_present(set, r) | (get16(s, at + REGISTERS_PLACE + 2 * r) == 0));
-        r += 1;
+    for r in 0..Thread::REGISTERS {
+        ok &= set.has(r) | (get16(s, at + REGISTERS_PLACE + 2 * r) == 0);
     }
     ok
 }

@@ -8,10 +8,10 @@ ghost use Rattle.check_signals.specs.Signals.{signal_good, signals_good};
 
 use bytes_fields::read::{all_zero, get8, get16};
 use image_record::record_fields::entry_field;
-use image_record::records::record_at;
-use rules::codes::{BUFFERED, EXTERNAL};
+use image_record::records::find_record;
+use rules::kinds::Entry;
 use rules::layout::{SIGNAL_SIZE, VALUE_COUNT_PLACE, VALUES_PLACE};
-use rules::sorts::{Thread, label_of};
+use rules::sorts::{Label, Thread};
 
 // At most 25 values, and zeros in the place of others.
 pub fn signal_tidy(s: &[u8], at: usize) -> bool
@@ -34,12 +34,12 @@ pub fn signal_good(image: &[u8], s: &[u8], at: usize, external: bool) -> bool
     requires { at + signal_size ≤ length s.now }
     ensures { result ≡ signal_good image.now external (drop at s.now) }
 {
-    let r = record_at(image, label_of(get16(s, at)));
-    if r.len() == 0 {
+    let Some(r) = find_record(image, Label::from(get16(s, at))) else {
         return false;
-    }
+    };
     let entry = entry_field(r);
-    signal_tidy(s, at) & ((entry == BUFFERED) | (external & (entry == EXTERNAL)))
+    signal_tidy(s, at)
+        & ((entry == Entry::Buffered as u8) | (external & (entry == Entry::External as u8)))
 }
 
 // Up to `most` such signals behind their count, and zeros in the place of others.
@@ -53,10 +53,8 @@ pub fn signals_good(image: &[u8], s: &[u8], at: usize, most: usize, external: bo
     }
     let first = at + 1;
     let mut ok = all_zero(s, first + SIGNAL_SIZE * count, SIGNAL_SIZE * (most - count));
-    let mut j = 0;
-    while j < count {
-        ok = ok & signal_good(image, s, first + SIGNAL_SIZE * j, external);
-        j += 1;
+    for j in 0..count {
+        ok &= signal_good(image, s, first + SIGNAL_SIZE * j, external);
     }
     ok
 }

@@ -1,85 +1,88 @@
 // The refusals 5, 6 and 10 to 12: of the state, the initial words, and what the walk is handed; and the whole lists of Fresh's and of
 // the walk's.
+#![tactic(auto, using(crate::specs::Faults::machine_refusing))]
+
 ghost use Rattle.std.specs.Prelude.{◌≡◌, length};
 ghost use Rattle.rules.specs.Sizes.{state_size};
 ghost use Rattle.rules.specs.Check.{first_refusal, Checked};
 ghost use Rattle.rules.specs.Calls.{state_length_fault, state_fault, words_length_fault, thread_fault};
 ghost use Rattle.rules.specs.Calls.{met_length_fault, fresh_return, walk_fault};
+ghost use Rattle.check_refusal.specs.Refusals.{number_of};
 ghost use Rattle.check_state.specs.Faults.{machine_faults};
 
 use crate::form::well_formed;
 use check_image::image_fault;
-use check_refusal::{first_of, refuse};
-use rules::codes::{
-    BAD_MET_LENGTH, BAD_STATE, BAD_STATE_LENGTH, BAD_WALK_THREAD, BAD_WORDS_LENGTH,
-};
+use check_refusal::{Refusal, ensure};
 use rules::layout::{STATE_SIZE, WORDS_SIZE};
 use rules::sorts::Thread;
 
-pub fn state_length_fault(state: &[u8]) -> u32
-    ensures { result ≡ state_length_fault state.now }
+#[tactic(auto, unfolding(rules::specs::Calls::state_length_fault))]
+pub fn state_length_fault(state: &[u8]) -> Result<(), Refusal>
+    ensures { number_of result ≡ state_length_fault state.now }
 {
-    refuse(state.len() == STATE_SIZE, BAD_STATE_LENGTH, 0)
+    ensure(state.len() == STATE_SIZE, Refusal::StateLength)
 }
 
-pub fn state_fault(image: &[u8], table: &[u8], state: &[u8]) -> u32
+#[tactic(auto, unfolding(rules::specs::Calls::state_fault))]
+pub fn state_fault(image: &[u8], table: &[u8], state: &[u8]) -> Result<(), Refusal>
     requires { Checked image.now table.now × (length state.now ≡ state_size) }
-    ensures { result ≡ state_fault image.now table.now state.now }
+    ensures { number_of result ≡ state_fault image.now table.now state.now }
 {
-    refuse(well_formed(image, table, state), BAD_STATE, 0)
+    ensure(well_formed(image, table, state), Refusal::State)
 }
 
-pub fn words_length_fault(words: &[u8]) -> u32
-    ensures { result ≡ words_length_fault words.now }
+#[tactic(auto, unfolding(rules::specs::Calls::words_length_fault))]
+pub fn words_length_fault(words: &[u8]) -> Result<(), Refusal>
+    ensures { number_of result ≡ words_length_fault words.now }
 {
-    refuse(words.len() == WORDS_SIZE, BAD_WORDS_LENGTH, 0)
+    ensure(words.len() == WORDS_SIZE, Refusal::WordsLength)
 }
 
-pub fn thread_fault(thread: u32) -> u32
-    ensures { result ≡ thread_fault thread }
+#[tactic(auto, unfolding(rules::specs::Calls::thread_fault))]
+pub fn thread_fault(thread: u32) -> Result<(), Refusal>
+    ensures { number_of result ≡ thread_fault thread }
 {
-    refuse((thread as usize) < Thread::COUNT, BAD_WALK_THREAD, 0)
+    ensure((thread as usize) < Thread::COUNT, Refusal::WalkThread)
 }
 
-pub fn met_length_fault(met: &[u8]) -> u32
-    ensures { result ≡ met_length_fault met.now }
+#[tactic(auto, unfolding(rules::specs::Calls::met_length_fault))]
+pub fn met_length_fault(met: &[u8]) -> Result<(), Refusal>
+    ensures { number_of result ≡ met_length_fault met.now }
 {
-    refuse(met.len() == Thread::COUNT, BAD_MET_LENGTH, 0)
+    ensure(met.len() == Thread::COUNT, Refusal::MetLength)
 }
 
-// The first of the refusals 1 to 6, or 0.
-pub fn machine_fault(image: &[u8], table: &[u8], state: &[u8]) -> u32
-    ensures { result ≡ first_refusal (machine_faults image.now table.now state.now) }
+// The first of the refusals 1 to 6.
+pub fn machine_fault(image: &[u8], table: &[u8], state: &[u8]) -> Result<(), Refusal>
+    ensures { number_of result ≡ first_refusal (machine_faults image.now table.now state.now) }
 {
-    let before = image_fault(image, table);
-    if before != 0 {
-        return before;
-    }
-    let length = state_length_fault(state);
-    if length != 0 {
-        return length;
-    }
+    image_fault(image, table)?;
+    state_length_fault(state)?;
     state_fault(image, table, state)
 }
 
-// The first of the refusals 1 to 5 and 10 of Fresh, or 0.
-pub fn fresh_fault(image: &[u8], table: &[u8], words: &[u8], state: &[u8]) -> u32
-    ensures { result ≡ fresh_return image.now table.now words.now state.now }
+// The first of the refusals 1 to 5 and 10 of Fresh.
+#[tactic(auto, using(crate::specs::Faults::machine_refusing), unfolding(rules::specs::Calls::fresh_return))]
+pub fn fresh_fault(image: &[u8], table: &[u8], words: &[u8], state: &[u8]) -> Result<(), Refusal>
+    ensures { number_of result ≡ fresh_return image.now table.now words.now state.now }
 {
-    let before = image_fault(image, table);
-    if before != 0 {
-        return before;
-    }
-    first_of(state_length_fault(state), words_length_fault(words))
+    image_fault(image, table)?;
+    state_length_fault(state)?;
+    words_length_fault(words)
 }
 
-// The first of the refusals 1 to 6, 11 and 12 of the walk, or 0.
-pub fn walk_fault(image: &[u8], table: &[u8], state: &[u8], thread: u32, met: &[u8]) -> u32
-    ensures { result ≡ walk_fault image.now table.now state.now thread met.now }
+// The first of the refusals 1 to 6, 11 and 12 of the walk.
+#[tactic(auto, using(crate::specs::Faults::machine_refusing), unfolding(rules::specs::Calls::walk_fault))]
+pub fn walk_fault(
+    image: &[u8],
+    table: &[u8],
+    state: &[u8],
+    thread: u32,
+    met: &[u8],
+) -> Result<(), Refusal>
+    ensures { number_of result ≡ walk_fault image.now table.now state.now thread met.now }
 {
-    let before = machine_fault(image, table, state);
-    if before != 0 {
-        return before;
-    }
-    first_of(thread_fault(thread), met_length_fault(met))
+    machine_fault(image, table, state)?;
+    thread_fault(thread)?;
+    met_length_fault(met)
 }

@@ -8,7 +8,7 @@ use bytes_fields::read::{get8, many_zero};
 use check_locks::locks::locks_apart;
 use check_queues::queues::trees_good;
 use check_threads::threads_good;
-use rules::layout::{TREE_COUNT_PLACE, TREE_SIZE, TREES_PLACE};
+use rules::layout::{STATE_SIZE, TREE_COUNT_PLACE, TREE_SIZE, TREES_PLACE};
 use rules::limits::Tree;
 
 // "Well formed", of a state of the right length, by an image and a block table that pass the check.
@@ -20,6 +20,7 @@ pub fn well_formed(image: &[u8], table: &[u8], state: &[u8]) -> bool
     if Tree::COUNT < count {
         return false;
     }
+    let state: &[u8; STATE_SIZE] = state.try_into().unwrap();
     let threads = threads_good(image, table, state) & locks_apart(state);
     let unused = many_zero(
         state,

@@ -3,7 +3,7 @@
 #![tactic(auto)]
 
 ghost use Rattle.std.specs.Prelude.{◌≡◌, ◌+◌, ◌≤◌, length, get_or, drop};
-ghost use Rattle.rules.specs.Sizes.{thread_count, return_count, return_count_place, thread_size, state_size};
+ghost use Rattle.rules.specs.Sizes.{thread_count, return_count, return_count_place, thread_size};
 ghost use Rattle.rules.specs.Bytes.{all_from};
 ghost use Rattle.rules.specs.WellFormed.{place_ok};
 ghost use Rattle.lemmas_rules.specs.Passed.{Passed};
@@ -14,25 +14,25 @@ use bytes_lock_set::held::{holds, number_held};
 use check_registers::running_tidy;
 use check_signals::signals_good;
 use image_record::record_fields::block_field;
-use image_record::records::record_at;
+use image_record::records::find_record;
 use image_table::{kind_at, lock_at, thread_at};
-use rules::codes::CMX;
+use rules::kinds::BlockKind;
 use rules::layout::{
-    HELD_COUNT_PLACE, LOCKS_PLACE, RETURN_COUNT_PLACE, RETURNS_PLACE, THREAD_SIZE, THREADS_PLACE,
+    HELD_COUNT_PLACE, LOCKS_PLACE, RETURN_COUNT_PLACE, RETURNS_PLACE, STATE_SIZE, THREAD_SIZE,
+    THREADS_PLACE,
 };
-use rules::sorts::{Label, Thread, label_of, same_thread, thread_of};
+use rules::sorts::{Label, Thread};
 
 pub fn place_ok(image: &[u8], table: &[u8], t: Thread, locks: u16, l: Label) -> bool
     requires { Passed image.now table.now }
     ensures { result ≡ place_ok image.now table.now t.0 locks l.0 }
 {
-    let r = record_at(image, l);
-    if r.len() == 0 {
+    let Some(r) = find_record(image, l) else {
         return false;
-    }
+    };
     let b = block_field(r);
-    let own = same_thread(thread_at(table, b), t);
-    holds(locks, lock_at(table, b)) & ((kind_at(table, b) == CMX) | own)
+    let own = thread_at(table, b) == t;
+    holds(locks, lock_at(table, b)) & ((kind_at(table, b) == BlockKind::Cmx as u8) | own)
 }
 
 // The label and the return labels of a thread record.
@@ -43,12 +43,10 @@ pub fn places_ok(image: &[u8], table: &[u8], t: Thread, s: &[u8], at: usize) -> 
 {
     let locks = get16(s, at + LOCKS_PLACE);
     let returns = get8(s, at + RETURN_COUNT_PLACE);
-    let mut ok = place_ok(image, table, t, locks, label_of(get16(s, at)));
-    let mut k = 0;
-    while k < returns {
-        let l = label_of(get16(s, at + RETURNS_PLACE + 2 * k));
-        ok = ok & place_ok(image, table, t, locks, l);
-        k += 1;
+    let mut ok = place_ok(image, table, t, locks, Label::from(get16(s, at)));
+    for k in 0..returns {
+        let l = Label::from(get16(s, at + RETURNS_PLACE + 2 * k));
+        ok &= place_ok(image, table, t, locks, l);
     }
     ok
 }
@@ -71,22 +69,19 @@ pub fn thread_good(image: &[u8], table: &[u8], t: Thread, s: &[u8], at: usize) -
         & signals_good(image, s, at + HELD_COUNT_PLACE, Thread::HELD, false)
 }
 
-pub fn threads_good(image: &[u8], table: &[u8], state: &[u8]) -> bool
-    requires { Passed image.now table.now × (length state.now ≡ state_size) }
+pub fn threads_good(image: &[u8], table: &[u8], state: &[u8; STATE_SIZE]) -> bool
+    requires { Passed image.now table.now }
     ensures { result ≡ all_from (thread_at_good image.now table.now state.now) 0 thread_count }
 {
     let mut ok = true;
-    let mut t = 0;
-    while t < Thread::COUNT {
-        ok = ok
-            & thread_good(
-                image,
-                table,
-                thread_of(t as u8),
-                state,
-                THREADS_PLACE + THREAD_SIZE * t,
-            );
-        t += 1;
+    for t in 0..Thread::COUNT {
+        ok &= thread_good(
+            image,
+            table,
+            Thread::from(t as u8),
+            state,
+            THREADS_PLACE + THREAD_SIZE * t,
+        );
     }
     ok
 }

@@ -1,3 +1,2 @@
--- The laws of the opcodes of a record.
-pub mod Assigns
-pub mod OtherRows
+-- The operation of an opcode.
+pub mod Operations

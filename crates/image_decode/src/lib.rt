@@ -1,13 +1,12 @@
 // The statement in a record, and its operands.
 #![tactic(auto)]
 
-ghost use Rattle.std.specs.Prelude.{◌≡◌, cond, ◌<◌, ◌≤◌, eqb, length};
-ghost use Rattle.std.proofs.Math.Option.{none, some};
+ghost use Rattle.std.specs.Prelude.{◌≡◌, ◌<◌, ◌≤◌, length};
 ghost use Rattle.rules.specs.Sizes.{record_size, operand_count};
 ghost use Rattle.rules.specs.Image.{kind, value};
-ghost use Rattle.rules.specs.Statements.{operand_of, operand_at, operation_at, shape, optional, relation_of, assignment_by};
+ghost use Rattle.rules.specs.Statements.{operand_at, operation_at, shape, optional};
 ghost use Rattle.rules.specs.Statements.{assignment_of, condition_of, other_of, statement_of};
-ghost use Rattle.image_decode.specs.Assigns.{assigns_of};
+ghost use Rattle.image_decode.specs.Operations.{option_of};
 
 use bytes_fields::read::get16;
 use rules::codes::{
@@ -21,15 +20,8 @@ use rules::statement::{Assignment, Condition, Operand, Operation, Relation, Shap
 // The value of an operand stands after its kind.
 const OPERAND_VALUES_PLACE: usize = OPERANDS_PLACE + 1;
 
-pub fn operand_of(kind: u8, value: u16) -> Operand
-    ensures { result ≡ operand_of kind value }
-{
-    match kind {
-        NUMBER_OPERAND => Operand::Number(value),
-        REGISTER_OPERAND => Operand::Register(value),
-        _ => Operand::Word(value),
-    }
-}
+// The operator of an opcode that has none.
+const NO_OPERATOR: u8 = 0;
 
 // The kind and the value of the operand at a place of a record.
 pub fn kind_at(r: &[u8], k: usize) -> u8
@@ -47,97 +39,60 @@ pub fn value_at(r: &[u8], k: usize) -> u16
 }
 
 // The operand at a place of a record.
+#[tactic(auto, unfolding(rules::specs::Statements::operand_at, rules::specs::Statements::operand_of))]
 pub fn operand_at(r: &[u8], k: usize) -> Operand
     requires { (length r.now ≡ record_size) × (k < operand_count) }
     ensures { result ≡ operand_at r.now k }
 {
-    operand_of(kind_at(r, k), value_at(r, k))
-}
-
-// What an opcode of ASSIGN's kind works out; nothing for any other opcode.
-#[derive(Clone, Copy)]
-pub enum Assigns {
-    Nothing,
-    Work(Operation),
-}
-
-// Of an opcode that has no operator.
-fn without_operator(operator: u8, o: Operation) -> Assigns
-    ensures { result ≡ assigns_of (cond (eqb operator 0) (some o) none) }
-{
-    if operator == 0 {
-        Assigns::Work(o)
-    } else {
-        Assigns::Nothing
+    let value = value_at(r, k);
+    match kind_at(r, k) {
+        NUMBER_OPERAND => Operand::Number(value),
+        REGISTER_OPERAND => Operand::Register(value),
+        _ => Operand::Word(value),
     }
 }
 
-pub fn operation_at(opcode: u8, operator: u8) -> Assigns
-    ensures { result ≡ assigns_of (operation_at opcode operator) }
+// What an opcode of ASSIGN's kind works out; any other opcode has no operation.
+#[tactic(auto, unfolding(rules::specs::Statements::operation_at))]
+pub fn operation_at(opcode: u8, operator: u8) -> Option<Operation>
+    ensures { result ≡ option_of (operation_at opcode operator) }
 {
-    match opcode {
-        ASSIGN => match operator {
-            COPY => Assigns::Work(Operation::Copy),
-            ADD => Assigns::Work(Operation::Add),
-            SUBTRACT => Assigns::Work(Operation::Subtract),
-            MULTIPLY => Assigns::Work(Operation::Multiply),
-            _ => Assigns::Nothing,
-        },
-        DIVIDE => without_operator(operator, Operation::Divide),
-        PACK => without_operator(operator, Operation::Pack),
-        UNPACK => without_operator(operator, Operation::Unpack),
-        DECIMAL_ADD => without_operator(operator, Operation::DecimalAdd),
-        _ => Assigns::Nothing,
+    match (opcode, operator) {
+        (ASSIGN, COPY) => Some(Operation::Copy),
+        (ASSIGN, ADD) => Some(Operation::Add),
+        (ASSIGN, SUBTRACT) => Some(Operation::Subtract),
+        (ASSIGN, MULTIPLY) => Some(Operation::Multiply),
+        (DIVIDE, NO_OPERATOR) => Some(Operation::Divide),
+        (PACK, NO_OPERATOR) => Some(Operation::Pack),
+        (UNPACK, NO_OPERATOR) => Some(Operation::Unpack),
+        (DECIMAL_ADD, NO_OPERATOR) => Some(Operation::DecimalAdd),
+        _ => None,
     }
 }
 
+// The operands that an operation has besides a destination and a left source.
+// Kept: a `From` has to stand in the crate of its types, rules, where the law is; there it would be the same table.
 pub fn shape_of(o: Operation) -> Shape
     ensures { result ≡ shape o }
 {
     match o {
-        Operation::Copy => Shape {
+        Operation::Copy | Operation::Pack | Operation::Unpack => Shape {
             second: false,
             right: false,
-        },
-        Operation::Add => Shape {
-            second: false,
-            right: true,
-        },
-        Operation::Subtract => Shape {
-            second: false,
-            right: true,
-        },
-        Operation::Multiply => Shape {
-            second: false,
-            right: true,
         },
         Operation::Divide => Shape {
             second: true,
             right: true,
         },
-        Operation::Pack => Shape {
-            second: false,
-            right: false,
-        },
-        Operation::Unpack => Shape {
-            second: false,
-            right: false,
-        },
-        Operation::DecimalAdd => Shape {
-            second: false,
-            right: true,
-        },
+        Operation::Add | Operation::Subtract | Operation::Multiply | Operation::DecimalAdd =>
+            Shape {
+                second: false,
+                right: true,
+            },
     }
 }
 
-// How many destinations there are.
-pub fn destinations_of(second: bool) -> usize
-    ensures upper_bound { result ≤ 2 }
-    ensures value { result ≡ cond second 2 1 }
-{
-    if second { 2 } else { 1 }
-}
-
+#[tactic(auto, unfolding(rules::specs::Statements::optional))]
 pub fn optional_at(r: &[u8], has: bool, k: usize) -> Operand
     requires { (length r.now ≡ record_size) × (k < operand_count) }
     ensures { result ≡ optional has r.now k }
@@ -149,26 +104,27 @@ pub fn optional_at(r: &[u8], has: bool, k: usize) -> Operand
     }
 }
 
-pub fn relation_of(operator: u8) -> Relation
-    ensures { result ≡ relation_of operator }
-{
-    if operator == EQUAL {
-        Relation::Equal
-    } else {
-        Relation::Less
-    }
-}
-
-// The operands of an opcode of this shape.
-fn assignment_by(r: &[u8], o: Operation, s: Shape) -> Assignment
+// The sources stand behind the destinations. With the number of destinations known, the places of the operands are constants.
+#[tactic(auto, unfolding(rules::specs::Statements::assignment_by, rules::specs::Statements::optional))]
+pub fn assignment_of(r: &[u8], o: Operation) -> Assignment
     requires { length r.now ≡ record_size }
-    ensures { result ≡ assignment_by o s r.now }
+    ensures { result ≡ assignment_of o r.now }
 {
-    let p = destinations_of(s.second);
+    let s = shape_of(o);
     let first = operand_at(r, 0);
-    let second = optional_at(r, s.second, 1);
-    let left = operand_at(r, p);
-    let right = optional_at(r, s.right, p + 1);
+    let (second, left, right) = if s.second {
+        (
+            operand_at(r, 1),
+            operand_at(r, 2),
+            optional_at(r, s.right, 3),
+        )
+    } else {
+        (
+            Operand::Number(0),
+            operand_at(r, 1),
+            optional_at(r, s.right, 2),
+        )
+    };
     Assignment {
         operation: o,
         first,
@@ -178,38 +134,16 @@ fn assignment_by(r: &[u8], o: Operation, s: Shape) -> Assignment
     }
 }
 
-// With the number of destinations known, the places of the operands are constants.
-pub fn assignment_of(r: &[u8], o: Operation) -> Assignment
-    requires { length r.now ≡ record_size }
-    ensures { result ≡ assignment_of o r.now }
-{
-    let s = shape_of(o);
-    if s.second {
-        assignment_by(
-            r,
-            o,
-            Shape {
-                second: true,
-                right: s.right,
-            },
-        )
-    } else {
-        assignment_by(
-            r,
-            o,
-            Shape {
-                second: false,
-                right: s.right,
-            },
-        )
-    }
-}
-
+#[tactic(auto, unfolding(rules::specs::Statements::condition_of, rules::specs::Statements::relation_of))]
 pub fn condition_of(r: &[u8]) -> Condition
     requires { length r.now ≡ record_size }
     ensures { result ≡ condition_of r.now }
 {
-    let relation = relation_of(r[OPERATOR_PLACE]);
+    let relation = if r[OPERATOR_PLACE] == EQUAL {
+        Relation::Equal
+    } else {
+        Relation::Less
+    };
     let left = operand_at(r, 0);
     let right = operand_at(r, 1);
     Condition {
@@ -220,6 +154,7 @@ pub fn condition_of(r: &[u8]) -> Condition
 }
 
 // The statement in a record of an opcode that is not of ASSIGN's kind.
+#[tactic(auto, unfolding(rules::specs::Statements::other_at))]
 pub fn other_of(r: &[u8]) -> Statement
     requires { length r.now ≡ record_size }
     ensures { result ≡ other_of r.now }
@@ -238,12 +173,13 @@ pub fn other_of(r: &[u8]) -> Statement
 }
 
 // The statement in a record.
+#[tactic(auto, unfolding(rules::specs::Statements::statement_of))]
 pub fn statement_of(r: &[u8]) -> Statement
     requires { length r.now ≡ record_size }
     ensures { result ≡ statement_of r.now }
 {
     match operation_at(r[OPCODE_PLACE], r[OPERATOR_PLACE]) {
-        Assigns::Nothing => other_of(r),
-        Assigns::Work(o) => Statement::Assign(assignment_of(r, o)),
+        Some(o) => Statement::Assign(assignment_of(r, o)),
+        None => other_of(r),
     }
 }

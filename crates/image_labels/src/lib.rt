@@ -1,13 +1,13 @@
 // Which labels the statement of a record uses, by its opcode.
 #![tactic(auto)]
 
-ghost use Rattle.std.specs.Prelude.{◌≡◌, true, ◌<◌, length};
+ghost use Rattle.std.specs.Prelude.{◌≡◌, true, length};
 ghost use Rattle.rules.specs.Sizes.{record_size};
-ghost use Rattle.rules.specs.Bytes.{has};
-ghost use Rattle.rules.specs.Statements.{statement_of, role_a, role_b};
+ghost use Rattle.rules.specs.Statements.{statement_of};
 ghost use Rattle.rules.specs.Check.{head_ok};
-ghost use Rattle.rules.specs.Link.{used};
+ghost use Rattle.image_labels.specs.Labels.{uses_of};
 
+use bytes_lock_set::sets::BitSet;
 use rules::codes::{
     ASSIGN, CALL, DECIMAL_ADD, DIVIDE, GOTO, IF, PACK, SEND_BUFFERED, SEND_DIRECT, SEND_TREE, SKIP,
     TRANSFER, UNPACK,
@@ -31,25 +31,20 @@ const USING_A: u16 = (1 << SKIP)
 
 const USING_B: u16 = (1 << IF) | (1 << SEND_BUFFERED) | (1 << CALL) | (1 << SEND_TREE);
 
-// Whether an opcode is in a set.
-fn is_in(set: u16, opcode: u8) -> bool
-    requires { opcode < 16 }
-    ensures { result ≡ has opcode set }
-{
-    (set >> opcode) % 2 == 1
+// Which of its labels a statement uses.
+#[derive(Clone, Copy)]
+pub struct LabelUse {
+    pub a: bool,
+    pub b: bool,
 }
 
-// Whether the statement of a record uses label A, and whether it uses label B.
-pub fn uses_a(r: &[u8]) -> bool
+// Which labels the statement of a record uses.
+pub fn uses_of(r: &[u8]) -> LabelUse
     requires { (length r.now ≡ record_size) × (head_ok r.now ≡ true) }
-    ensures { result ≡ used (role_a (statement_of r.now)) }
+    ensures { result ≡ uses_of (statement_of r.now) }
 {
-    is_in(USING_A, r[OPCODE_PLACE])
-}
-
-pub fn uses_b(r: &[u8]) -> bool
-    requires { (length r.now ≡ record_size) × (head_ok r.now ≡ true) }
-    ensures { result ≡ used (role_b (statement_of r.now)) }
-{
-    is_in(USING_B, r[OPCODE_PLACE])
+    let opcode = usize::from(r[OPCODE_PLACE]);
+    let a = USING_A.has(opcode);
+    let b = USING_B.has(opcode);
+    LabelUse { a, b }
 }

@@ -9,7 +9,10 @@ use Rattle.rules.specs.Check.{head_ok, label_ok, record_ok}
 use Rattle.rules.specs.declared.statement.Role.{Role}
 use Rattle.rules.specs.declared.statement.Role.TheVariants.{Unused, Inner, Direct, Local, Buffered}
 use Rattle.lemmas_rules.specs.Passed.{Passed, rule-parts, label-below}
-use Rattle.image_record.specs.Records.{labels-small}
+use Rattle.image_record.specs.Records.{labels-small, labels-whole}
+
+-- how many records an image has, for `link`
+pub ruleset counting = (labels-small, labels-whole)
 
 pub record Linkable (first second out : List ℕ) : Type 0 where
   pub some : 0 < labels first

@@ -12,11 +12,11 @@ ghost use Rattle.bytes_fields.specs.Put.{put};
 ghost use Rattle.image_link.specs.Linkable.{Linkable};
 
 use bytes_fields::write::{copy, put16};
-use image_labels::{uses_a, uses_b};
+use image_labels::uses_of;
 use image_record::record_fields::{label_a, label_b};
 use image_record::records::count_labels;
 use rules::layout::{LABEL_A_PLACE, LABEL_B_PLACE, RECORD_SIZE};
-use rules::sorts::{Label, label_number, label_of};
+use rules::sorts::Label;
 
 // A label that is used, d higher; one that is not, as it is.
 pub fn shifted(used: bool, at: Label, d: u16) -> Label
@@ -24,7 +24,7 @@ pub fn shifted(used: bool, at: Label, d: u16) -> Label
     ensures { result ≡ label (cond used (at.0 + d) at.0) }
 {
     if used {
-        label_of(label_number(at) + d)
+        Label::from(u16::from(at) + d)
     } else {
         at
     }
@@ -36,13 +36,15 @@ pub fn shift_record(out: &mut [u8], at: usize, r: &[u8], d: u16)
         × (label_a r.now + d < 65536) × (label_b r.now + d < 65536) × (head_ok r.now ≡ true) }
     ensures { out.new ≡ put out.old at (shift_record d r.now) }
 {
-    let a = shifted(uses_a(r), label_a(r), d);
-    let b = shifted(uses_b(r), label_b(r), d);
-    put16(out, at + LABEL_A_PLACE, label_number(a));
-    put16(out, at + LABEL_B_PLACE, label_number(b));
+    let uses = uses_of(r);
+    let a = shifted(uses.a, label_a(r), d);
+    let b = shifted(uses.b, label_b(r), d);
+    put16(out, at + LABEL_A_PLACE, u16::from(a));
+    put16(out, at + LABEL_B_PLACE, u16::from(b));
 }
 
 // The linked image goes to the output, which has exactly the room for it.
+#[tactic(auto, using(crate::specs::Linkable::counting))]
 pub fn link(out: &mut [u8], first: &[u8], second: &[u8])
     requires { Linkable first.now second.now out.old }
     ensures { out.new ≡ linked first.now second.now }
@@ -54,10 +56,8 @@ pub fn link(out: &mut [u8], first: &[u8], second: &[u8])
     // Both images are copied, and then the labels of the second are shifted where they stand.
     copy(out, 0, first, 0, first.len());
     copy(out, start, second, 0, second.len());
-    let mut l: usize = 0;
-    while l < m {
+    for l in 0..m {
         let at = RECORD_SIZE * l;
         shift_record(out, start + at, &second[at..at + RECORD_SIZE], d);
-        l += 1;
     }
 }

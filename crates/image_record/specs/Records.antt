@@ -1,7 +1,7 @@
 -- The laws of the image's records: how many there are, and the bytes of each.
 use Rattle.std.specs.Prelude.{◌≡◌, refl, Bool, true, false, cond, ◌&&◌, List, [], ◌∷◌, ℕ, zero, suc, ◌+◌, ◌*◌, ◌-◌, ◌/◌, ◌≤◌, ◌<◌, leb, eqb}
 use Rattle.std.specs.Prelude.{length, get_or, take, drop}
-use Rattle.std.proofs.Common.{sym, ap, ◌∙◌, lt_of_not-le, arith, length-drop, length-take-le, get_or-take, get_or-drop, eqb-true, eq-eqb}
+use Rattle.std.proofs.Common.{sym, arith, length-drop, length-take-le, get_or-take, get_or-drop, eqb-true, eq-eqb}
 use Rattle.std.proofs.Common.{leb-true, le-leb, lt-ltb, le-ltb}
 use Rattle.rules.specs.Sizes.{record_count, record_size}
 use Rattle.rules.specs.Image.{labels, record_at}
@@ -82,14 +82,3 @@ module _ (s : List ℕ) (l : ℕ) (h : l < labels s) where
 
   pub record-byte : (j d : ℕ) → j < record_size → get_or (record_at s l) j d ≡ get_or s (record_size * l + j) 0
   record-byte j d k = rw (record-part, get_or-take, get_or-drop) (get_d_any s (record_size * l + j) d 0 (omega (arith, record-fits)))
-
--- the part at a label that may be none: empty exactly where the image does not have it
-module _ (s : List ℕ) (l : ℕ) {r : List ℕ} (e : r ≡ record_at s l) where
-  pub none-past : length r ≡ 0 → labels s ≤ l
-  none-past z = omega (arith, lt_of_not-le {n = suc l} {m = labels s} (λ h. omega (arith, length-record s l h, ap length e)))
-
-  pub some_below : (length r ≡ 0 → ⊥) → l < labels s
-  some_below k = lt_of_not-le (λ h. k (ap length (e ∙ no_record s l h)))
-
-  pub some-long : (length r ≡ 0 → ⊥) → length r ≡ record_size
-  some-long k = ap length e ∙ length-record s l (some_below k)

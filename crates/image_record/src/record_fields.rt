@@ -6,13 +6,13 @@ ghost use Rattle.rules.specs.Image.{block_field, entry, label_a, label_b, operan
 
 use bytes_fields::read::get16;
 use rules::layout::{BLOCK_PLACE, ENTRY_PLACE, LABEL_A_PLACE, LABEL_B_PLACE, OPERAND_COUNT_PLACE};
-use rules::sorts::{Block, Label, block_of, label_of};
+use rules::sorts::{Block, Label};
 
 pub fn block_field(r: &[u8]) -> Block
     requires { length r.now ≡ record_size }
     ensures { result ≡ block (block_field r.now) }
 {
-    block_of(r[BLOCK_PLACE])
+    Block::from(r[BLOCK_PLACE])
 }
 
 pub fn entry_field(r: &[u8]) -> u8
@@ -26,14 +26,14 @@ pub fn label_a(r: &[u8]) -> Label
     requires { length r.now ≡ record_size }
     ensures { result ≡ label (label_a r.now) }
 {
-    label_of(get16(r, LABEL_A_PLACE))
+    Label::from(get16(r, LABEL_A_PLACE))
 }
 
 pub fn label_b(r: &[u8]) -> Label
     requires { length r.now ≡ record_size }
     ensures { result ≡ label (label_b r.now) }
 {
-    label_of(get16(r, LABEL_B_PLACE))
+    Label::from(get16(r, LABEL_B_PLACE))
 }
 
 pub fn operand_count(r: &[u8]) -> u8

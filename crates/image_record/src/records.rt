@@ -1,12 +1,12 @@
 // The records of an image.
-ghost use Rattle.std.specs.Prelude.{◌≡◌, ◌<◌, length};
+ghost use Rattle.std.specs.Prelude.{◌≡◌, ◌*◌, ◌<◌, ◌≤◌, MatchOption, length};
 ghost use Rattle.rules.specs.Sizes.{record_size};
 ghost use Rattle.rules.specs.Sorts.{block};
 ghost use Rattle.rules.specs.Image.{labels, record_at, block_field, entry};
 
 use rules::layout::{BLOCK_PLACE, ENTRY_PLACE, RECORD_SIZE};
 use rules::limits::Image;
-use rules::sorts::{Block, Label, block_of, label_number};
+use rules::sorts::{Block, Label};
 
 // How many records an image has: none where its length is bad.
 pub fn count_labels(image: &[u8]) -> usize
@@ -20,23 +20,30 @@ pub fn count_labels(image: &[u8]) -> usize
     }
 }
 
-// A label as a record's index.
-pub fn index_of(at: Label) -> usize
-    ensures { result ≡ at.0 }
-{
-    let number = label_number(at);
-    number as usize
-}
-
 // The record at a label: that part of the image, or its empty part.
 pub fn record_at(image: &[u8], at: Label) -> &[u8]
     ensures { result.now ≡ record_at image.now at.0 }
 {
-    if index_of(at) < count_labels(image) {
+    if usize::from(u16::from(at)) < count_labels(image) {
         record_of(image, at)
     } else {
         &image[..0]
     }
+}
+
+// The same as a record, if the image has it.
+pub fn find_record(image: &[u8], at: Label) -> Option<&[u8; RECORD_SIZE]>
+    ensures { MatchOption result (labels image.now ≤ at.0)
+        (λ r. (at.0 < labels image.now) × (r.now ≡ record_at image.now at.0)) }
+{
+    record_at(image, at).as_array()
+}
+
+// Where the record at a label begins.
+fn place_of(at: Label) -> usize
+    ensures { result ≡ record_size * at.0 }
+{
+    RECORD_SIZE * usize::from(u16::from(at))
 }
 
 // The same at a label that the image has.
@@ -44,7 +51,7 @@ pub fn record_of(image: &[u8], at: Label) -> &[u8]
     requires { at.0 < labels image.now }
     ensures { (result.now ≡ record_at image.now at.0) × (length result.now ≡ record_size) }
 {
-    let from = RECORD_SIZE * index_of(at);
+    let from = place_of(at);
     &image[from..from + RECORD_SIZE]
 }
 
@@ -53,14 +60,12 @@ pub fn block_at(image: &[u8], at: Label) -> Block
     requires { at.0 < labels image.now }
     ensures { result ≡ block (block_field (record_at image.now at.0)) }
 {
-    let l = index_of(at);
-    block_of(image[RECORD_SIZE * l + BLOCK_PLACE])
+    Block::from(image[place_of(at) + BLOCK_PLACE])
 }
 
 pub fn entry_at(image: &[u8], at: Label) -> u8
     requires { at.0 < labels image.now }
     ensures { result ≡ entry (record_at image.now at.0) }
 {
-    let l = index_of(at);
-    image[RECORD_SIZE * l + ENTRY_PLACE]
+    image[place_of(at) + ENTRY_PLACE]
 }

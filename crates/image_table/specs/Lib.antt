@@ -1,2 +1,3 @@
 -- The laws of the block table's rows.
+pub mod BadRow
 pub mod Rows

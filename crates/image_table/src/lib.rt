@@ -4,34 +4,38 @@
 ghost use Rattle.std.specs.Prelude.{◌≡◌, ◌&&◌, ◌+◌, ◌*◌, ◌<◌, ◌≤◌, eqb, ltb, length, get_or, drop};
 ghost use Rattle.rules.specs.Sizes.{block_count, row_size, table_size};
 ghost use Rattle.rules.specs.Sorts.{thread, lock};
-ghost use Rattle.rules.specs.Bytes.{all_from, first_bad};
+ghost use Rattle.rules.specs.Bytes.{all_from};
 ghost use Rattle.rules.specs.Image.{row_at};
 ghost use Rattle.rules.specs.Check.{row_ok};
 ghost use Rattle.bytes_fields.specs.Marked.{clear};
 ghost use Rattle.bytes_fields.specs.Numbers.{num64};
+ghost use Rattle.image_table.specs.BadRow.{bad_row};
 
 use bytes_fields::read::{get64, wide};
 use rules::layout::{ROW_KIND_PLACE, ROW_LOCK_PLACE, ROW_SIZE, ROW_THREAD_PLACE};
-use rules::sorts::{Block, Lock, Thread, block_number, block_of, lock_of, thread_of};
+use rules::sorts::{Block, Lock, Thread};
 
 // The field at a place of a block's row.
 pub fn field_at(table: &[u8], b: Block, place: usize) -> u8
     requires { (b.0 < block_count) × (length table.now ≡ table_size) × (place < row_size) }
     ensures { result ≡ get_or table.now (row_size * b.0 + place) 0 }
 {
-    let row = ROW_SIZE * wide(block_number(b));
+    let row = ROW_SIZE * wide(u8::from(b));
     table[row + place]
 }
 
 // The thread of a block.
+#[tactic(auto, using(crate::specs::Rows::field_is), unfolding(rules::specs::Image::row_at))]
 pub fn thread_at(table: &[u8], b: Block) -> Thread
     requires { (b.0 < block_count) × (length table.now ≡ table_size) }
     ensures { result ≡ thread (row_at table.now b.0).thread }
 {
-    thread_of(field_at(table, b, ROW_THREAD_PLACE))
+    Thread::from(field_at(table, b, ROW_THREAD_PLACE))
 }
 
 // The kind of a block: 0 FD, 1 CMX.
+// Kept: that the answer is the byte of the row is promised (docs/PROMISES.md), and a kind would lose what an unchecked byte says.
+#[tactic(auto, using(crate::specs::Rows::field_is), unfolding(rules::specs::Image::row_at))]
 pub fn kind_at(table: &[u8], b: Block) -> u8
     requires { (b.0 < block_count) × (length table.now ≡ table_size) }
     ensures { result ≡ (row_at table.now b.0).kind }
@@ -40,11 +44,12 @@ pub fn kind_at(table: &[u8], b: Block) -> u8
 }
 
 // The lock of a block. It guards every block that has it.
+#[tactic(auto, using(crate::specs::Rows::field_is), unfolding(rules::specs::Image::row_at))]
 pub fn lock_at(table: &[u8], b: Block) -> Lock
     requires { (b.0 < block_count) × (length table.now ≡ table_size) }
     ensures { result ≡ lock (row_at table.now b.0).lock }
 {
-    lock_of(field_at(table, b, ROW_LOCK_PLACE))
+    Lock::from(field_at(table, b, ROW_LOCK_PLACE))
 }
 
 // The field at a place of a block's row has one of so many values.
@@ -56,6 +61,7 @@ pub fn field_ok(table: &[u8], b: Block, place: usize, limit: usize) -> bool
 }
 
 // Each field of a block's row is in range.
+#[tactic(auto, unfolding(rules::specs::Check::row_ok, rules::specs::Bytes::every))]
 pub fn row_ok(table: &[u8], b: Block) -> bool
     requires { (b.0 < block_count) × (length table.now ≡ table_size) }
     ensures { result ≡ row_ok table.now b.0 }
@@ -101,17 +107,16 @@ pub fn rows_ok(table: &[u8]) -> bool
     wrong | marked_bits(table, 16, THIRD_MARKS) == 0
 }
 
-// The first block whose row is out of range, or 16.
-pub fn first_bad_row(table: &[u8]) -> usize
+// The first block whose row is out of range.
+pub fn first_bad_row(table: &[u8]) -> Option<Block>
     requires { length table.now ≡ table_size }
-    ensures { result ≡ first_bad (row_ok table.now) 0 block_count }
+    ensures { result ≡ bad_row table.now }
 {
-    let mut b = 0;
-    while b < Block::COUNT {
-        if !row_ok(table, block_of(b as u8)) {
-            return b;
+    for b in 0..Block::COUNT as u8 {
+        let block = Block::from(b);
+        if !row_ok(table, block) {
+            return Some(block);
         }
-        b += 1;
     }
-    b
+    None
 }

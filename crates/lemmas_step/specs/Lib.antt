@@ -3,3 +3,4 @@ pub mod Events
 pub mod Running
 pub mod Reading
 pub mod Statements
+pub mod Got

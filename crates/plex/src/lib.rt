@@ -12,7 +12,7 @@ use check_image::image_fault;
 use check_link::link_fault;
 use check_state::faults::{fresh_fault, walk_fault};
 use image_link::link;
-use rules::sorts::thread_of;
+use rules::sorts::Thread;
 use run_events::run;
 use state_fresh::fresh;
 use walk_threads::walk;
@@ -35,7 +35,10 @@ pub fn plex_version() -> u32
 pub fn plex_check(image: &[u8], table: &[u8]) -> u32
     ensures { result ≡ check_return image.now table.now }
 {
-    image_fault(image, table)
+    match image_fault(image, table) {
+        Ok(()) => 0,
+        Err(refusal) => refusal.into(),
+    }
 }
 
 // A fresh machine with these initial words.
@@ -43,12 +46,13 @@ pub fn plex_fresh(image: &[u8], table: &[u8], words: &[u8], state: &mut [u8]) ->
     ensures value { result ≡ fresh_return image.now table.now words.now state.old }
     ensures state_after { state.new ≡ fresh_state image.now table.now words.now state.old }
 {
-    let fault = fresh_fault(image, table, words, state);
-    if fault != 0 {
-        return fault;
+    match fresh_fault(image, table, words, state) {
+        Ok(()) => {
+            fresh(words, state);
+            0
+        }
+        Err(refusal) => refusal.into(),
     }
-    fresh(words, state);
-    0
 }
 
 // Events carried out on a state, each with the two bytes of its answer.
@@ -66,12 +70,13 @@ pub fn plex_run(
     ensures answers_after { answers.new ≡ run_answers image.now table.now state.old
         events.now answers.old }
 {
-    let fault = run_fault(image, table, state, events, answers);
-    if fault != 0 {
-        return fault;
+    match run_fault(image, table, state, events, answers) {
+        Ok(()) => {
+            run(image, table, state, events, answers);
+            0
+        }
+        Err(refusal) => refusal.into(),
     }
-    run(image, table, state, events, answers);
-    0
 }
 
 // The walk along waits from a thread.
@@ -79,11 +84,10 @@ pub fn plex_walk(image: &[u8], table: &[u8], state: &[u8], thread: u32, met: &mu
     ensures value { result ≡ walk_return image.now table.now state.now thread met.old }
     ensures met_after { met.new ≡ walk_met image.now table.now state.now thread met.old }
 {
-    let fault = walk_fault(image, table, state, thread, met);
-    if fault != 0 {
-        return fault;
+    match walk_fault(image, table, state, thread, met) {
+        Ok(()) => walk(image, table, state, Thread::from(thread as u8), met),
+        Err(refusal) => refusal.into(),
     }
-    walk(image, table, state, thread_of(thread as u8), met)
 }
 
 // Two images linked into one: the second behind the first.
@@ -91,10 +95,11 @@ pub fn plex_link(first: &[u8], second: &[u8], table: &[u8], out: &mut [u8]) -> u
     ensures value { result ≡ link_return first.now second.now table.now out.old }
     ensures out_after { out.new ≡ link_out first.now second.now table.now out.old }
 {
-    let fault = link_fault(first, second, table, out);
-    if fault != 0 {
-        return fault;
+    match link_fault(first, second, table, out) {
+        Ok(()) => {
+            link(out, first, second);
+            0
+        }
+        Err(refusal) => refusal.into(),
     }
-    link(out, first, second);
-    0
 }

@@ -4,6 +4,7 @@ pub mod Sorts
 pub mod Sizes
 pub mod Codes
 pub mod Traps
+pub mod Kinds
 pub mod Bytes
 pub mod Image
 pub mod Statements

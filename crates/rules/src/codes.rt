@@ -1,5 +1,6 @@
 // The numbers that stand in the machine's bytes for a kind, an operator, an entry, an answer or a trap, under the header's words.
 // specs/Codes.antt has the same names.
+// Kept: these are the C header's numbers. Code compares bytes with them; what they stand for is an enum wherever it is handed on.
 
 // Opcodes.
 pub const SKIP: u8 = 1;

@@ -3,6 +3,7 @@
 
 pub mod answer;
 pub mod codes;
+pub mod kinds;
 pub mod layout;
 pub mod limits;
 pub mod sorts;

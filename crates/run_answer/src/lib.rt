@@ -15,9 +15,13 @@ use rules::codes::{
     WAS_CUT,
 };
 use rules::layout::ANSWER_SIZE;
-use rules::sorts::lock_number;
 
-pub fn code_of(a: Answer) -> u8
+// An answer as its code and its detail, both bytes as one number.
+#[derive(Clone, Copy)]
+pub struct AnswerBytes(u16);
+
+#[tactic(auto, unfolding(rules::specs::Answers::code))]
+fn code_of(a: Answer) -> u8
     ensures { result ≡ code a }
 {
     match a {
@@ -34,30 +38,28 @@ pub fn code_of(a: Answer) -> u8
     }
 }
 
-pub fn detail_of(a: Answer) -> u8
+#[tactic(auto, unfolding(rules::specs::Answers::detail))]
+fn detail_of(a: Answer) -> u8
     ensures { result ≡ detail a }
 {
     match a {
-        Answer::Taken => 0,
-        Answer::ListFull => 0,
-        Answer::NoWork => 0,
-        Answer::Waiting(lock) => lock_number(lock),
-        Answer::Started => 0,
-        Answer::Moved => 0,
+        Answer::Waiting(lock) => u8::from(lock),
         Answer::Exited(lost) => lost,
         Answer::Trapped(reason) => reason,
-        Answer::WasCut => 0,
-        Answer::NothingToCut => 0,
+        _ => 0,
     }
 }
 
-// Both bytes as one number. Most steps move on: that arm, a number known beforehand, spares them the others' tests.
-fn number_of(a: Answer) -> u16
-    ensures { le16 result ≡ answer_bytes a }
-{
-    match a {
-        Answer::Moved => join16(MOVED_ON, 0),
-        _ => join16(code_of(a), detail_of(a)),
+impl From<Answer> for AnswerBytes {
+    ghost from_gives = { λ a b. le16 b.0 ≡ answer_bytes a };
+
+    // Most steps move on: that arm, a number known beforehand, spares them the others' tests.
+    #[tactic(auto, unfolding(rules::specs::Answers::code, rules::specs::Answers::detail, rules::specs::Answers::answer_bytes))]
+    fn from(a: Answer) -> Self {
+        match a {
+            Answer::Moved => Self(join16(MOVED_ON, 0)),
+            _ => Self(join16(code_of(a), detail_of(a))),
+        }
     }
 }
 
@@ -66,5 +68,5 @@ pub fn write_answer(answers: &mut [u8], i: usize, a: Answer)
     requires { answer_size * i + answer_size ≤ length answers.old }
     ensures { answers.new ≡ put answers.old (answer_size * i) (answer_bytes a) }
 {
-    put16(answers, ANSWER_SIZE * i, number_of(a));
+    put16(answers, ANSWER_SIZE * i, AnswerBytes::from(a).0);
 }

@@ -10,8 +10,7 @@ ghost use Rattle.step_send_buffered.specs.Arrivals.{EventAt};
 use rules::answer::Answer;
 use rules::codes::{ARRIVAL, STEP};
 use rules::layout::{EVENT_KIND_PLACE, EVENT_SIZE, EVENT_THREAD_PLACE};
-use rules::sorts::thread_of;
-use state_thread::thread::ThreadState;
+use rules::sorts::Thread;
 use state_thread_record::read_thread;
 use step_dispatch::step;
 use step_end::cut_job;
@@ -24,14 +23,15 @@ pub fn event(image: &[u8], table: &[u8], state: &mut [u8], events: &[u8], i: usi
         (event_from (drop (event_size * i) events.now))) state.new result }
 {
     let at = EVENT_SIZE * i;
+    let t = Thread::from(events[at + EVENT_THREAD_PLACE]);
+    // Kept: by the byte, since every event here has a kind, and EventKind::try_from asks again whether it has one.
     let kind = events[at + EVENT_KIND_PLACE];
-    let t = thread_of(events[at + EVENT_THREAD_PLACE]);
     if kind == STEP {
         return step(image, table, state, t);
     }
     if kind == ARRIVAL {
         return arrive(image, table, state, events, i);
     }
-    let w: ThreadState = read_thread(state, t);
+    let w = read_thread(state, t);
     cut_job(image, table, state, t, w)
 }

@@ -23,11 +23,8 @@ pub fn run(image: &[u8], table: &[u8], state: &mut [u8], events: &[u8], space: &
     ensures space_after { space.new ≡ blocks answer_bytes (answers (rules_by image.now table.now)
         (machine_from state.old) (events_from events.now)) }
 {
-    let m = events.len() / EVENT_SIZE;
-    let mut i = 0;
-    while i < m {
+    for i in 0..events.len() / EVENT_SIZE {
         let a = event(image, table, state, events, i);
         write_answer(space, i, a);
-        i += 1;
     }
 }

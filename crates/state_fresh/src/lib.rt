@@ -19,9 +19,7 @@ pub fn fresh(words: &[u8], state: &mut [u8])
 {
     copy(state, 0, words, 0, WORDS_SIZE);
     clear(state, WORDS_SIZE, REST);
-    let mut t = 0;
-    while t < Thread::COUNT {
+    for t in 0..Thread::COUNT {
         put16(state, THREADS_PLACE + THREAD_SIZE * t, Label::IDLE);
-        t += 1;
     }
 }

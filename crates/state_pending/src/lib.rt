@@ -13,7 +13,7 @@ ghost use Rattle.state_pending.specs.Changes.{taken, sent};
 use bytes_fields::read::{get8, get16};
 use bytes_fields::write::{put8, remove};
 use rules::layout::{PENDING_COUNT_PLACE, SIGNAL_SIZE, SIGNALS_PLACE, TREE_SIZE, TREES_PLACE};
-use rules::sorts::{Label, label_of};
+use rules::sorts::Label;
 use state_signal::{Signal, read_signal, write_signal};
 
 // How many there are.
@@ -29,7 +29,7 @@ pub fn oldest_label(state: &[u8], i: usize) -> Label
         × (0 < length (pending_at (machine_from state.now) i)) }
     ensures { result ≡ label (get_or (pending_at (machine_from state.now) i) 0 no_signal).label }
 {
-    label_of(get16(state, TREES_PLACE + TREE_SIZE * i + SIGNALS_PLACE))
+    Label::from(get16(state, TREES_PLACE + TREE_SIZE * i + SIGNALS_PLACE))
 }
 
 pub fn oldest(state: &[u8], i: usize) -> Signal

@@ -42,12 +42,10 @@ impl Registers {
         let given = low(count);
         let mut present = self.present;
         let mut registers = self.values;
-        let mut i = 0;
         // After i turns registers 0 to i - 1 are final, and the others, presence bits too, as they came.
-        while i < Thread::REGISTERS {
+        for i in 0..Thread::REGISTERS {
             registers[i] = values[i];
             present = with_bit(present, given, i);
-            i += 1;
         }
         // Bits 25 to 31 are no register's.
         self.present = present & low(Thread::REGISTERS as u8);

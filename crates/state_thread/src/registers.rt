@@ -1,23 +1,15 @@
 // The registers of a thread, and which of them are present.
-ghost use Rattle.std.specs.Prelude.{◌≡◌, ◌^◌, ◌<◌, ◌≤◌, set, take};
+ghost use Rattle.std.specs.Prelude.{◌≡◌, ◌<◌, ◌≤◌, set, take};
 ghost use Rattle.std.proofs.Math.Option.{some};
-ghost use Rattle.std.specs.Int.Bits.{bit_or};
 ghost use Rattle.rules.specs.Machine.{job};
 ghost use Rattle.rules.specs.Sizes.{register_count};
 ghost use Rattle.state_registers.specs.Filling.{ZerosAfter};
 ghost use Rattle.state_thread.specs.Threads.{Running, Runs, returns_of, registers_of, keeping, filled};
 
 use crate::thread::ThreadState;
+use bytes_lock_set::sets::BitSet;
 use rules::sorts::Thread;
 use state_registers::Registers;
-
-// A presence bit set.
-fn mark(present: u32, register: u16) -> u32
-    requires { register < register_count }
-    ensures { result ≡ bit_or present (2 ^ register) }
-{
-    present | (1u32 << register)
-}
 
 impl ThreadState {
     // Every register is set, with its presence bit: the first of the values in registers 0 upward, the others absent and zero. No bit of
@@ -48,7 +40,7 @@ impl ThreadState {
         let mut registers = self.registers;
         registers[at] = value;
         self.registers = registers;
-        self.present = mark(self.present, register);
+        self.present = self.present.with(at);
         self
     }
 }

@@ -8,12 +8,13 @@ ghost use Rattle.state_thread.specs.Returns.{newest_of, older_of};
 ghost use Rattle.state_thread.specs.Threads.{Idle, Tidy, Running, Runs, returns_of, registers_of, keeping, idle_thread};
 
 use rules::layout::HELD_SIZE;
-use rules::sorts::{Label, Thread, label_number, label_of};
+use rules::sorts::{Label, Thread};
 use state_registers::low;
 
 // At the label 65,535 a thread is idle. Depth is the number of return labels in use; they stand oldest first. Bit r of the presence set
 // is for register r. The signals held for new trees are their count, and their bytes as the record has them. An array is indexed in a local
 // copy of it and never as a field, which would keep the whole value in memory.
+// Kept: the presence set and the registers are two fields, and not one `Registers`: `Tidy`, `idle_thread` and `raw_thread` name them.
 #[derive(Clone, Copy)]
 pub struct ThreadState {
     pub present: u32,
@@ -33,7 +34,7 @@ impl ThreadState {
     {
         Self {
             present: 0,
-            label: label_of(Label::IDLE),
+            label: Label::from(Label::IDLE),
             locks: 0,
             depth: 0,
             returns: [0u16; Thread::RETURNS],
@@ -47,7 +48,7 @@ impl ThreadState {
     pub fn is_idle(self) -> bool
         ensures { result ≡ eqb self.label.0 idle_label }
     {
-        label_number(self.label) == Label::IDLE
+        u16::from(self.label) == Label::IDLE
     }
 
     // An idle thread takes a signal: its values fill registers 0 upward, the others are absent.
@@ -59,6 +60,7 @@ impl ThreadState {
     }
 
     // A direct SEND.
+    // Kept: the values and their count are two parameters: a caller has them apart, and would build a struct for this call alone.
     pub fn enter(mut self, label: Label, values: [u16; Thread::REGISTERS], count: u8) -> Self
         requires { Tidy self × (label.0 < idle_label) × (count ≤ register_count) × ZerosAfter count values }
         ensures { Runs result self.locks (keeping self (job label.0 (returns_of self) (fill (take count values)))) }
@@ -82,7 +84,7 @@ impl ThreadState {
     {
         let next = self.depth;
         let mut returns = self.returns;
-        returns[next] = label_number(back);
+        returns[next] = u16::from(back);
         self.returns = returns;
         self.depth = next + 1;
         self.enter(label, values, count)
@@ -97,7 +99,7 @@ impl ThreadState {
     {
         let newest = self.depth - 1;
         let mut returns = self.returns;
-        let label = label_of(returns[newest]);
+        let label = Label::from(returns[newest]);
         returns[newest] = 0;
         self.returns = returns;
         self.depth = newest;

@@ -111,6 +111,10 @@ pub record HeldThere (b : List ℕ) (t : ℕ) (w : ThreadState) : Type 0 where
   pub count : w.held ≡ held_count_in b t
   pub signals : w.signals ≡ signals_in b t
 
+-- and so are the return labels, and all registers but k, which has the value v
+abbrev pub AllButOne : List ℕ → ℕ → ThreadState → ℕ → ℕ → Type 0
+AllButOne b t w k v = (w.returns ≡ returns_in b t) × (w.registers ≡ set (registers_in b t) k v) × HeldThere b t w
+
 module _ (w : ThreadState) (n : length w.returns ≡ return_count) (m : length w.registers ≡ register_count) (s : List ℕ) (at : ℕ) where
   length-labels : length (label_bytes w) ≡ presence_place
   length-labels = simp length-append (omega (arith, size w.returns))

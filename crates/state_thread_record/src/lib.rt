@@ -1,7 +1,7 @@
 // The thread records: each is read as one value and written as one value.
 #![tactic(auto)]
 
-ghost use Rattle.std.specs.Prelude.{◌≡◌, ◌+◌, ◌*◌, ◌-◌, ◌<◌, ◌≤◌, length, get_or, set, drop};
+ghost use Rattle.std.specs.Prelude.{◌≡◌, ◌+◌, ◌*◌, ◌-◌, ◌<◌, ◌≤◌, length, get_or, drop};
 ghost use Rattle.rules.specs.Sizes.{thread_count, return_count, register_count, held_count, thread_size, presence_place};
 ghost use Rattle.rules.specs.Sizes.{held_count_place, signal_size, state_size};
 ghost use Rattle.bytes_fields.specs.Put.{put};
@@ -9,7 +9,8 @@ ghost use Rattle.rules.specs.Encoding.{signal_bytes};
 ghost use Rattle.lemmas_encoding.specs.Slots.{returns_in, present_in, registers_in, signals_in};
 ghost use Rattle.state_signal.specs.Signals.{signal_of, TidySignal};
 ghost use Rattle.state_thread.specs.Records.{thread_place, raw_thread, raw_bytes};
-ghost use Rattle.state_thread_record.specs.Stores.{head_bytes, label_bytes, register_bytes, held_bytes, HeadThere, HeldThere};
+ghost use Rattle.state_thread_record.specs.Stores.{head_bytes, label_bytes, register_bytes, held_bytes};
+ghost use Rattle.state_thread_record.specs.Stores.{HeadThere, HeldThere, AllButOne};
 
 use bytes_fields::read::{get8, get16, get16s, get32, wide};
 use bytes_fields::write::{copy, put8, put16, put16s, put32};
@@ -17,7 +18,7 @@ use rules::layout::{
     HELD_COUNT_PLACE, HELD_PLACE, HELD_SIZE, LOCKS_PLACE, PRESENCE_PLACE, REGISTERS_PLACE,
     RETURN_COUNT_PLACE, RETURNS_PLACE, SIGNAL_SIZE, THREAD_SIZE, THREADS_PLACE,
 };
-use rules::sorts::{Label, Thread, label_number, label_of, thread_number};
+use rules::sorts::{Label, Thread};
 use state_signal::{Signal, write_signal};
 use state_thread::thread::ThreadState;
 
@@ -26,7 +27,7 @@ fn record_at(t: Thread) -> usize
     requires { t.0 < thread_count }
     ensures { result ≡ thread_place t.0 }
 {
-    THREADS_PLACE + THREAD_SIZE * wide(thread_number(t))
+    THREADS_PLACE + THREAD_SIZE * wide(u8::from(t))
 }
 
 pub fn read_thread(state: &[u8], t: Thread) -> ThreadState
@@ -42,7 +43,7 @@ pub fn read_thread(state: &[u8], t: Thread) -> ThreadState
     copy(&mut signals, 0, state, at + HELD_PLACE, HELD_SIZE);
     ThreadState {
         present: get32(state, at + PRESENCE_PLACE),
-        label: label_of(get16(state, at)),
+        label: Label::from(get16(state, at)),
         locks: get16(state, at + LOCKS_PLACE),
         depth: get8(state, at + RETURN_COUNT_PLACE),
         returns: returns,
@@ -57,7 +58,7 @@ pub fn read_label(state: &[u8], t: Thread) -> Label
     requires { (length state.now ≡ state_size) × (t.0 < thread_count) }
     ensures { result ≡ (raw_thread (drop (thread_place t.0) state.now)).label }
 {
-    label_of(get16(state, record_at(t)))
+    Label::from(get16(state, record_at(t)))
 }
 
 // How many signals a thread's record holds, read by itself.
@@ -84,7 +85,7 @@ fn write_head(s: &mut [u8], at: usize, w: ThreadState)
     requires { (at + thread_size ≤ length s.old) × (w.depth ≤ return_count) }
     ensures { s.new ≡ put s.old at (head_bytes w) }
 {
-    put16(s, at, label_number(w.label));
+    put16(s, at, u16::from(w.label));
     put16(s, at + LOCKS_PLACE, w.locks);
     put8(s, at + RETURN_COUNT_PLACE, w.depth as u8);
 }
@@ -121,6 +122,7 @@ fn write_held(s: &mut [u8], at: usize, w: ThreadState)
 
 // The thread comes back, whole. Of a thread that runs on, what is as it was read is not stored: the compiler sees that it comes from where
 // it goes. So this comes before any other store to the state; an end, whose stores are constants, comes last.
+// Kept: five writers and not one: each leaves out stores of what a statement has not changed, which its speed needs.
 pub fn write_thread(state: &mut [u8], t: Thread, w: ThreadState)
     requires { (length state.old ≡ state_size) × (t.0 < thread_count) × (w.depth ≤ return_count) × (w.held ≤ held_count) }
     ensures { state.new ≡ put state.old (thread_place t.0) (raw_bytes w) }
@@ -135,9 +137,7 @@ pub fn write_thread(state: &mut [u8], t: Thread, w: ThreadState)
 // written.
 pub fn write_register(state: &mut [u8], t: Thread, w: ThreadState, register: u16, value: u16)
     requires { (length state.old ≡ state_size) × (t.0 < thread_count) × (register < register_count)
-        × HeadThere state.old t.0 w
-        × (w.returns ≡ returns_in state.old t.0) × (w.registers ≡ set (registers_in state.old t.0) register value)
-        × HeldThere state.old t.0 w }
+        × HeadThere state.old t.0 w × AllButOne state.old t.0 w register value }
     ensures { state.new ≡ put state.old (thread_place t.0) (raw_bytes w) }
 {
     let at = record_at(t);
@@ -148,8 +148,7 @@ pub fn write_register(state: &mut [u8], t: Thread, w: ThreadState, register: u16
 // The same where the return labels, the signals held, and all registers but one, are as the record has them: they are not written.
 pub fn write_assigned(state: &mut [u8], t: Thread, w: ThreadState, register: u16, value: u16)
     requires { (length state.old ≡ state_size) × (t.0 < thread_count) × (w.depth ≤ return_count) × (register < register_count)
-        × (w.returns ≡ returns_in state.old t.0) × (w.registers ≡ set (registers_in state.old t.0) register value)
-        × HeldThere state.old t.0 w }
+        × AllButOne state.old t.0 w register value }
     ensures { state.new ≡ put state.old (thread_place t.0) (raw_bytes w) }
 {
     let at = record_at(t);

@@ -1,12 +1,14 @@
 // The list of trees: its count, a thread's first tree, a tree that comes, and a tree that leaves or goes to the end.
-ghost use Rattle.std.specs.Prelude.{◌≡◌, true, [], ◌∷◌, ◌++◌, ℕ, ◌+◌, ◌*◌, ◌<◌, ◌≤◌, length, drop};
+ghost use Rattle.std.specs.Prelude.{◌≡◌, true, [], ◌∷◌, ◌++◌, ℕ, ◌+◌, ◌*◌, ◌<◌, ◌≤◌, length, drop, replicate};
 ghost use Rattle.rules.specs.Sizes.{tree_count, tree_size, tree_count_place, trees_place, signal_size, state_size};
+ghost use Rattle.rules.specs.Bytes.{part};
 ghost use Rattle.rules.specs.Machine.{tree_threads};
 ghost use Rattle.rules.specs.Encoding.{signal_bytes, signal_from, tree_bytes, machine_from};
 ghost use Rattle.rules.specs.WellFormed.{signal_tidy};
 ghost use Rattle.rules.specs.Steps.{room_for};
 ghost use Rattle.bytes_fields.specs.Put.{put};
 ghost use Rattle.bytes_fields.specs.Filled.{remove_at};
+ghost use Rattle.bytes_fields.specs.Found.{found_below};
 ghost use Rattle.lemmas_encoding.specs.FirstTree.{first_tree};
 ghost use Rattle.lemmas_encoding.specs.SignalStores.{moved};
 ghost use Rattle.lemmas_encoding.specs.TreeStores.{with_trees};
@@ -15,10 +17,10 @@ ghost use Rattle.state_pending.specs.Canon.{Canon, tree_at};
 ghost use Rattle.state_trees.specs.Changes.{arrived, ended};
 
 use bytes_fields::read::get8;
-use bytes_fields::write::{copy, put8, remove};
+use bytes_fields::write::{clear, copy, put8};
 use rules::layout::{PENDING_COUNT_PLACE, SIGNALS_PLACE, TREE_COUNT_PLACE, TREE_SIZE, TREES_PLACE};
 use rules::limits::Tree;
-use rules::sorts::{Thread, thread_number};
+use rules::sorts::Thread;
 use state_pending::pending;
 use state_signal::{Signal, read_signal, write_signal};
 
@@ -37,21 +39,20 @@ pub fn room(state: &[u8], t: Thread) -> bool
     tree_count(state) < Tree::COUNT
 }
 
-// The place of the first tree on a thread, or the number of trees where there is none.
-pub fn first_tree(state: &[u8], t: Thread) -> usize
+// The place of the first tree on a thread, if there is one.
+pub fn first_tree(state: &[u8], t: Thread) -> Option<usize>
     requires { Canon state.now }
-    ensures { result ≡ first_tree t.0 (machine_from state.now).trees }
+    ensures { result ≡ found_below (length (machine_from state.now).trees)
+        (first_tree t.0 (machine_from state.now).trees) }
 {
-    let thread = thread_number(t);
-    let n = get8(state, TREE_COUNT_PLACE);
-    let mut i = 0;
-    while i < n {
+    let thread = u8::from(t);
+    let n = tree_count(state);
+    for i in 0..n {
         if state[TREES_PLACE + TREE_SIZE * i] == thread {
-            return i;
+            return Some(i);
         }
-        i += 1;
     }
-    i
+    None
 }
 
 // A tree on thread t with the one signal g, at a place that is free.
@@ -59,7 +60,7 @@ fn write_tree(s: &mut [u8], at: usize, t: Thread, g: Signal)
     requires { (at + tree_size ≤ length s.old) × TidySignal g }
     ensures { s.new ≡ put s.old at (t.0 ∷ 1 ∷ signal_bytes (signal_of g)) }
 {
-    put8(s, at, thread_number(t));
+    put8(s, at, u8::from(t));
     put8(s, at + PENDING_COUNT_PLACE, 1);
     write_signal(s, at + SIGNALS_PLACE, g);
 }
@@ -86,6 +87,18 @@ pub fn append(state: &mut [u8], t: Thread, bytes: &[u8], at: usize)
     append_tree(state, t, read_signal(bytes, at));
 }
 
+// As `bytes_fields::write::remove`.
+// Kept: a loop, of which the compiler makes one call of the C library: by `copy_within` the trees behind were moved 32 bytes a turn.
+fn remove_bytes(s: &mut [u8], at: usize, n: usize, more: usize)
+    requires { at + n + more ≤ length s.old }
+    ensures { s.new ≡ put s.old at (part s.old (at + n) more ++ replicate n 0) }
+{
+    for k in 0..more {
+        s[at + k] = s[at + n + k];
+    }
+    clear(s, at + more, n);
+}
+
 // Tree i of n leaves the list: the later ones move down, and zeros fill the last one's place.
 fn remove_tree(state: &mut [u8], i: usize, n: usize)
     requires { Canon state.old × (i < length (machine_from state.old).trees) × (n ≡ length (machine_from state.old).trees) }
@@ -93,7 +106,7 @@ fn remove_tree(state: &mut [u8], i: usize, n: usize)
     ensures state_after { machine_from state.new ≡ with_trees (machine_from state.old)
         (remove_at i (machine_from state.old).trees) }
 {
-    remove(
+    remove_bytes(
         state,
         TREES_PLACE + TREE_SIZE * i,
         TREE_SIZE,
@@ -146,7 +159,7 @@ fn requeue(state: &mut [u8], i: usize, n: usize, t: Thread)
         (remove_at i (machine_from state.old).trees ++ moved (tree_at (machine_from state.old) i) t.0 ∷ []) }
 {
     move_to_end(state, i, n);
-    put8(state, TREES_PLACE + TREE_SIZE * (n - 1), thread_number(t));
+    put8(state, TREES_PLACE + TREE_SIZE * (n - 1), u8::from(t));
 }
 
 // The tree of an ended job: one with nothing pending leaves the list, any other goes to the list's end, on thread t.

@@ -4,14 +4,14 @@
 ghost use Rattle.std.specs.Prelude.{◌≡◌};
 ghost use Rattle.rules.specs.Statements.{statement_of};
 ghost use Rattle.rules.specs.declared.statement.Statement.TheVariants.{Assign};
-ghost use Rattle.step_contract.specs.Ready.{Stepped};
+ghost use Rattle.step_contract.specs.Ready.{Attempted};
 ghost use Rattle.step_contract.specs.At.{At};
 
 use rules::answer::Answer;
 use rules::sorts::Thread;
 use rules::statement::Assignment;
+use rules::trap::Trap;
 use state_thread::thread::ThreadState;
-use step_end::trapped;
 use step_results::results_of;
 use step_store::store_results;
 
@@ -23,14 +23,11 @@ pub fn assign(
     w: ThreadState,
     r: &[u8],
     a: Assignment,
-) -> Answer
+) -> Result<Answer, Trap>
     requires { At image.now table.now state.old t.0 w r.now × (statement_of r.now ≡ Assign a) }
-    ensures { Stepped image.now table.now state.old t.0 state.new result }
+    ensures { Attempted image.now table.now state.old t.0 state.new result }
 {
-    let results = results_of(state, t, w, r, a);
-    if results.trap != 0 {
-        return trapped(image, table, state, t, w, results.trap);
-    }
+    let results = results_of(state, t, w, r, a)?;
     store_results(
         image,
         table,
@@ -42,5 +39,5 @@ pub fn assign(
         results.first,
         results.second,
     );
-    Answer::Moved
+    Ok(Answer::Moved)
 }

@@ -17,7 +17,7 @@ ghost use Rattle.step_end.specs.Home.{HomeOf, settled};
 use image_record::records::block_at;
 use image_table::thread_at;
 use rules::answer::Answer;
-use rules::sorts::{Thread, thread_of};
+use rules::sorts::Thread;
 use state_pending::{oldest_label, pending};
 use state_thread::thread::ThreadState;
 use state_thread_record::{write_thread, write_without_held};
@@ -29,7 +29,7 @@ fn home(image: &[u8], table: &[u8], state: &[u8], i: usize) -> Thread
     ensures { HomeOf image.now table.now (pending_at (machine_from state.now) i) result.0 }
 {
     if pending(state, i) == 0 {
-        return thread_of(0);
+        return Thread::from(0);
     }
     thread_at(table, block_at(image, oldest_label(state, i)))
 }
@@ -40,7 +40,7 @@ pub fn settle(image: &[u8], table: &[u8], state: &mut [u8], t: Thread)
     ensures { Encodes state.new
         (settled image.now table.now t.0 (machine_from state.old)) }
 {
-    let i = first_tree(state, t);
+    let i = first_tree(state, t).unwrap();
     let to = home(image, table, state, i);
     end_tree(state, i, to);
 }

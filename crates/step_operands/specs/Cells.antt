@@ -1,6 +1,6 @@
 -- What a statement reads from: a thread's registers, by their presence set and values, and the words of a block in the state's bytes.
 use Rattle.std.specs.Prelude.{◌≡◌, refl, true, false, List, ℕ, ◌+◌, ◌*◌, ◌<◌, get_or, drop}
-use Rattle.std.proofs.Common.{◌∙◌, zero-add, arith}
+use Rattle.std.proofs.Common.{sym, ◌∙◌, zero-add, arith}
 use Rattle.std.proofs.Math.Option.{none}
 use Rattle.rules.specs.Sizes.{block_count, word_count, register_count}
 use Rattle.rules.specs.Codes.{absent_register_code}
@@ -8,9 +8,11 @@ use Rattle.rules.specs.Bytes.{num16, has}
 use Rattle.rules.specs.Image.{block_field}
 use Rattle.rules.specs.Machine.{window}
 use Rattle.rules.specs.Encoding.{register_of, registers_from, words_from}
-use Rattle.rules.specs.Effects.{Cells, read, trap, got}
+use Rattle.rules.specs.Effects.{Got, Cells, read, trap, got}
+use Rattle.rules.specs.declared.statement.Operand.{Operand}
 use Rattle.rules.specs.declared.statement.Operand.TheVariants.{Register}
 use Rattle.lemmas_encoding.specs.Registers.{register-at}
+use Rattle.lemmas_encoding.specs.Slots.{registers_in}
 use Rattle.lemmas_encoding.specs.Runs.{chunks-at}
 use Rattle.state_thread.specs.declared.thread.ThreadState.{ThreadState}
 use Rattle.state_shared.specs.Words.{word_place}
@@ -45,3 +47,9 @@ module _ (state : List ℕ) (block present : ℕ) (registers : List ℕ) where
   pub register-absent : (r : ℕ) → r < register_count → has r present ≡ false
       → read (cells_from state block present registers) (Register r) ≡ trap absent_register_code
   register-absent r h e = rw (register-is r h, e) refl
+
+-- what is read from the registers of the thread's record is read from what the statement reads from
+pub read-here : (state : List ℕ) (w : ThreadState) (r : List ℕ) (t : ℕ) (p : Operand) {block : ℕ} {g h : Got ℕ}
+    → block ≡ block_field r → w.registers ≡ registers_in state t
+    → g ≡ read (cells_from state block w.present (registers_in state t)) p → g ≡ h → read (cells_of state w r) p ≡ h
+read-here state w r t p b e f k = sym (rw (b, ← e) at f) ∙ k

@@ -1,5 +1,5 @@
 -- Operands read one after the other, left to right: what was read, and what is left to be read.
-use Rattle.std.specs.Prelude.{◌≡◌, length, drop, set, replicate}
+use Rattle.std.specs.Prelude.{◌≡◌, length, drop, set, replicate, Ok}
 use Rattle.std.proofs.Math.Path.{refl}
 use Rattle.std.proofs.Common.{sym, ap, ◌∙◌, take-append-drop, take-suc-set, drop-drop, drop-set-lt, length-take-le}
 use mathlib.Core.List.{List, [], ◌∷◌, ◌++◌, append_assoc, append-nil}
@@ -77,9 +77,8 @@ zeros-behind (suc n) zero h = absurd (omega arith)
 zeros-behind (suc n) (suc k) h = let e : k - n ≡ suc k - suc n = omega arith in zeros-behind n k (omega arith) ∙ ap (λ m. replicate m 0) e
 
 -- where zeros stood before, zeros stand behind the values
-pub zeros-stay : {g : Got (List ℕ)} {reason n : ℕ} {vs : List ℕ} → Reads g reason n (replicate operand_count 0) vs → reason ≡ 0
-    → ZerosAfter n vs
-zeros-stay {g} {reason} {n} {vs} h z =
+pub zeros-stay : {g : Got (List ℕ)} {n : ℕ} {vs : List ℕ} → Reads g (Ok tt) n (replicate operand_count 0) vs → ZerosAfter n vs
+zeros-stay {g} {n} {vs} h =
     let k : length (take n vs) ≡ n = length-take-le n vs (omega (arith, h.sized, h.few)) in
-    let u : drop n vs ≡ replicate (operand_count - n) 0 = h.rest z ∙ zeros-behind n operand_count h.few in
+    let u : drop n vs ≡ replicate (operand_count - n) 0 = h.rest refl ∙ zeros-behind n operand_count h.few in
     pad-split 0 operand_count (take n vs) (omega (arith, h.few)) ∙ rw (k, ← u) (take-append-drop n vs)

@@ -11,7 +11,7 @@ use image_record::records::block_at;
 use image_table::thread_at;
 use rules::answer::Answer;
 use rules::layout::{EVENT_SIGNAL_PLACE, EVENT_SIZE};
-use rules::sorts::label_of;
+use rules::sorts::Label;
 use state_trees::list::{append, room};
 
 // The arrival at an index of the events.
@@ -22,7 +22,7 @@ pub fn arrive(image: &[u8], table: &[u8], state: &mut [u8], events: &[u8], i: us
         (event_from (drop (event_size * i) events.now))) state.new result }
 {
     let at = EVENT_SIZE * i + EVENT_SIGNAL_PLACE;
-    let t = thread_at(table, block_at(image, label_of(get16(events, at))));
+    let t = thread_at(table, block_at(image, Label::from(get16(events, at))));
     if room(state, t) {
         append(state, t, events, at);
         return Answer::Taken;

@@ -6,17 +6,16 @@ ghost use Rattle.rules.specs.Sizes.{held_count};
 ghost use Rattle.rules.specs.Statements.{statement_of};
 ghost use Rattle.rules.specs.declared.statement.Statement.TheVariants.{SendTree};
 ghost use Rattle.step_operands.specs.Readings.{Given};
-ghost use Rattle.step_contract.specs.Ready.{Stepped};
+ghost use Rattle.step_contract.specs.Ready.{Stepped, Attempted};
 ghost use Rattle.step_contract.specs.At.{At};
 
 use image_record::record_fields::{label_a, label_b, operand_count};
 use rules::answer::Answer;
-use rules::codes::HELD_FULL;
 use rules::sorts::Thread;
+use rules::trap::Trap;
 use state_signal::Signal;
 use state_thread::thread::ThreadState;
 use state_thread_record::write_held_signal;
-use step_end::trapped;
 use step_operands::read_data;
 
 // The data have been read, and the job holds fewer than four signals.
@@ -52,17 +51,14 @@ pub fn send_tree(
     t: Thread,
     w: ThreadState,
     r: &[u8],
-) -> Answer
+) -> Result<Answer, Trap>
     requires { At image.now table.now state.old t.0 w r.now × (statement_of r.now ≡ SendTree) }
-    ensures { Stepped image.now table.now state.old t.0 state.new result }
+    ensures { Attempted image.now table.now state.old t.0 state.new result }
 {
     let mut values = [0u16; Thread::REGISTERS];
-    let trap = read_data(state, t, w, r, &mut values);
-    if trap != 0 {
-        return trapped(image, table, state, t, w, trap);
-    }
+    read_data(state, t, w, r, &mut values)?;
     if Thread::HELD <= w.held {
-        return trapped(image, table, state, t, w, HELD_FULL);
+        return Err(Trap::HeldFull);
     }
-    hold_for_tree(image, table, state, t, w, r, values)
+    Ok(hold_for_tree(image, table, state, t, w, r, values))
 }

@@ -1,5 +1,5 @@
 -- What a step of an idle thread comes to.
-use Rattle.std.specs.Prelude.{◌≡◌, refl, true, false, List, [], ◌∷◌, ℕ, ◌≤◌, ◌<◌, ◌^◌, length, get_or, drop, set}
+use Rattle.std.specs.Prelude.{◌≡◌, refl, true, false, List, [], ◌∷◌, ℕ, ◌≤◌, ◌<◌, ◌^◌, length, get_or, drop, set, Option, Some, None}
 use Rattle.std.proofs.Common.{sym, ap, ◌∙◌, subst, arith, drop-cons, lt-ltb, le-ltb}
 use Rattle.std.proofs.Math.Option.{none, some}
 use Rattle.std.specs.Int.Bits.{bit_or}
@@ -17,6 +17,7 @@ use Rattle.rules.specs.declared.sorts.Lock.{Lock}
 use Rattle.rules.specs.declared.sorts.Thread.{Thread}
 use Rattle.rules.specs.declared.answer.Answer.TheVariants.{NoWork, Waiting, Started}
 use Rattle.bytes_fields.specs.Each.{Each}
+use Rattle.bytes_fields.specs.Found.{found_below, found-is}
 use Rattle.lemmas_encoding.specs.Encoded.{Encodes, Canonical, encoded-machine, encoded-canonical}
 use Rattle.lemmas_encoding.specs.FirstTree.{first_tree, first_some}
 use Rattle.lemmas_rules.specs.Passed.{passed}
@@ -35,7 +36,7 @@ use Rattle.step_contract.specs.Ready.{Ready, Recorded, reply_to, Stepped, done, 
 use Rattle.step_end.specs.Home.{oldest-below}
 use Rattle.step_hold.specs.Holding.{holding, holding-as}
 use Rattle.step_start.specs.declared.First.{First}
-use Rattle.step_start.specs.declared.First.TheVariants.{Nothing, Wait, Go}
+use Rattle.step_start.specs.declared.First.TheVariants.{Wait, Go}
 
 -- the oldest signal of tree i
 abbrev pub oldest_at : Machine → ℕ → Signal
@@ -49,10 +50,10 @@ pub record FirstIs (image table : List ℕ) (s : Machine) (t i : ℕ) (l : Lock)
   pub lock : l ≡ Sorts.lock (row_at table (block_at image (oldest_at s i).label)).lock
   pub small : l.0 < lock_count
 
-abbrev pub FirstOf : List ℕ → List ℕ → Machine → ℕ → First → Type 0
-FirstOf image table s t Nothing = first t s.trees ≡ none
-FirstOf image table s t (Wait l u) = (i : ℕ) × FirstIs image table s t i l × HeldBy l.0 (set s.threads t idle) u
-FirstOf image table s t (Go i l) = FirstIs image table s t i l × (held l.0 (set s.threads t idle) ≡ false)
+abbrev pub FirstOf : List ℕ → List ℕ → Machine → ℕ → Option First → Type 0
+FirstOf image table s t None = first t s.trees ≡ none
+FirstOf image table s t (Some (Wait l u)) = (i : ℕ) × FirstIs image table s t i l × HeldBy l.0 (set s.threads t idle) u
+FirstOf image table s t (Some (Go i l)) = FirstIs image table s t i l × (held l.0 (set s.threads t idle) ≡ false)
 
 -- an idle thread, which is w, can take the oldest signal of tree i of the bytes b
 pub record CanTake (b : List ℕ) (w : ThreadState) (i : ℕ) : Type 0 where
@@ -104,6 +105,11 @@ module _ {image table b : List ℕ} (h : Ready image table b) (t : ℕ) (rests :
           let e : x.pending ≡ pending_at s i = cc in
           rw e at (homed-some image table x k.0)
 
+  -- the place that the search for the first tree answers
+  pub found-pending : (i : ℕ) → Some i ≡ found_below (length s.trees) (first_tree t s.trees)
+      → (i ≡ first_tree t s.trees) × (i < length s.trees) × (0 < length (pending_at s i))
+  found-pending i e = let p = found-is _ _ e in (p.0, p.1, idle-pending i p.0 p.1)
+
   -- the first tree, by its place and the label of its oldest signal
   pub first-is : (i : ℕ) (l : Lock) → i ≡ first_tree t s.trees → i < length s.trees
       → l ≡ Sorts.lock (row_at table (block_at image (oldest_at s i).label)).lock → FirstIs image table s t i l
@@ -120,14 +126,14 @@ module _ {image table b : List ℕ} (h : Ready image table b) (t : ℕ) (rests :
 
   -- by the search for another thread that holds the lock: it finds u, or none
   module _ {i : ℕ} {l : Lock} (k : FirstIs image table s t i l) (x : ℕ) (e : x ≡ holder l.0 (set s.threads t idle)) where
-    pub first-waits : (u : Thread) → x < thread_count → u ≡ Sorts.thread x → FirstOf image table s t (Wait l u)
+    pub first-waits : (u : Thread) → x < thread_count → u ≡ Sorts.thread x → FirstOf image table s t (Some (Wait l u))
     first-waits u z f = (
       i,
       k,
       (held-by-other s h.canonical.sized.threads l.0 t ∙ lt-ltb _ thread_count (rw e at z), f ∙ ap Sorts.thread e),
     )
 
-    pub first_goes : thread_count ≤ x → FirstOf image table s t (Go i l)
+    pub first_goes : thread_count ≤ x → FirstOf image table s t (Some (Go i l))
     first_goes z = (k, held-by-other s h.canonical.sized.threads l.0 t ∙ le-ltb _ thread_count (rw e at z))
 
   -- ---- what its step comes to
@@ -149,22 +155,22 @@ module _ {image table b : List ℕ} (h : Ready image table b) (t : ℕ) (rests :
         (rw k.lock at e))
 
   -- by the first signal that is found
-  module _ {f : First} (k : FirstOf image table s t f) where
-    found_as : (g : First) → f ≡ g → FirstOf image table s t g
+  module _ {f : Option First} (k : FirstOf image table s t f) where
+    found_as : (g : Option First) → f ≡ g → FirstOf image table s t g
     found_as g e = subst (FirstOf image table s t) e k
 
-    pub rests-on : f ≡ Nothing → Stepped image table b t b NoWork
-    rests-on e = done s NoWork (no-tree (rules_by image table) s t rests (found_as Nothing e)) refl h.canonical
+    pub rests-on : f ≡ None → Stepped image table b t b NoWork
+    rests-on e = done s NoWork (no-tree (rules_by image table) s t rests (found_as None e)) refl h.canonical
 
-    pub waits-on : (l : Lock) (u : Thread) → f ≡ Wait l u → Stepped image table b t b (Waiting l)
-    waits-on l u e = let q = found_as (Wait l u) e in done s (Waiting l) (start-waiting q.1 q.2.0) refl h.canonical
+    pub waits-on : (l : Lock) (u : Thread) → f ≡ Some (Wait l u) → Stepped image table b t b (Waiting l)
+    waits-on l u e = let q = found_as (Some (Wait l u)) e in done s (Waiting l) (start-waiting q.1 q.2.0) refl h.canonical
 
-    pub begins-on : (i : ℕ) (l : Lock) {b' : List ℕ} → f ≡ Go i l → Encodes b' (begun s t i l) → Stepped image table b t b' Started
-    begins-on i l e z = let q = found_as (Go i l) e in done (begun s t i l) Started (start-running q.0 q.1) refl z
+    pub begins-on : (i : ℕ) (l : Lock) {b' : List ℕ} → f ≡ Some (Go i l) → Encodes b' (begun s t i l) → Stepped image table b t b' Started
+    begins-on i l e z = let q = found_as (Some (Go i l)) e in done (begun s t i l) Started (start-running q.0 q.1) refl z
 
-    pub can-begin : (i : ℕ) (l : Lock) {w : ThreadState} → f ≡ Go i l → t < thread_count → Recorded b t w → CanBegin b t w i l
+    pub can-begin : (i : ℕ) (l : Lock) {w : ThreadState} → f ≡ Some (Go i l) → t < thread_count → Recorded b t w → CanBegin b t w i l
     can-begin i l e inside read =
-        let q = (found_as (Go i l) e).0 in
+        let q = (found_as (Some (Go i l)) e).0 in
         record {
           signal = record {
             canonical = h.canonical;

@@ -14,38 +14,33 @@ ghost use Rattle.step_start.specs.Starting.{FirstOf, oldest_at, CanTake, CanBegi
 use image_record::records::block_at;
 use image_table::lock_at;
 use rules::answer::Answer;
-use rules::sorts::{Lock, Thread, thread_of};
+use rules::sorts::{Lock, Thread};
 use state_pending::{oldest, oldest_label, take_oldest};
 use state_shared::locks::other_holder;
 use state_signal::Signal;
 use state_thread::thread::ThreadState;
-use state_trees::list::{first_tree, tree_count};
+use state_trees::list::first_tree;
 use step_hold::write_holding;
 
-// The oldest signal of an idle thread's first tree: there is no tree; the lock that the signal asks for, with the other thread that holds
-// it; or the tree, by its place in the list, with that lock.
+// The oldest signal of an idle thread's first tree: the lock that it asks for, with the other thread that holds it; or the tree, by its
+// place in the list, with that lock.
 #[derive(Clone, Copy)]
 pub enum First {
-    Nothing,
     Wait(Lock, Thread),
     Go(usize, Lock),
 }
 
-// Asked by the step and by the walk; nothing is changed.
-pub fn first_signal(image: &[u8], table: &[u8], state: &[u8], t: Thread) -> First
+// Asked by the step and by the walk; nothing is changed. None where the thread has no tree.
+pub fn first_signal(image: &[u8], table: &[u8], state: &[u8], t: Thread) -> Option<First>
     requires { Ready image.now table.now state.now × (thread_at (machine_from state.now) t.0 ≡ idle) }
     ensures { FirstOf image.now table.now (machine_from state.now) t.0 result }
 {
-    let i = first_tree(state, t);
-    if tree_count(state) <= i {
-        return First::Nothing;
-    }
+    let i = first_tree(state, t)?;
     let lock = lock_at(table, block_at(image, oldest_label(state, i)));
-    let holder = other_holder(state, lock, t);
-    if holder < Thread::COUNT {
-        return First::Wait(lock, thread_of(holder as u8));
+    match other_holder(state, lock, t) {
+        Some(holder) => Some(First::Wait(lock, holder)),
+        None => Some(First::Go(i, lock)),
     }
-    First::Go(i, lock)
 }
 
 // The thread that the oldest signal of tree i makes of w, which is idle: it takes the signal's label, and the values fill registers 0
@@ -75,9 +70,9 @@ pub fn start(image: &[u8], table: &[u8], state: &mut [u8], t: Thread, w: ThreadS
     ensures { Stepped image.now table.now state.old t.0 state.new result }
 {
     match first_signal(image, table, state, t) {
-        First::Nothing => Answer::NoWork,
-        First::Wait(lock, _) => Answer::Waiting(lock),
-        First::Go(i, lock) => {
+        None => Answer::NoWork,
+        Some(First::Wait(lock, _)) => Answer::Waiting(lock),
+        Some(First::Go(i, lock)) => {
             begin_job(state, t, w, i, lock);
             Answer::Started
         }

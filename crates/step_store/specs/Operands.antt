@@ -69,6 +69,19 @@ module _ {image table b : List ℕ} {t : ℕ} {w : ThreadState} {r : List ℕ} (
     unfolding assignment_by operand_at
     first-at k v p q = rw (p, q) (ap (λ (z : Assignment). z.first) (assigns h.parts a e).1, first-lands h.parts a e)
 
+    pub first-register : (k v : ℕ) → k ≡ kind r 0 → v ≡ value r 0 → k ≡ register_operand_code
+        → (a.first ≡ Register v) × (v < register_count)
+    first-register k v p q e =
+        let d = first-at k v p q in
+        let l = register-lands k v e d.1 in
+        (d.0 ∙ l.0, l.1)
+
+    pub first-word : (k v : ℕ) → k ≡ kind r 0 → v ≡ value r 0 → (k ≡ register_operand_code → ⊥) → (a.first ≡ Word v) × (v < word_count)
+    first-word k v p q n =
+        let d = first-at k v p q in
+        let l = word-lands k v n d.1 in
+        (d.0 ∙ l.0, l.1)
+
     pub second_at : (k v : ℕ) → k ≡ kind r 1 → v ≡ value r 1 → (shape a.operation).second ≡ true
         → (a.second ≡ operand_of k v) × Lands (operand_of k v)
     unfolding assignment_by optional operand_at

@@ -1,106 +1,93 @@
 // What a line says of a call: the return value, and the lent bytes after it. A refused call leaves every byte as handed.
-use crate::calls::{check, fresh, link, run, walk};
+use crate::buffers::Buffers;
 use crate::cases::case_agrees;
-use crate::marks::{eight, hash, shows};
-use crate::memory::{ANSWERS, Lengths, MET, Memory, PART, Part, STATE, bytes, copy, same};
-use crate::text::{after, begins, named, number};
+use crate::lines::{Call, Line};
+use crate::marks::{hash, is_eight};
+use crate::words::value;
+use std::alloc::{AllocError, Global};
 
-// Whether `line` says `returned` after its `=>`.
-fn says(line: &[u8], returned: u32) -> bool {
-    number(line, after(line, named(line, b"=>"), b' ')) == returned as usize
-}
-
-// Whether the first `n` bytes of `part` have the hash that the word of the line says that begins with `name`.
-fn hashes(line: &[u8], name: &[u8], part: &Part, n: usize) -> bool {
-    shows(line, after(line, named(line, name), b'='), hash(part, n), 8)
-}
-
-// Whether `part` is what a buffer has to be after the call: as handed if it was refused, otherwise with the hash that the line says.
-fn leaves(line: &[u8], name: &[u8], handed: &[u8], refused: bool, part: &Part) -> bool {
-    if refused {
-        return same(handed, part);
+impl Line<'_> {
+    // Whether the line says `returned` after its `=>`.
+    fn says(self, returned: u32) -> bool {
+        match self.claims.split_whitespace().next() {
+            Some(number) => number.parse() == Ok(returned),
+            None => false,
+        }
     }
-    hashes(line, name, part, handed.len())
-}
 
-fn fresh_agrees(line: &[u8], memory: &Memory, lengths: &Lengths) -> bool {
-    let mut state = copy(memory, lengths, STATE);
-    let returned = fresh(memory, lengths, &mut state);
-    says(line, returned)
-        & leaves(
-            line,
-            b"state=",
-            bytes(memory, lengths, STATE),
-            returned != 0,
-            &state,
+    // Whether the line says the hash of `bytes` behind `name`.
+    fn hashes(self, name: &str, bytes: &[u8]) -> bool {
+        match value(self.claims, name) {
+            Some(digits) => u32::from_str_radix(digits, 16) == Ok(hash(bytes)),
+            None => false,
+        }
+    }
+
+    // Whether `left` is what a buffer has to be after the call: as handed if it was refused, otherwise with the hash that the line says.
+    fn leaves(self, name: &str, refused: bool, handed: &[u8], left: &[u8]) -> bool {
+        if refused {
+            left == handed
+        } else {
+            self.hashes(name, left)
+        }
+    }
+
+    fn fresh_agrees(self, buffers: &Buffers) -> Result<bool, AllocError> {
+        let mut state = buffers.state.clone()?;
+        let returned = buffers.fresh(state.as_mut_slice());
+        Ok(self.says(returned) && self.leaves("state=", returned != 0, &buffers.state, &state))
+    }
+
+    fn run_agrees(self, buffers: &Buffers) -> Result<bool, AllocError> {
+        let mut state = buffers.state.clone()?;
+        let mut answers = buffers.answers.clone()?;
+        let returned = buffers.run(state.as_mut_slice(), answers.as_mut_slice());
+        let refused = returned != 0;
+        Ok(
+            self.says(returned)
+                && self.leaves("state=", refused, &buffers.state, &state)
+                && self.leaves("answers=", refused, &buffers.answers, &answers),
         )
-}
+    }
 
-fn run_agrees(line: &[u8], memory: &Memory, lengths: &Lengths) -> bool {
-    let mut state = copy(memory, lengths, STATE);
-    let mut answers = copy(memory, lengths, ANSWERS);
-    let returned = run(memory, lengths, &mut state, &mut answers);
-    says(line, returned)
-        & leaves(
-            line,
-            b"state=",
-            bytes(memory, lengths, STATE),
-            returned != 0,
-            &state,
-        )
-        & leaves(
-            line,
-            b"answers=",
-            bytes(memory, lengths, ANSWERS),
-            returned != 0,
-            &answers,
-        )
-}
+    // A line that names no thread is of thread 0.
+    fn walk_agrees(self, buffers: &Buffers) -> Result<bool, AllocError> {
+        let mut met = buffers.met.clone()?;
+        let thread = value(self.words, "thread=").unwrap_or("0").parse();
+        let Ok(thread) = thread else {
+            return Ok(false);
+        };
+        let returned = buffers.walk(thread, met.as_mut_slice());
+        let leaves = if 65535 < returned {
+            met == buffers.met
+        } else {
+            value(self.claims, "met=").is_some_and(|digits| is_eight(digits, &met))
+        };
+        Ok(self.says(returned) && leaves)
+    }
 
-fn walk_agrees(line: &[u8], memory: &Memory, lengths: &Lengths) -> bool {
-    let mut met = copy(memory, lengths, MET);
-    let thread = number(line, after(line, named(line, b"thread="), b'='));
-    let returned = walk(memory, lengths, (thread % 4294967296) as u32, &mut met);
-    if 65535 < returned {
-        return says(line, returned) & same(bytes(memory, lengths, MET), &met);
+    // The output is handed over filled with bytes of 7; its hash is said of a refused call too.
+    fn link_agrees(self, alloc: Global, buffers: &Buffers) -> Result<bool, AllocError> {
+        let length = value(self.words, "out=").unwrap_or("0").parse();
+        let Ok(length) = length else {
+            return Ok(false);
+        };
+        let mut out = vec![in alloc; 7; length]?;
+        let returned = buffers.link(out.as_mut_slice());
+        Ok(self.says(returned) && self.hashes("linked=", &out))
     }
-    says(line, returned)
-        & shows(
-            line,
-            after(line, named(line, b"met="), b'='),
-            eight(&met),
-            16,
-        )
-}
 
-// The output is handed over filled with bytes of 7; its hash is said of a refused call too.
-fn link_agrees(line: &[u8], memory: &Memory, lengths: &Lengths) -> bool {
-    let n = number(line, after(line, named(line, b"out="), b'='));
-    let mut out = [7u8; PART];
-    let returned = link(memory, lengths, &mut out, n);
-    says(line, returned) & hashes(line, b"linked=", &out, n)
-}
-
-// Whether the call that `line` names does what the line says.
-pub fn agrees(line: &[u8], memory: &Memory, lengths: &Lengths) -> bool {
-    let call = after(line, 0, b' ');
-    if begins(line, call, b"check") {
-        return says(line, check(memory, lengths));
+    // Whether the call that the line names does what the line says.
+    pub fn agrees(self, alloc: Global, buffers: &Buffers) -> Result<bool, AllocError> {
+        match self.call {
+            Call::Check => Ok(self.says(buffers.check())),
+            Call::Fresh => self.fresh_agrees(buffers),
+            Call::Run => match self.words.split_once("walks ") {
+                Some((_, walks)) => case_agrees(alloc, walks, buffers),
+                None => self.run_agrees(buffers),
+            },
+            Call::Walk => self.walk_agrees(buffers),
+            Call::Link => self.link_agrees(alloc, buffers),
+        }
     }
-    if begins(line, call, b"fresh") {
-        return fresh_agrees(line, memory, lengths);
-    }
-    if begins(line, call, b"run=") {
-        return case_agrees(line, memory, lengths);
-    }
-    if begins(line, call, b"run") {
-        return run_agrees(line, memory, lengths);
-    }
-    if begins(line, call, b"walk") {
-        return walk_agrees(line, memory, lengths);
-    }
-    if begins(line, call, b"link") {
-        return link_agrees(line, memory, lengths);
-    }
-    false
 }

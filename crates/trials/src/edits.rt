@@ -1,78 +1,66 @@
 // The edits of a line: what is changed in a case's buffers before the call.
-ghost use Rattle.std.specs.Prelude.{◌*◌, ◌<◌, ◌≤◌};
+ghost use Rattle.std.specs.Prelude.{◌≤◌};
 ghost use Rattle.rules.specs.Sizes.{record_size};
 
-use crate::memory::{
-    BUFFERS, EVENTS, FIRST, IMAGE, Lengths, Memory, SECOND, TABLE, name, resize, set,
-};
-use crate::text::{after, begins, next, number};
+use crate::buffers::{Buffer, Buffers};
+use crate::words::UnknownWord;
 use rules::layout::{EVENT_SIZE, RECORD_SIZE, ROW_SIZE};
+use std::alloc::AllocError;
+use std::str::FromStr;
 
-// The buffer that the word at `at` names, or BUFFERS.
-fn buffer_named(line: &[u8], at: usize) -> usize {
-    let mut buffer = 0;
-    while buffer < BUFFERS {
-        let word = name(buffer);
-        if begins(line, at, &word) {
-            return buffer;
-        }
-        buffer += 1;
-    }
-    buffer
+// BUFFER#LENGTH or BUFFER:PLACE=BYTE.
+#[derive(Clone, Copy)]
+enum Edit {
+    Length(Buffer, usize),
+    Byte(Buffer, usize, u8),
 }
 
-// The first byte of a record of a buffer.
-fn record_start(buffer: usize, index: usize) -> usize
-    requires { index < 10000000000000 }
-    ensures { result ≤ record_size * index }
+// The length of a record of a buffer, 1 for a buffer that has none.
+fn record_size(buffer: Buffer) -> usize
+    ensures { result ≤ record_size }
 {
     match buffer {
-        IMAGE | FIRST | SECOND => RECORD_SIZE * index,
-        EVENTS => EVENT_SIZE * index,
-        TABLE => ROW_SIZE * index,
-        _ => index,
+        Buffer::Image | Buffer::First | Buffer::Second => RECORD_SIZE,
+        Buffer::Events => EVENT_SIZE,
+        Buffer::Table => ROW_SIZE,
+        _ => 1,
     }
 }
 
-// The place at `at`, before `end`: BYTE, or RECORD/BYTE for a byte of a record.
-fn place(line: &[u8], at: usize, end: usize, buffer: usize) -> usize {
-    let byte = after(line, at, b'/');
-    if byte < end {
-        record_start(buffer, number(line, at)) + number(line, byte)
-    } else {
-        number(line, at)
-    }
+// A place in a buffer: BYTE, or RECORD/BYTE for a byte of a record.
+fn place(buffer: Buffer, text: &str) -> Result<usize, UnknownWord> {
+    let Some((record, byte)) = text.split_once('/') else {
+        return Ok(text.parse()?);
+    };
+    let record: u16 = record.parse()?;
+    let byte: u16 = byte.parse()?;
+    Ok(usize::from(record) * record_size(buffer) + usize::from(byte))
 }
 
-// Carries out the edit at `at`: BUFFER#LENGTH or BUFFER:PLACE=BYTE.
-fn edit(line: &[u8], at: usize, memory: &mut Memory, lengths: &mut Lengths) {
-    let buffer = buffer_named(line, at);
-    let end = after(line, at, b' ');
-    let size = after(line, at, b'#');
-    if size < end {
-        resize(memory, lengths, buffer, number(line, size));
-        return;
-    }
-    let from = after(line, at, b':');
-    if from < end {
-        let value = after(line, from, b'=');
-        set(
-            memory,
-            buffer,
-            place(line, from, value, buffer),
-            (number(line, value) % 256) as u8,
-        );
-    }
-}
+impl FromStr for Edit {
+    type Err = UnknownWord;
 
-// Carries out the edits of a line, in order: its words from the third to `=>`.
-pub fn apply(line: &[u8], memory: &mut Memory, lengths: &mut Lengths) {
-    let mut at = after(line, after(line, 0, b' '), b' ');
-    while at < line.len() {
-        if begins(line, at, b"=>") {
-            return;
+    fn from_str(word: &str) -> Result<Self, UnknownWord> {
+        if let Some((buffer, length)) = word.split_once('#') {
+            return Ok(Edit::Length(buffer.parse()?, length.parse()?));
         }
-        edit(line, at, memory, lengths);
-        at = next(line, at, b' ');
+        let (buffer, change) = word.split_once(':').ok_or(UnknownWord)?;
+        let (at, value) = change.split_once('=').ok_or(UnknownWord)?;
+        let buffer = buffer.parse()?;
+        Ok(Edit::Byte(buffer, place(buffer, at)?, value.parse()?))
+    }
+}
+
+impl Buffers {
+    // Carries out the edits among `words`, in order.
+    pub fn edit(&mut self, words: &str) -> Result<(), AllocError> {
+        for word in words.split_whitespace() {
+            match word.parse() {
+                Ok(Edit::Length(buffer, n)) => self.resize(buffer, n)?,
+                Ok(Edit::Byte(buffer, place, value)) => self.set(buffer, place, value),
+                Err(UnknownWord) => {}
+            }
+        }
+        Ok(())
     }
 }

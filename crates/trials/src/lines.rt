@@ -1,76 +1,100 @@
 // Trials that are the lines of a file: CASE CALL EDIT.. => RETURN. A call is handed the files of its case, CASE.image and the others or
 // CASE.first and the others, with the edits carried out in order. The vectors are what independent implementations of the rules agree on.
-use crate::claims::agrees;
-use crate::edits::apply;
-use crate::files::{load, read_in};
-use crate::memory::{Lengths, Memory};
+use crate::buffers::Buffers;
+use crate::files::read_text;
 use crate::tally::Tally;
-use crate::text::{after, begins, next};
+use crate::words::UnknownWord;
+use std::fmt;
 use std::io::Result;
 use std::rt::{Files, Runtime};
+use std::str::FromStr;
 
-// The bytes that are read of a file. The lines behind them would be missing from the counts.
-const TEXT: usize = 163840;
+// The call that a line names: `run=0` is a run too, of a case from the fresh machine.
+#[derive(Clone, Copy, Debug, PartialEq, Eq)]
+pub enum Call {
+    Check,
+    Fresh,
+    Run,
+    Walk,
+    Link,
+}
 
-// Whether the line is a trial of `call`, and no comment.
-fn is_of(line: &[u8], call: &[u8]) -> bool {
-    if begins(line, 0, b"#") {
-        return false;
+impl fmt::Display for Call {
+    fn fmt<W: fmt::Write>(&self, f: &mut fmt::Formatter<W>) -> fmt::Result {
+        f.write_str(match self {
+            Call::Check => "check",
+            Call::Fresh => "fresh",
+            Call::Run => "run",
+            Call::Walk => "walk",
+            Call::Link => "link",
+        })
     }
-    begins(line, after(line, 0, b' '), call)
 }
 
-// Tries a line, on the buffers of its case with its edits.
-fn try_line(
-    rt: &(impl Files + Eprint),
-    folder: &[u8],
-    line: &[u8],
-    memory: &mut Memory,
-    lengths: &mut Lengths,
-) -> bool {
-    load(rt, folder, line, memory, lengths);
-    apply(line, memory, lengths);
-    agrees(line, memory, lengths)
-}
+impl FromStr for Call {
+    type Err = UnknownWord;
 
-// Tries each line of `text` that names `call`.
-fn try_text(
-    rt: &impl Runtime,
-    folder: &[u8],
-    text: &[u8],
-    call: &[u8],
-    memory: &mut Memory,
-    lengths: &mut Lengths,
-) -> Result<Tally> {
-    let mut tally = Tally::new();
-    let mut at = 0;
-    let mut number: usize = 0;
-    while at < text.len() {
-        let end = next(text, at, b'\n');
-        number += 1;
-        let line = &text[at..end];
-        if is_of(line, call) {
-            tally = tally.with(
-                rt,
-                try_line(rt, folder, line, memory, lengths),
-                number as u64,
-            )?;
+    fn from_str(word: &str) -> std::result::Result<Self, UnknownWord> {
+        match word {
+            "check" => Ok(Call::Check),
+            "fresh" => Ok(Call::Fresh),
+            "run" | "run=0" => Ok(Call::Run),
+            "walk" => Ok(Call::Walk),
+            "link" => Ok(Call::Link),
+            _ => Err(UnknownWord),
         }
-        at = end;
     }
-    Ok(tally)
+}
+
+// A line that is a trial: its words before `=>`, and its claims, those behind.
+#[derive(Clone, Copy)]
+pub struct Line<'a> {
+    pub case: &'a str,
+    pub call: Call,
+    pub words: &'a str,
+    pub claims: &'a str,
+}
+
+impl<'a> Line<'a> {
+    // A comment, and a line that names no call, is no trial.
+    fn new(line: &'a str) -> Option<Self> {
+        if line.starts_with('#') {
+            return None;
+        }
+        let (words, claims) = line.split_once("=>").unwrap_or((line, ""));
+        let mut first = words.split_whitespace();
+        Some(Line {
+            case: first.next()?,
+            call: first.next()?.parse().ok()?,
+            words,
+            claims,
+        })
+    }
+
+    // Tries the line, on the buffers of its case in `folder` with its edits.
+    fn passes(self, rt: &(impl Files + Eprint + AllocGlobal), folder: &str) -> Result<bool> {
+        let mut buffers = Buffers::load(rt, folder, self.case, self.call)?;
+        buffers.edit(self.words)?;
+        Ok(self.agrees(rt.alloc(), &buffers)?)
+    }
 }
 
 // Tries each line of the file in `folder` that names `call`, on the cases in that folder.
 pub fn try_file(
-    rt: &impl Runtime,
-    folder: &[u8],
-    file: &[u8],
-    call: &[u8],
-    memory: &mut Memory,
-    lengths: &mut Lengths,
+    rt: &(impl Runtime + AllocGlobal),
+    folder: &str,
+    file: &str,
+    call: Call,
 ) -> Result<Tally> {
-    let mut text = [0u8; TEXT];
-    let n = read_in(rt, folder, file, &mut text);
-    try_text(rt, folder, &text[..n], call, memory, lengths)
+    let text = read_text(rt, folder, file)?;
+    let mut tally = Tally::new();
+    for (number, line) in (1..).zip(text.lines()) {
+        match Line::new(line) {
+            Some(line) if line.call == call => {
+                tally.count(rt, number, line.passes(rt, folder)?)?;
+            }
+            _ => {}
+        }
+    }
+    Ok(tally)
 }

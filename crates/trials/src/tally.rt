@@ -1,42 +1,37 @@
-// How many trials were made, and how many failed.
+// How many trials were made, and how many of them agree.
+ghost use Rattle.std.specs.Prelude.{◌≤◌};
+
+use std::fmt;
 use std::io::Result;
 
-#[derive(Drop)]
+#[derive(Clone, Copy)]
 pub struct Tally {
-    pub agreed: u64,
-    pub tried: u64,
+    agreed: u64,
+    tried: u64,
+    ghost within: { agreed ≤ tried },
 }
 
 impl Tally {
     pub fn new() -> Self {
-        Self {
+        Tally {
             agreed: 0,
             tried: 0,
         }
     }
 
-    // One trial more. One that failed is named by its number.
-    pub fn with(self, rt: &impl Print, agrees: bool, number: u64) -> Result<Self> {
-        let tried = self.tried.wrapping_add(1);
+    // Counts a trial. One that failed is named by its number.
+    pub fn count(&mut self, rt: &impl Print, number: usize, agrees: bool) -> Result<()> {
+        self.tried = self.tried.saturating_add(1);
         if agrees {
-            return Ok(Self {
-                agreed: self.agreed.wrapping_add(1),
-                tried,
-            });
+            self.agreed = self.agreed.saturating_add(1);
+            return Ok(());
         }
-        println!(rt; "failed: {number}")?;
-        Ok(Self {
-            agreed: self.agreed,
-            tried,
-        })
+        println!(rt; "failed: {number}")
     }
+}
 
-    // Prints a line: the group of trials and how many of them agree.
-    pub fn print(self, rt: &impl Print, group: &[u8], what: &[u8]) -> Result<()> {
-        let agreed = self.agreed;
-        let tried = self.tried;
-        rt.write_all(group)?;
-        print!(rt; ": {agreed} of {tried}")?;
-        rt.write_all(what)
+impl fmt::Display for Tally {
+    fn fmt<W: fmt::Write>(&self, f: &mut fmt::Formatter<W>) -> fmt::Result {
+        write!(f, "{} of {}", self.agreed, self.tried)
     }
 }

@@ -1,10 +1,11 @@
 -- The walk's code, step by step.
-use Rattle.std.specs.Prelude.{◌≡◌, refl, ◌⊎◌, Bool, true, ◌||◌, eqb, set, replicate}
+use Rattle.std.specs.Prelude.{◌≡◌, refl, ◌⊎◌, Bool, true, ◌||◌, eqb, set, replicate, Option, Some, None}
 use Rattle.std.proofs.Common.{sym, ◌∙◌, inl, inr, true≢false, take-append-drop, take-suc-set, eq-eqb, eqb-true}
 use Rattle.std.proofs.Math.Path.{ap}
 use Rattle.std.proofs.Math.Logic.{if_pos, if_neg}
 use Rattle.std.proofs.Math.Bool.{false}
-use Rattle.std.proofs.Math.Option.{Option, none, some, Option-elim}
+use Rattle.std.proofs.Math.Option as maybe
+use Rattle.std.proofs.Math.Option.{none, some, Option-elim}
 use mathlib.Core.List.{List, [], ◌∷◌, ◌++◌, append_assoc}
 use mathlib.Core.List.Memᴰ
 use mathlib.Core.List.{Memᴰ}
@@ -18,8 +19,6 @@ use Rattle.rules.specs.Sizes.{thread_count}
 use Rattle.rules.specs.Walk.{Walk, walk, walk_on, mem?, onto, met_count, met_bytes}
 use Rattle.rules.specs.declared.sorts.Thread.{Thread}
 use Rattle.walk_waits.specs.Waiting.{waits_of}
-use Rattle.walk_waits.specs.declared.Waits.{Waits}
-use Rattle.walk_waits.specs.declared.Waits.TheVariants.{For, Nobody}
 use Rattle.walk_met.specs.Met.{unused_byte, among}
 use Rattle.walk_threads.specs.Laid.{ring_count, laid_behind, counted, walk_rest}
 
@@ -49,23 +48,23 @@ mem-among t (x ∷ l) h = go (eqb x t) refl (mem-among t l) h
 
 -- ---- whom a thread waits for, as the code says it
 
-abbrev met_by : Waits → Option ℕ
-met_by (For u) = some u.0
-met_by Nobody = none
+abbrev met_by : Option Thread → maybe.Option ℕ
+met_by (Some u) = some u.0
+met_by None = none
 
-met_of : (o : Option ℕ) → met_by (waits_of o) ≡ o
+met_of : (o : maybe.Option ℕ) → met_by (waits_of o) ≡ o
 met_of none = refl
 met_of (some u) = refl
 
-pub next-some : (o : Option ℕ) (w : Waits) (u : Thread) → w ≡ waits_of o → w ≡ For u → o ≡ some u.0
+pub next-some : (o : maybe.Option ℕ) (w : Option Thread) (u : Thread) → w ≡ waits_of o → w ≡ Some u → o ≡ some u.0
 next-some o w u e h = sym (met_of o) ∙ ap met_by (sym e ∙ h)
 
-pub next-none : (o : Option ℕ) (w : Waits) → w ≡ waits_of o → w ≡ Nobody → o ≡ none
+pub next-none : (o : maybe.Option ℕ) (w : Option Thread) → w ≡ waits_of o → w ≡ None → o ≡ none
 next-none o w e h = sym (met_of o) ∙ ap met_by (sym e ∙ h)
 
 -- ---- the walk, one thread at a time
 
-module _ (next : ℕ → Option ℕ) (out : List ℕ) (n t : ℕ) (size : length out ≡ thread_count) where
+module _ (next : ℕ → maybe.Option ℕ) (out : List ℕ) (n t : ℕ) (size : length out ≡ thread_count) where
   abbrev pub Came : ℕ → List ℕ → Walk → Type 0
   Came r new w = (r ≡ counted n w) × (new ≡ laid_behind n out w)
 
@@ -94,12 +93,12 @@ module _ (next : ℕ → Option ℕ) (out : List ℕ) (n t : ℕ) (size : length
       fresh : Memᴰ t (take n out) → ⊥
       fresh m = true≢false (sym (among-mem t (take n out) m) ∙ new)
 
-      abbrev on : Option ℕ → Walk
+      abbrev on : maybe.Option ℕ → Walk
       unfolding Option-elim
       on o = onto t (Option-elim o (record { threads = []; ring = false })
           (λ u. walk_on next (thread_count - (n + 1)) (take n out ++ t ∷ []) u))
 
-      on-is : (o : Option ℕ) → next t ≡ o → walk_rest next n out t ≡ on o
+      on-is : (o : maybe.Option ℕ) → next t ≡ o → walk_rest next n out t ≡ on o
       unfolding walk_on Option-elim
       on-is o e = rw (left, ← e) (if_neg (mem? t (take n out)) fresh _ _)
 
@@ -132,7 +131,7 @@ drop-replicate zero (suc k) v = let e : 0 - suc k ≡ 0 = omega arith in rw e re
 drop-replicate (suc m) (suc k) v = let e : suc m - suc k ≡ m - k = omega arith in rw e (drop-replicate m k v)
 
 -- from no thread met, over unused bytes
-pub from-none : (next : ℕ → Option ℕ) (out : List ℕ) (t r : ℕ) (l : List ℕ) → out ≡ replicate thread_count unused_byte
+pub from-none : (next : ℕ → maybe.Option ℕ) (out : List ℕ) (t r : ℕ) (l : List ℕ) → out ≡ replicate thread_count unused_byte
     → r ≡ counted 0 (walk_rest next 0 out t) → l ≡ laid_behind 0 out (walk_rest next 0 out t)
     → (r ≡ met_count (walk next thread_count t)) × (l ≡ met_bytes (walk next thread_count t))
 unfolding walk met_count met_bytes

@@ -9,14 +9,15 @@ ghost use Rattle.rules.specs.Walk.{awaits, walk_from, met_bytes, met_count};
 ghost use Rattle.step_contract.specs.Ready.{Ready};
 ghost use Rattle.walk_threads.specs.Laid.{laid_behind, counted, walk_rest};
 
-use rules::sorts::{Thread, thread_number};
+use rules::sorts::Thread;
 use walk_met::{blank, is_met};
-use walk_waits::{Waits, awaited};
+use walk_waits::awaited;
 
 // What a closed ring adds to the count.
 const RING: u32 = 256;
 
 // The walk comes to t, n threads met so far: it calls itself on the next thread, the threads not yet met falling.
+// Kept: one number for a count and a ring, as the compiled recursion is no loop if it answers a struct of the two.
 fn walk_on(image: &[u8], table: &[u8], state: &[u8], met: &mut [u8], n: usize, t: Thread) -> u32
     requires { Ready image.now table.now state.now × (n ≤ thread_count) × (length met.old ≡ thread_count)
         × (t.0 < thread_count) }
@@ -26,21 +27,17 @@ fn walk_on(image: &[u8], table: &[u8], state: &[u8], met: &mut [u8], n: usize, t
         (walk_rest (awaits (rules_by image.now table.now) (machine_from state.now))
         n met.old t.0) }
 {
-    if n < Thread::COUNT {
-        if is_met(met, n, t) {
-            return n as u32 + RING;
-        }
-        met[n] = thread_number(t);
-        match awaited(image, table, state, t) {
-            Waits::For(next) => {
-                return walk_on(image, table, state, met, n + 1, next);
-            }
-            Waits::Nobody => {
-                return (n + 1) as u32;
-            }
-        }
+    if n == Thread::COUNT {
+        return n as u32 + RING;
     }
-    n as u32 + RING
+    if is_met(&met[..n], t) {
+        return n as u32 + RING;
+    }
+    met[n] = u8::from(t);
+    match awaited(image, table, state, t) {
+        Some(next) => walk_on(image, table, state, met, n + 1, next),
+        None => (n + 1) as u32,
+    }
 }
 
 // The walk from a thread: the count of threads written, and 256 more if a ring closed.

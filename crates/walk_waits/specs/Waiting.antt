@@ -1,5 +1,6 @@
 -- Whom a thread waits for, by what its step comes to.
-use Rattle.std.specs.Prelude.{◌≡◌, Bool, cond, ℕ, set}
+use Rattle.std.specs.Prelude as code
+use Rattle.std.specs.Prelude.{◌≡◌, Bool, cond, ℕ, set, Some, None, Result, Ok, Err}
 use Rattle.std.proofs.Math.Path.{refl}
 use Rattle.std.proofs.Common.{ap, ◌∙◌, subst, eqb-true}
 use Rattle.std.proofs.Math.Bool.{true, false}
@@ -7,6 +8,7 @@ use Rattle.std.proofs.Math.Option.{Option, none, some, map}
 use mathlib.Core.List.{List, [], ◌∷◌}
 use Rattle.std.proofs.Math.Dec.{eqb}
 use Rattle.rules.specs.Sorts.{thread}
+use Rattle.rules.specs.declared.sorts.Thread.{Thread}
 use Rattle.rules.specs.Codes.{send_direct_code, call_code}
 use Rattle.rules.specs.Image.{opcode, operator, record_at, label_a, label_b, Row, row_at}
 use Rattle.rules.specs.Statements.{operation_at, Other, others, other_in, other_at, other_or, statement_by, statement_of}
@@ -23,6 +25,7 @@ use Rattle.rules.specs.declared.statement.Operation.{Operation}
 use Rattle.rules.specs.declared.statement.Statement.{Statement}
 use Rattle.rules.specs.declared.statement.Statement.TheVariants.{SendDirect, Call}
 use Rattle.rules.specs.declared.answer.Answer.{Answer}
+use Rattle.rules.specs.declared.trap.Trap.{Trap}
 use Rattle.lemmas_rules.specs.Roles.{Leads, Refers, refers}
 use Rattle.lemmas_step.specs.Events.{reply, no-tree}
 use Rattle.lemmas_step.specs.Running.{effect, traps-by, exits_by, moves-by}
@@ -33,19 +36,17 @@ use Rattle.step_contract.specs.At.{At, tree}
 use Rattle.step_lock.specs.Enters.{Passes, Enters}
 use Rattle.step_start.specs.Starting.{FirstOf, start-waiting, start-running}
 use Rattle.step_lock.specs.declared.Passage.{Passage}
-use Rattle.step_lock.specs.declared.Passage.TheVariants.{Trap, Wait, Go, Own}
+use Rattle.step_lock.specs.declared.Passage.TheVariants.{Wait, Go, Own}
 use Rattle.step_start.specs.declared.First.{First}
 use Rattle.step_start.specs.declared.First.TheVariants as found
-use Rattle.walk_waits.specs.declared.Waits.{Waits}
-use Rattle.walk_waits.specs.declared.Waits.TheVariants.{For, Nobody}
 
 -- whom a thread waits for, as the code says it
-abbrev pub waits_of : Option ℕ → Waits
-waits_of none = Nobody
-waits_of (some u) = For (thread u)
+abbrev pub waits_of : Option ℕ → code.Option Thread
+waits_of none = None
+waits_of (some u) = Some (thread u)
 
 -- whom thread t waits for, by the law
-abbrev pub awaited_by : List ℕ → List ℕ → List ℕ → ℕ → Waits
+abbrev pub awaited_by : List ℕ → List ℕ → List ℕ → ℕ → code.Option Thread
 awaited_by image table b t = waits_of (awaits (rules_by image table) (machine_from b) t)
 
 -- it is told by the answer to its next step
@@ -56,21 +57,22 @@ by_answer R s t e = rw e
 
 -- ---- direct SEND and CALL
 
-abbrev pub passage_waits : Passage → Waits
-passage_waits (Trap k) = Nobody
-passage_waits (Wait l u) = For u
-passage_waits (Go l) = Nobody
-passage_waits Own = Nobody
+abbrev pub passage_waits : Result Passage Trap → code.Option Thread
+passage_waits (Err x) = None
+passage_waits (Ok (Wait l u)) = Some u
+passage_waits (Ok (Go l)) = None
+passage_waits (Ok Own) = None
 
-pub waits-passage : {image table b : List ℕ} {t : ℕ} {w : ThreadState} {r returns vs : List ℕ} {p : Passage}
+pub waits-passage : {image table b : List ℕ} {t : ℕ} {w : ThreadState} {r returns vs : List ℕ} {p : Result Passage Trap}
     → Enters image table b t w r returns vs p → passage_waits p ≡ awaited_by image table b t
 waits-passage {image} {table} {b} {t} {w} {p = p} e = case _ p e.passes
   where
-    case : (k : Job) (p : Passage) → Passes image table (machine_from b) t w.locks k p → passage_waits p ≡ awaited_by image table b t
-    case k (Trap x) h = by_answer _ _ _ h
-    case k (Wait l u) h = ap For h.1 ∙ by_answer _ _ _ h.0
-    case k (Go l) h = by_answer _ _ _ h.1
-    case k Own h = by_answer _ _ _ h
+    case : (k : Job) (p : Result Passage Trap) → Passes image table (machine_from b) t w.locks k p
+        → passage_waits p ≡ awaited_by image table b t
+    case k (Err x) h = by_answer _ _ _ h
+    case k (Ok (Wait l u)) h = ap Some h.1 ∙ by_answer _ _ _ h.0
+    case k (Ok (Go l)) h = by_answer _ _ _ h.1
+    case k (Ok Own) h = by_answer _ _ _ h
 
 -- ---- any other statement asks for no lock
 
@@ -182,33 +184,33 @@ quiet-act image table t j words pending h =
 
 module _ (R : Rules) (s : Machine) (t l : ℕ) (j : Job) (p : List Signal) (runs : thread_at s t ≡ running l j)
     (own : first t s.trees ≡ some p) where
-  quiet-waits : Quiet (effect R s t l j p runs own) → Nobody ≡ waits_of (awaits R s t)
+  quiet-waits : Quiet (effect R s t l j p runs own) → None ≡ waits_of (awaits R s t)
   quiet-waits h = case (effect R s t l j p runs own) refl h
     where
-      case : (e : Effect) → effect R s t l j p runs own ≡ e → Quiet e → Nobody ≡ waits_of (awaits R s t)
+      case : (e : Effect) → effect R s t l j p runs own ≡ e → Quiet e → None ≡ waits_of (awaits R s t)
       case (traps r) e q = by_answer R s t (traps-by R s t l j p runs own r e)
       case exits e q = by_answer R s t (exits_by R s t l j p runs own e)
       case (moves k ws g none) e q = by_answer R s t (moves-by R s t l j p runs own k ws g e)
       case (moves k ws g (some b)) e q = absurd q
 
 pub waits-nobody : {image table b : List ℕ} {t : ℕ} {w : ThreadState} {r : List ℕ} → At image table b t w r
-    → Lockless (role_a (statement_of r)) → Nobody ≡ awaited_by image table b t
+    → Lockless (role_a (statement_of r)) → None ≡ awaited_by image table b t
 waits-nobody {image} {table} {b} {t} {w} {r} h q =
     quiet-waits (rules_by image table) (machine_from b) t w.locks (job_of w) (tree h).0 h.runs (tree h).1
     (quiet-act image table t (job_of w) _ _ (subst (λ (x : List ℕ). Lockless (role_a (statement_of x))) h.here q))
 
 -- ---- the start of a job
 
-abbrev first_waits : First → Waits
-first_waits found.Nothing = Nobody
-first_waits (found.Wait l u) = For u
-first_waits (found.Go i l) = Nobody
+abbrev first_waits : code.Option First → code.Option Thread
+first_waits None = None
+first_waits (Some (found.Wait l u)) = Some u
+first_waits (Some (found.Go i l)) = None
 
-pub waits-first : {image table b : List ℕ} (h : Ready image table b) (t : ℕ) → thread_at (machine_from b) t ≡ idle → {f : First}
-    → FirstOf image table (machine_from b) t f → (g : First) → f ≡ g → first_waits g ≡ awaited_by image table b t
+pub waits-first : {image table b : List ℕ} (h : Ready image table b) (t : ℕ) → thread_at (machine_from b) t ≡ idle → {f : code.Option First}
+    → FirstOf image table (machine_from b) t f → (g : code.Option First) → f ≡ g → first_waits g ≡ awaited_by image table b t
 waits-first {image} {table} {b} h t rests k g e = case g (subst (FirstOf image table (machine_from b) t) e k)
   where
-    case : (g : First) → FirstOf image table (machine_from b) t g → first_waits g ≡ awaited_by image table b t
-    case found.Nothing k = by_answer _ _ t (no-tree (rules_by image table) (machine_from b) t rests k)
-    case (found.Wait l u) k = ap For k.2.1 ∙ by_answer _ _ t (start-waiting h t rests k.1 k.2.0)
-    case (found.Go i l) k = by_answer _ _ t (start-running h t rests k.0 k.1)
+    case : (g : code.Option First) → FirstOf image table (machine_from b) t g → first_waits g ≡ awaited_by image table b t
+    case None k = by_answer _ _ t (no-tree (rules_by image table) (machine_from b) t rests k)
+    case (Some (found.Wait l u)) k = ap Some k.2.1 ∙ by_answer _ _ t (start-waiting h t rests k.1 k.2.0)
+    case (Some (found.Go i l)) k = by_answer _ _ t (start-running h t rests k.0 k.1)

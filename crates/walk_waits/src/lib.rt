@@ -13,27 +13,19 @@ use image_record::records::record_of;
 use rules::codes::{CALL, SEND_DIRECT};
 use rules::layout::OPCODE_PLACE;
 use rules::sorts::Thread;
+use rules::trap::Trap;
 use state_thread::thread::ThreadState;
 use state_thread_record::read_thread;
-use step_lock::{Passage, call_passage, send_passage};
+use step_lock::{Passage, passage_of};
 use step_start::{First, first_signal};
 
-// The thread that a thread waits for.
-#[derive(Clone, Copy)]
-pub enum Waits {
-    For(Thread),
-    Nobody,
-}
-
 // Of a running thread, by the passage of its statement.
-fn passage_waits(p: Passage) -> Waits
+fn passage_waits(p: Result<Passage, Trap>) -> Option<Thread>
     ensures { result ≡ passage_waits p }
 {
     match p {
-        Passage::Trap(_) => Waits::Nobody,
-        Passage::Wait(_, u) => Waits::For(u),
-        Passage::Go(_) => Waits::Nobody,
-        Passage::Own => Waits::Nobody,
+        Ok(Passage::Wait(_, u)) => Some(u),
+        Ok(Passage::Go(_) | Passage::Own) | Err(_) => None,
     }
 }
 
@@ -45,32 +37,40 @@ fn running_waits(
     t: Thread,
     w: ThreadState,
     r: &[u8],
-) -> Waits
+) -> Option<Thread>
     requires { At image.now table.now state.now t.0 w r.now }
     ensures { result ≡ awaited_by image.now table.now state.now t.0 }
 {
     let mut values = [0u16; Thread::REGISTERS];
     match r[OPCODE_PLACE] {
-        SEND_DIRECT => passage_waits(send_passage(image, table, state, t, w, r, &mut values)),
-        CALL => passage_waits(call_passage(image, table, state, t, w, r, &mut values)),
-        _ => Waits::Nobody,
+        SEND_DIRECT => passage_waits(passage_of::<false>(
+            image,
+            table,
+            state,
+            t,
+            w,
+            r,
+            &mut values,
+        )),
+        CALL => passage_waits(passage_of::<true>(image, table, state, t, w, r, &mut values)),
+        _ => None,
     }
 }
 
 // Of an idle thread: the start of a job takes a lock.
-fn idle_waits(image: &[u8], table: &[u8], state: &[u8], t: Thread) -> Waits
+fn idle_waits(image: &[u8], table: &[u8], state: &[u8], t: Thread) -> Option<Thread>
     requires { Ready image.now table.now state.now × (thread_at (machine_from state.now) t.0 ≡ idle) }
     ensures { result ≡ awaited_by image.now table.now state.now t.0 }
 {
     match first_signal(image, table, state, t) {
-        First::Nothing => Waits::Nobody,
-        First::Wait(_, u) => Waits::For(u),
-        First::Go(_, _) => Waits::Nobody,
+        Some(First::Wait(_, u)) => Some(u),
+        Some(First::Go(_, _)) => None,
+        None => None,
     }
 }
 
 // A thread waits for the holder if its next step would be answered 4.
-pub fn awaited(image: &[u8], table: &[u8], state: &[u8], t: Thread) -> Waits
+pub fn awaited(image: &[u8], table: &[u8], state: &[u8], t: Thread) -> Option<Thread>
     requires { Ready image.now table.now state.now × (t.0 < thread_count) }
     ensures { result ≡ awaited_by image.now table.now state.now t.0 }
 {

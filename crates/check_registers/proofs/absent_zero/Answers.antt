@@ -17,10 +17,10 @@ pub loop-r-preserved : goal.loop-r-preserved
 loop-r-preserved c =
     let a = c.args in
     let l = c.loop-r in
-    let here = c.is_present.result || eqb c.get16.result 0 in
+    let here = c.has.result || eqb c.get16.result 0 in
     tested-next true (absent_zero (drop a.at a.s.now)) register_count l.r l.ok l.invariant here
     c.loop-r-test.true
-    (simp (c.get16.ensures, c.is_present.ensures, c.get32-set.ensures)
+    (simp (c.get16.ensures, c.has.ensures, c.get32-set.ensures)
     (sym (absent-at a.s.now a.at l.r)))
 
 pub returns : goal.returns

@@ -12,6 +12,3 @@ use Rattle.check_registers.proofs.absent_zero.Given as goal
 
 abbrev pub invariant-loop-r : goal.invariant-loop-r
 invariant-loop-r l = Tested true (absent_zero (drop l.at l.s)) register_count l.r l.ok
-
-abbrev pub decreases-loop-r : goal.decreases-loop-r
-decreases-loop-r l = register_count - l.r

@@ -1,10 +1,6 @@
-use Prim.Native.Nat.{◌-◌}
 use Rattle.bytes_fields.specs.Pieces.{Tested}
 use Rattle.check_signals.specs.Signals.{signal_at_good}
 use Rattle.check_signals.proofs.signals_good.Given as goal
 
 abbrev pub invariant-loop-j : goal.invariant-loop-j
 invariant-loop-j l = Tested l.initial.ok (signal_at_good l.image l.external l.at l.s) l.count l.j l.ok
-
-abbrev pub decreases-loop-j : goal.decreases-loop-j
-decreases-loop-j l = l.count - l.j

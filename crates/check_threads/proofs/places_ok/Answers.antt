@@ -13,7 +13,7 @@ loop-k-preserved c =
     c.get8-returns.result l.k l.ok l.invariant c.place_ok-ok-in-loop-k.result
     c.loop-k-test.true
     (c.place_ok-ok-in-loop-k.ensures ∙ rw (
-      c.label_of-l.ensures,
+      c.from-l.ensures,
       c.get16-in-loop-k.ensures,
       c.get16-locks.ensures,
     )
@@ -27,7 +27,7 @@ returns c =
     c.get8-returns.result l.k l.ok l.invariant c.loop-k-test.false
     ∙ rw (
       c.place_ok-ok.ensures,
-      c.label_of.ensures,
+      c.from.ensures,
       c.get16.ensures,
       c.get16-locks.ensures,
       c.get8-returns.ensures.0,

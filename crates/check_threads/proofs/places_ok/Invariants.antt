@@ -1,4 +1,3 @@
-use Prim.Native.Nat.{◌-◌}
 use lib.ListN.{drop}
 use Rattle.bytes_fields.specs.Pieces.{Tested}
 use Rattle.check_threads.specs.Places.{return_ok}
@@ -6,6 +5,3 @@ use Rattle.check_threads.proofs.places_ok.Given as goal
 
 abbrev pub invariant-loop-k : goal.invariant-loop-k
 invariant-loop-k l = Tested l.initial.ok (return_ok l.image l.table l.t.0 (drop l.at l.s)) l.returns l.k l.ok
-
-abbrev pub decreases-loop-k : goal.decreases-loop-k
-decreases-loop-k l = l.returns - l.k

@@ -10,7 +10,7 @@ loop-t-preserved c =
     let a = c.args in
     let l = c.loop-t in
     tested-next true (thread_at_good a.image.now a.table.now a.state.now) thread_count l.t l.ok l.invariant
-    c.thread_good-ok.result c.loop-t-test.true (c.thread_good-ok.ensures ∙ rw c.thread_of.ensures)
+    c.thread_good-ok.result c.loop-t-test.true (c.thread_good-ok.ensures ∙ rw c.from.ensures)
 
 pub returns : goal.returns
 returns c =

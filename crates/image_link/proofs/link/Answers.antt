@@ -1,6 +1,6 @@
 use mathlib.Core.Path.{◌≡◌, ap, ◌∙◌}
-use mathlib.Core.List.{List, ◌++◌}
-use Prim.Native.Nat.{ℕ, ◌*◌, ◌-◌, ◌≤◌, ◌<◌}
+use mathlib.Core.List.{List}
+use Prim.Native.Nat.{ℕ, ◌*◌, ◌≤◌, ◌<◌}
 use native.Mathlib.Omega.{arith}
 use lib.ListN.{length, length-append}
 use Rattle.rules.specs.Sizes.{record_size, record_count}
@@ -8,7 +8,7 @@ use Rattle.rules.specs.Bytes.{blocks, chunks}
 use Rattle.rules.specs.Image.{labels}
 use Rattle.bytes_fields.specs.Put.{put, length-put, put_then}
 use Rattle.image_record.specs.Records.{labels-small, labels-whole, record-part, record-taken, length-record}
-use Rattle.image_record.specs.Shifts.{shifted_run, one_more, length_run}
+use Rattle.image_record.specs.Shifts.{one_more, length_run}
 use Rattle.image_link.specs.Linkable.{Linkable}
 use Rattle.image_link.specs.Stores.{both-copied, still-copied, all-shifted}
 use Rattle.image_link.proofs.link.Goals as goal
@@ -31,18 +31,6 @@ counted first second out n m s p q = record {
   second-size = omega (arith, q, labels-whole second s.more);
 }
 
-pub overflow_cast-d : goal.overflow_cast-d
-overflow_cast-d c =
-    let k = counted c.args.first.now c.args.second.now c.args.out.now _ _ c.requires
-    c.count_labels-n.ensures c.count_labels-m.ensures in
-    omega arith
-
-pub overflow_mul-start : goal.overflow_mul-start
-overflow_mul-start c =
-    let k = counted c.args.first.now c.args.second.now c.args.out.now _ _ c.requires
-    c.count_labels-n.ensures c.count_labels-m.ensures in
-    omega arith
-
 pub copy-requires-2 : goal.copy-requires-2
 copy-requires-2 c =
     let at = c in
@@ -59,36 +47,10 @@ loop-l-init c =
     let at = c in
     let k = counted at.args.first.now at.args.second.now at.args.out.now _ _ at.requires
     at.count_labels-n.ensures at.count_labels-m.ensures in
-    let s = at in (
-      omega arith,
-      both-copied s.args.first.now s.args.second.now s.args.out.now _ _ _
-          c.copy.ensures
-          c.copy-2.ensures (omega arith) (omega arith) (omega arith) s.requires.exact,
-    )
-
-pub overflow_mul-at : goal.overflow_mul-at
-overflow_mul-at c =
-    let k = counted c.args.first.now c.args.second.now c.args.out.now _ _ c.requires
-    c.count_labels-n.ensures c.count_labels-m.ensures in
-    omega arith
-
-pub overflow_add-start : goal.overflow_add-start
-overflow_add-start c =
-    let k = counted c.args.first.now c.args.second.now c.args.out.now _ _ c.requires
-    c.count_labels-n.ensures c.count_labels-m.ensures in
-    omega arith
-
-pub overflow_add-at : goal.overflow_add-at
-overflow_add-at c =
-    let k = counted c.args.first.now c.args.second.now c.args.out.now _ _ c.requires
-    c.count_labels-n.ensures c.count_labels-m.ensures in
-    omega arith
-
-pub slice_bounds-shift_record-end : goal.slice_bounds-shift_record-end
-slice_bounds-shift_record-end c =
-    let k = counted c.args.first.now c.args.second.now c.args.out.now _ _ c.requires
-    c.count_labels-n.ensures c.count_labels-m.ensures in
-    omega arith
+    let s = at in
+    both-copied s.args.first.now s.args.second.now s.args.out.now _ _ _
+    c.copy.ensures
+    c.copy-2.ensures (omega arith) (omega arith) (omega arith) s.requires.exact
 
 pub shift_record-requires : goal.shift_record-requires
 shift_record-requires c =
@@ -100,9 +62,9 @@ shift_record-requires c =
     let loop = c.loop-l in
     let below : loop.l < labels second = omega arith in
     rw (record-taken second loop.l below) (
-      omega (arith, simp (length-put, length-append) at (ap length loop.invariant.1)),
+      omega (arith, simp (length-put, length-append) at (ap length loop.invariant)),
       length-record second loop.l below,
-      rw loop.invariant.1 (still-copied s.args.first.now second _ loop.l _ below (omega arith)),
+      rw loop.invariant (still-copied s.args.first.now second _ loop.l _ below (omega arith)),
       omega (arith, s.requires.low_a loop.l below),
       omega (arith, s.requires.low_b loop.l below),
       s.requires.heads loop.l below,
@@ -117,16 +79,9 @@ loop-l-preserved c =
     let loop = c.loop-l in
     let below : loop.l < labels second = omega arith in
     let shifted = rw (record-taken second loop.l below) at c.shift_record.ensures in
-    let fits : record_size * loop.l ≤ length second = omega arith in (
-      omega arith,
-      rw (one_more _ loop.l second, ← record-part second loop.l below)
-          (put_then _ _ _ _ _ loop.invariant.1 shifted (rw length_run (omega arith))),
-    )
-
-pub shape_of-out : goal.shape_of-out
-shape_of-out c =
-    let s = c in
-    simp (length-put, length-append, ← s.requires.exact) at (ap length c.loop-l.invariant.1)
+    let fits : record_size * loop.l ≤ length second = omega arith in
+    rw (one_more _ loop.l second, ← record-part second loop.l below)
+    (put_then _ _ _ _ _ loop.invariant shifted (rw length_run (omega arith)))
 
 pub returns : goal.returns
 returns c =
@@ -134,7 +89,4 @@ returns c =
     let k = counted at.args.first.now at.args.second.now at.args.out.now _ _ at.requires
     at.count_labels-n.ensures at.count_labels-m.ensures in
     let s = at in
-    c.loop-l.invariant.1 ∙ all-shifted s.args.first.now s.args.second.now _ _ (omega arith) (omega arith) (omega arith)
-
-pub copy-requires : goal.copy-requires
-copy-requires c = (omega (arith, c.requires.exact), omega arith)
+    c.loop-l.invariant ∙ all-shifted s.args.first.now s.args.second.now _ _ (omega arith) (omega arith) (omega arith)

@@ -1,28 +1,26 @@
-use mathlib.Core.Path.{◌≡◌, sym, ◌∙◌}
-use borrow.Author.Rules.{rules}
-use Rattle.rules.specs.Calls.{fresh_return}
+use mathlib.Core.Path.{sym, ◌∙◌}
+use Rattle.check_refusal.specs.Refusals.{number-positive}
 use Rattle.plex.specs.Lent.{fresh-refused, fresh-lengths, fresh-state}
 use Rattle.plex.proofs.plex_fresh.Goals as goal
-
-pub returns-then-fault-ne0 : goal.returns-then-fault-ne0
-returns-then-fault-ne0 c =
-    let a = c.args in
-    let e = c.fresh_fault-fault.ensures in
-    record {
-      value = e;
-      state_after = sym (fresh-refused a.image.now a.table.now a.words.now a.state.now (λ z. c.if-fault-ne0.true (e
-          ∙ z)));
-    }
 
 pub fresh-requires : goal.fresh-requires
 fresh-requires c =
     let a = c.args in
-    fresh-lengths a.image.now a.table.now a.words.now a.state.now (sym c.fresh_fault-fault.ensures
-    ∙ c.if-fault-ne0.false)
+    fresh-lengths a.image.now a.table.now a.words.now a.state.now (sym c.in-Ok.ensures)
 
-pub returns : goal.returns
-returns c =
+pub returns-in-Ok : goal.returns-in-Ok
+returns-in-Ok c =
     let a = c.args in
-    let h : fresh_return a.image.now a.table.now a.words.now a.state.now ≡ 0 =
-    sym c.fresh_fault-fault.ensures ∙ c.if-fault-ne0.false in
-    record { value = sym h; state_after = c.fresh.ensures ∙ sym (fresh-state a.image.now a.table.now a.words.now a.state.now h) }
+    record {
+      value = c.in-Ok.ensures;
+      state_after = c.fresh.ensures ∙ sym (fresh-state a.image.now a.table.now a.words.now a.state.now (sym c.in-Ok.ensures));
+    }
+
+pub returns-in-Err : goal.returns-in-Err
+returns-in-Err c =
+    let a = c.args in
+    let e = c.in-Err.ensures in
+    record {
+      value = c.into.ensures ∙ e;
+      state_after = sym (fresh-refused a.image.now a.table.now a.words.now a.state.now (λ z. number-positive _ (e ∙ z)));
+    }

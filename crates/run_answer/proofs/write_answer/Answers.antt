@@ -1,5 +1,4 @@
-use borrow.Author.Rules.{rules}
 use Rattle.run_answer.proofs.write_answer.Goals as goal
 
 pub returns : goal.returns
-returns c = rw c.number_of.ensures at c.put16.ensures
+returns c = rw c.from.ensures at c.put16.ensures

@@ -8,7 +8,4 @@ use Rattle.run_events.specs.Runs.{event-at, Ran, ran-none, ran-more, ran-state, 
 use Rattle.run_events.proofs.run.Given as goal
 
 abbrev pub invariant-loop-i : goal.invariant-loop-i
-invariant-loop-i l = (l.i ≤ events_in l.events) × Ran l.image l.table l.events l.initial.state l.initial.space l.i l.state l.space
-
-abbrev pub decreases-loop-i : goal.decreases-loop-i
-decreases-loop-i l = events_in l.events - l.i
+invariant-loop-i l = Ran l.image l.table l.events l.initial.state l.initial.space l.i l.state l.space

@@ -11,7 +11,6 @@ clear-requires c = omega (arith, c.copy.auto.s)
 
 pub loop-t-init : goal.loop-t-init
 loop-t-init c = (
-  omega arith,
   omega (arith, c.copy.auto.s, c.clear.auto.s),
   begun-none c.args.words.now c.requires.0 (state_size - words_size) refl c.args.state.now c.requires.1
       c.copy.ensures c.clear.ensures,
@@ -20,10 +19,9 @@ loop-t-init c = (
 pub loop-t-preserved : goal.loop-t-preserved
 loop-t-preserved c =
     let l = c.loop-t in (
-      omega arith,
       omega (arith, c.put16.auto.s),
       begun_more c.args.words.now c.requires.0 (state_size - words_size)
-          refl l.t c.loop-t-test.true l.invariant.2 c.put16.ensures,
+          refl l.t c.loop-t-test.true l.invariant.1 c.put16.ensures,
     )
 
 pub returns : goal.returns
@@ -31,4 +29,4 @@ returns c =
     let l = c.loop-t in
     let e : l.t ≡ thread_count = omega arith in
     begun_all c.args.words.now c.requires.0 (state_size - words_size) refl
-    (λ j. search rules) (rw e at l.invariant.2)
+    (λ j. search rules) (rw e at l.invariant.1)

@@ -6,4 +6,4 @@ use Rattle.state_pending.proofs.oldest_label.Goals as goal
 pub returns : goal.returns
 returns c =
     let p = c.requires in
-    c.label_of.ensures ∙ ap label (c.get16.ensures ∙ label-read p.0 _ p.1 _ refl p.2)
+    c.from.ensures ∙ ap label (c.get16.ensures ∙ label-read p.0 _ p.1 _ refl p.2)

@@ -7,17 +7,11 @@ use Rattle.state_signal.specs.Signals.{value-bytes}
 use borrow.Author.Rules.{rules}
 use Rattle.state_signal.proofs.write_signal.Goals as goal
 
-long : (c : goal.After-values-2-1) → length c.args.g.values ≡ register_count
+long : (c : goal.After-slice_known-3-1) → length c.args.g.values ≡ register_count
 long c = search rules
-
-long-2 : (c : goal.After-slice_known-3-1) → length c.args.g.values ≡ register_count
-long-2 c = search rules
-
-pub put16s-requires : goal.put16s-requires
-put16s-requires c = omega (arith, long c)
 
 pub returns : goal.returns
 returns c =
     let s = c in
     let head = c.write_head.ensures in
-    put_then _ _ _ _ _ head c.put16s.ensures refl ∙ rw (value-bytes s.args.g (long-2 s) s.requires.1)
+    put_then _ _ _ _ _ head c.put16s.ensures refl ∙ rw (value-bytes s.args.g (long s) s.requires.1)

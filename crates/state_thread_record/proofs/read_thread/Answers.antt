@@ -29,7 +29,7 @@ returns c =
     ∙ signals-read s c.args.t.0 c.requires.0 c.requires.1 in
     λ i. record {
       present = (c.get32.ensures ∙ placed num32 s at presence_place e) i;
-      label = (c.label_of.ensures ∙ ap label (c.get16.ensures
+      label = (c.from.ensures ∙ ap label (c.get16.ensures
           ∙ ap (λ k. num16 (drop k s)) e)) i;
       locks = (c.get16-2.ensures ∙ placed num16 s at locks_place e) i;
       depth = (c.get8.ensures.0 ∙ byte _ ∙ placed (λ l. get_or l 0 0) s at return_count_place e) i;

@@ -16,6 +16,6 @@ returns c =
     let b : List ℕ = a.state.now in
     let bytes : AreBytes b = λ i. search rules in
     let at = c.record_at-at.ensures in
-    stored_one b a.t.0 bytes p.0 p.1 a.w sized.0 sized.1 p.6 a.register a.value p.3 p.4 p.5
+    stored_one b a.t.0 bytes p.0 p.1 a.w sized.0 sized.1 p.4.2 a.register a.value p.3 p.4.0 p.4.1
     (rw at at c.write_head.ensures)
     (rw at at c.put32.ensures) (rw at at c.put16.ensures)

@@ -23,5 +23,5 @@ returns c =
     let place : ℕ = thread_place a.t.0 in
     let there = head-there b a.t.0 bytes p.0 p.1 a.w sized.0 sized.1 p.3 in
     let head : b ≡ put b place (head_bytes a.w) = sym (ap (put b place) there ∙ put_self b place returns_place (omega arith)) in
-    stored_one b a.t.0 bytes p.0 p.1 a.w sized.0 sized.1 p.6 a.register a.value p.2 p.4 p.5 head
+    stored_one b a.t.0 bytes p.0 p.1 a.w sized.0 sized.1 p.4.2 a.register a.value p.2 p.4.0 p.4.1 head
     (rw at at c.put32.ensures) (rw at at c.put16.ensures)

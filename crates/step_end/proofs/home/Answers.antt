@@ -15,7 +15,7 @@ pub returns-then-pending-eq0 : goal.returns-then-pending-eq0
 returns-then-pending-eq0 c =
     let s = c in
     home-none s.args.image.now s.args.table.now (pending_at (machine_from s.args.state.now) s.args.i)
-    c.thread_of.result.0 (sym c.pending.ensures ∙ c.if-pending-eq0.true)
+    c.from.result.0 (sym c.pending.ensures ∙ c.if-pending-eq0.true)
 
 pub oldest_label-requires : goal.oldest_label-requires
 oldest_label-requires c =

@@ -4,4 +4,4 @@ use Rattle.step_lock.proofs.is_alien.Goals as goal
 
 pub returns : goal.returns
 unfolding alien
-returns c = simp (c.same_thread.ensures, c.thread_at.ensures, c.kind_at.ensures)
+returns c = simp (c.ne.ensures, c.thread_at.ensures, c.kind_at.ensures)

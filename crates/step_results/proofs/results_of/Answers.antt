@@ -1,23 +1,18 @@
-use mathlib.Core.Path.{◌≡◌, refl}
+use mathlib.Core.Path.{◌≡◌, refl, ◌∙◌}
 use mathlib.Core.List.{List}
 use Prim.Native.Nat.{ℕ, ◌+◌, ◌<◌}
 use native.Mathlib.Omega.{arith}
 use lib.ListN.{length}
 use Rattle.rules.specs.Sizes.{thread_count, operand_count, state_size}
 use Rattle.rules.specs.Statements.{operand_at, optional, shape, destinations, assignment_of}
-use Rattle.rules.specs.Effects.{Cells}
 use Rattle.rules.specs.declared.statement.Operation.{Operation}
 use Rattle.rules.specs.declared.statement.Assignment.{Assignment}
 use Rattle.state_thread.specs.declared.thread.ThreadState.{ThreadState}
 use Rattle.rules.specs.declared.statement.Operation.TheVariants.{Copy, Add, Subtract, Multiply, Divide, Pack, Unpack, DecimalAdd}
 use Rattle.lemmas_encoding.specs.Slots.{registers_in}
-use Rattle.lemmas_step.specs.Statements.{results}
 use Rattle.step_operands.specs.Legal.{Fits, Readable}
 use Rattle.step_operands.specs.Cells.{cells_of}
-use Rattle.step_compute.specs.Computes.{Computes}
-use Rattle.step_compute.specs.declared.Computation.{Computation}
-use Rattle.step_results.specs.Reading.{results_by, sources-fit, worked-out}
-use borrow.Author.Rules.{rules}
+use Rattle.step_results.specs.Reading.{sources-fit, worked-out}
 use Rattle.step_results.proofs.results_of.Goals as goal
 
 -- what an arm asks of its sources, which stand from place k on
@@ -66,40 +61,40 @@ work_out-requires-in-DecimalAdd c =
 
 pub returns-in-Copy : goal.returns-in-Copy
 returns-in-Copy c =
-    worked-out c.args.a c.args.r.now Copy 1 c.requires.6 c.in-Copy.is refl (cells_of c.args.state.now c.args.w c.args.r.now) _
-    c.work_out.ensures
+    c.work_out.ensures ∙ worked-out c.args.a c.args.r.now Copy 1 c.requires.6 c.in-Copy.is refl
+    (cells_of c.args.state.now c.args.w c.args.r.now)
 
 pub returns-in-Add : goal.returns-in-Add
 returns-in-Add c =
-    worked-out c.args.a c.args.r.now Add 1 c.requires.6 c.in-Add.is refl (cells_of c.args.state.now c.args.w c.args.r.now) _
-    c.work_out-in-Add.ensures
+    c.work_out-in-Add.ensures ∙ worked-out c.args.a c.args.r.now Add 1 c.requires.6 c.in-Add.is refl
+    (cells_of c.args.state.now c.args.w c.args.r.now)
 
 pub returns-in-Subtract : goal.returns-in-Subtract
 returns-in-Subtract c =
-    worked-out c.args.a c.args.r.now Subtract 1 c.requires.6 c.in-Subtract.is refl (cells_of c.args.state.now c.args.w c.args.r.now) _
-    c.work_out-in-Subtract.ensures
+    c.work_out-in-Subtract.ensures ∙ worked-out c.args.a c.args.r.now Subtract 1 c.requires.6 c.in-Subtract.is refl
+    (cells_of c.args.state.now c.args.w c.args.r.now)
 
 pub returns-in-Multiply : goal.returns-in-Multiply
 returns-in-Multiply c =
-    worked-out c.args.a c.args.r.now Multiply 1 c.requires.6 c.in-Multiply.is refl (cells_of c.args.state.now c.args.w c.args.r.now) _
-    c.work_out-in-Multiply.ensures
+    c.work_out-in-Multiply.ensures ∙ worked-out c.args.a c.args.r.now Multiply 1 c.requires.6 c.in-Multiply.is refl
+    (cells_of c.args.state.now c.args.w c.args.r.now)
 
 pub returns-in-Divide : goal.returns-in-Divide
 returns-in-Divide c =
-    worked-out c.args.a c.args.r.now Divide 2 c.requires.6 c.in-Divide.is refl (cells_of c.args.state.now c.args.w c.args.r.now) _
-    c.work_out-in-Divide.ensures
+    c.work_out-in-Divide.ensures ∙ worked-out c.args.a c.args.r.now Divide 2 c.requires.6 c.in-Divide.is refl
+    (cells_of c.args.state.now c.args.w c.args.r.now)
 
 pub returns-in-Pack : goal.returns-in-Pack
 returns-in-Pack c =
-    worked-out c.args.a c.args.r.now Pack 1 c.requires.6 c.in-Pack.is refl (cells_of c.args.state.now c.args.w c.args.r.now) _
-    c.work_out-in-Pack.ensures
+    c.work_out-in-Pack.ensures ∙ worked-out c.args.a c.args.r.now Pack 1 c.requires.6 c.in-Pack.is refl
+    (cells_of c.args.state.now c.args.w c.args.r.now)
 
 pub returns-in-Unpack : goal.returns-in-Unpack
 returns-in-Unpack c =
-    worked-out c.args.a c.args.r.now Unpack 1 c.requires.6 c.in-Unpack.is refl (cells_of c.args.state.now c.args.w c.args.r.now) _
-    c.work_out-in-Unpack.ensures
+    c.work_out-in-Unpack.ensures ∙ worked-out c.args.a c.args.r.now Unpack 1 c.requires.6 c.in-Unpack.is refl
+    (cells_of c.args.state.now c.args.w c.args.r.now)
 
 pub returns-in-DecimalAdd : goal.returns-in-DecimalAdd
 returns-in-DecimalAdd c =
-    worked-out c.args.a c.args.r.now DecimalAdd 1 c.requires.6 c.in-DecimalAdd.is refl (cells_of c.args.state.now c.args.w c.args.r.now) _
-    c.work_out-in-DecimalAdd.ensures
+    c.work_out-in-DecimalAdd.ensures ∙ worked-out c.args.a c.args.r.now DecimalAdd 1 c.requires.6 c.in-DecimalAdd.is refl
+    (cells_of c.args.state.now c.args.w c.args.r.now)

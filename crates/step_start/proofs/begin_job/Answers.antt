@@ -1,4 +1,3 @@
-use borrow.Author.Rules.{rules}
 use Rattle.step_start.specs.Starting.{tree-stays, signal-leaves}
 use Rattle.step_start.proofs.begin_job.Goals as goal
 

@@ -4,23 +4,18 @@ use Rattle.step_start.proofs.start.Goals as goal
 
 pub begin_job-requires : goal.begin_job-requires
 begin_job-requires c =
-    let first-signal = c.first_signal.ensures in
-    let s = c in
-    can-begin s.requires.0 s.args.t.0 s.requires.3 first-signal _ _ c.in-Go.is s.requires.1 s.requires.2
+    let found = rw c.in-Some-Go.field-0-is at c.in-Some-Go.is in
+    can-begin c.requires.0 c.args.t.0 c.requires.3 c.first_signal.ensures _ _ found c.requires.1 c.requires.2
 
-pub returns-in-Nothing : goal.returns-in-Nothing
-returns-in-Nothing c =
-    let s = c in
-    rests-on s.requires.0 s.args.t.0 s.requires.3 c.first_signal.ensures c.in-Nothing.is
+pub returns-in-None : goal.returns-in-None
+returns-in-None c = rests-on c.requires.0 c.args.t.0 c.requires.3 c.first_signal.ensures c.in-None.is
 
-pub returns-in-Wait : goal.returns-in-Wait
-returns-in-Wait c =
-    let s = c in
-    waits-on s.requires.0 s.args.t.0 s.requires.3 c.first_signal.ensures _ _ c.in-Wait.is
+pub returns-in-Some-Wait : goal.returns-in-Some-Wait
+returns-in-Some-Wait c =
+    let found = rw c.in-Some-Wait.field-0-is at c.in-Some-Wait.is in
+    waits-on c.requires.0 c.args.t.0 c.requires.3 c.first_signal.ensures _ _ found
 
-pub returns-in-Go : goal.returns-in-Go
-returns-in-Go c =
-    let found = c.in-Go.is in
-    let first-signal = c.first_signal.ensures in
-    let s = c in
-    begins-on s.requires.0 s.args.t.0 s.requires.3 first-signal _ _ found c.begin_job.ensures
+pub returns-in-Some-Go : goal.returns-in-Some-Go
+returns-in-Some-Go c =
+    let found = rw c.in-Some-Go.field-0-is at c.in-Some-Go.is in
+    begins-on c.requires.0 c.args.t.0 c.requires.3 c.first_signal.ensures _ _ found c.begin_job.ensures

@@ -1,5 +1,4 @@
 use mathlib.Core.Path.{refl, ap}
-use borrow.Author.Rules.{rules}
 use Rattle.rules.specs.Steps.{begin}
 use Rattle.state_thread.specs.Threads.{runs_as}
 use Rattle.step_start.proofs.started.Goals as goal

@@ -3,7 +3,6 @@ use Rattle.lemmas_encoding.specs.Encoded.{encoded-canonical}
 use Rattle.step_contract.specs.Ready.{still-recorded}
 use Rattle.step_store.specs.Destinations.{standing, both_stored}
 use Rattle.step_store.specs.Operands.{legal, second_at}
-use borrow.Author.Rules.{rules}
 use Rattle.step_store.proofs.store_both.Goals as goal
 
 pub store_second-requires : goal.store_second-requires

@@ -1,101 +1,17 @@
-use mathlib.Core.Path.{◌≡◌, ◌∙◌}
 use Prim.Native.Nat.{ℕ, ◌+◌, ◌*◌, ◌<◌}
 use native.Mathlib.Omega.{arith}
-use Rattle.rules.specs.Sizes.{block_count, register_count, word_count}
+use Rattle.rules.specs.Sizes.{block_count, word_count}
 use Rattle.rules.specs.Encoding.{machine_from}
-use Rattle.rules.specs.Statements.{operand_of}
 use Rattle.rules.specs.declared.statement.Operand.TheVariants.{Register, Word}
 use Rattle.rules.specs.declared.statement.Statement.TheVariants.{Assign}
 use Rattle.lemmas_encoding.specs.Encoded.{encoded-canonical}
-use Rattle.step_operands.specs.Statements.{Lands}
 use Rattle.state_shared.specs.Words.{word-written}
 use Rattle.state_thread.specs.Threads.{runs-itself}
 use Rattle.step_contract.specs.Ready.{job-written, slots-assigned}
 use Rattle.step_contract.specs.At.{label-A, small}
 use Rattle.step_store.specs.Destinations.{register-stored, first-written}
-use Rattle.step_store.specs.Operands.{register-lands, word-lands, first-at}
-use borrow.Author.Rules.{rules}
+use Rattle.step_store.specs.Operands.{first-register, first-word}
 use Rattle.step_store.proofs.store_first.Goals as goal
-
--- the destination, by its kind and its value
-destination : (c : goal.Then-kind_at-eq-REGISTER_OPERAND)
-    → (c.args.a.first ≡ operand_of c.kind_at.result c.value_at-to.result)
-    × Lands (operand_of c.kind_at.result c.value_at-to.result)
-destination c =
-    let s = c in
-    first-at s.requires.0 s.args.a s.requires.1 _ _ c.kind_at.ensures c.value_at-to.ensures
-
--- the destination, by its kind and its value
-destination-2 : (c : goal.After-write_assigned-arg-1)
-    → (c.args.a.first ≡ operand_of c.kind_at.result c.value_at-to.result)
-    × Lands (operand_of c.kind_at.result c.value_at-to.result)
-destination-2 c =
-    let s = c in
-    first-at s.requires.0 s.args.a s.requires.1 _ _ c.kind_at.ensures c.value_at-to.ensures
-
--- the destination, by its kind and its value
-destination-3 : (c : goal.After-slice_known-then-kind_at-eq-REGISTER_OPERAND-1)
-    → (c.args.a.first ≡ operand_of c.kind_at.result c.value_at-to.result)
-    × Lands (operand_of c.kind_at.result c.value_at-to.result)
-destination-3 c =
-    let s = c in
-    first-at s.requires.0 s.args.a s.requires.1 _ _ c.kind_at.ensures c.value_at-to.ensures
-
--- the destination, by its kind and its value
-destination-4 : (c : goal.After-write_word-arg-1)
-    → (c.args.a.first ≡ operand_of c.kind_at.result c.value_at-to.result)
-    × Lands (operand_of c.kind_at.result c.value_at-to.result)
-destination-4 c =
-    let s = c in
-    first-at s.requires.0 s.args.a s.requires.1 _ _ c.kind_at.ensures c.value_at-to.ensures
-
--- the destination, by its kind and its value
-destination-5 : (c : goal.After-slice_known-3-1)
-    → (c.args.a.first ≡ operand_of c.kind_at.result c.value_at-to.result)
-    × Lands (operand_of c.kind_at.result c.value_at-to.result)
-destination-5 c =
-    let s = c in
-    first-at s.requires.0 s.args.a s.requires.1 _ _ c.kind_at.ensures c.value_at-to.ensures
-
-register : (c : goal.Then-kind_at-eq-REGISTER_OPERAND)
-    → ((c).args.a.first ≡ Register c.value_at-to.result)
-    × (c.value_at-to.result < register_count)
-register c =
-    let d = destination c in
-    let e = register-lands c.kind_at.result c.value_at-to.result c.if-kind_at-eq-REGISTER_OPERAND.true d.1 in
-    (d.0 ∙ e.0, e.1)
-
-register-2 : (c : goal.After-write_assigned-arg-1)
-    → ((c).args.a.first ≡ Register c.value_at-to.result)
-    × (c.value_at-to.result < register_count)
-register-2 c =
-    let d = destination-2 c in
-    let e = register-lands c.kind_at.result c.value_at-to.result c.if-kind_at-eq-REGISTER_OPERAND.true d.1 in
-    (d.0 ∙ e.0, e.1)
-
-register-3 : (c : goal.After-slice_known-then-kind_at-eq-REGISTER_OPERAND-1)
-    → ((c).args.a.first ≡ Register c.value_at-to.result)
-    × (c.value_at-to.result < register_count)
-register-3 c =
-    let d = destination-3 c in
-    let e = register-lands c.kind_at.result c.value_at-to.result c.if-kind_at-eq-REGISTER_OPERAND.true d.1 in
-    (d.0 ∙ e.0, e.1)
-
-word : (c : goal.After-write_word-arg-1)
-    → ((c).args.a.first ≡ Word c.value_at-to.result)
-    × (c.value_at-to.result < word_count)
-word c =
-    let d = destination-4 c in
-    let e = word-lands c.kind_at.result c.value_at-to.result c.if-kind_at-eq-REGISTER_OPERAND.false d.1 in
-    (d.0 ∙ e.0, e.1)
-
-word-2 : (c : goal.After-slice_known-3-1)
-    → ((c).args.a.first ≡ Word c.value_at-to.result)
-    × (c.value_at-to.result < word_count)
-word-2 c =
-    let d = destination-5 c in
-    let e = word-lands c.kind_at.result c.value_at-to.result c.if-kind_at-eq-REGISTER_OPERAND.false d.1 in
-    (d.0 ∙ e.0, e.1)
 
 pub move_on-next-requires : goal.move_on-next-requires
 move_on-next-requires c =
@@ -104,7 +20,10 @@ move_on-next-requires c =
     (h.thread, rw c.label_a.ensures (small h _ (label-A h (Assign s.args.a) s.requires.1)))
 
 pub assign_register-x-requires : goal.assign_register-x-requires
-assign_register-x-requires c = (c.move_on-next.ensures.running, (register c).1)
+assign_register-x-requires c = (
+  c.move_on-next.ensures.running,
+  (first-register c.requires.0 c.args.a c.requires.1 _ _ c.kind_at.ensures c.value_at-to.ensures c.if-kind_at-eq-REGISTER_OPERAND.true).1,
+)
 
 pub write_assigned-requires : goal.write_assigned-requires
 write_assigned-requires c =
@@ -113,8 +32,14 @@ write_assigned-requires c =
     let h = s.requires.0 in
     let k = c.value_at-to.result in
     let runs = register-stored (Register k) s.args.u move-on.ensures c.assign_register-x.ensures in
-    let kept = slots-assigned h.read h.thread k s.args.u runs in
-    (h.ready.canonical.long, h.inside, runs.running.tidy.returns.within, (register-2 c).1, kept.0, kept.1, kept.2)
+    let kept = slots-assigned h.read h.thread k s.args.u runs in (
+      h.ready.canonical.long,
+      h.inside,
+      runs.running.tidy.returns.within,
+      (first-register c.requires.0 c.args.a c.requires.1 _ _ c.kind_at.ensures c.value_at-to.ensures
+          c.if-kind_at-eq-REGISTER_OPERAND.true).1,
+      kept,
+    )
 
 pub returns-then-kind_at-eq-REGISTER_OPERAND : goal.returns-then-kind_at-eq-REGISTER_OPERAND
 returns-then-kind_at-eq-REGISTER_OPERAND c =
@@ -123,7 +48,8 @@ returns-then-kind_at-eq-REGISTER_OPERAND c =
     let assign-register = c.assign_register-x in
     let s = c in
     let h = s.requires.0 in
-    let to = register-3 c in
+    let to = first-register c.requires.0 c.args.a c.requires.1 _ _ c.kind_at.ensures c.value_at-to.ensures
+    c.if-kind_at-eq-REGISTER_OPERAND.true in
     let runs = register-stored (Register k) s.args.u move-on.ensures assign-register.ensures in
     rw to.0 (record {
       runs = rw c.label_a.ensures at runs;
@@ -140,24 +66,27 @@ write_thread-requires c =
 
 pub write_word-requires : goal.write_word-requires
 write_word-requires c =
-    let word-kind = c in
-    let move-on = word-kind.move_on-next in
-    let s = word-kind in
+    let move-on = c.move_on-next in
+    let s = c in
     let h = s.requires.0 in
     let thread = job-written s.args.t.0 h.ready.canonical h.inside (runs-itself move-on.ensures.running)
     c.write_thread.ensures in
-    let block = c.block_field-block in
-    ((encoded-canonical _ _ thread).long, rw block.ensures h.readable.block, (word word-kind).1)
+    let block = c.block_field-block in (
+      (encoded-canonical _ _ thread).long,
+      rw block.ensures h.readable.block,
+      (first-word c.requires.0 c.args.a c.requires.1 _ _ c.kind_at.ensures c.value_at-to.ensures
+          c.if-kind_at-eq-REGISTER_OPERAND.false).1,
+    )
 
 pub returns : goal.returns
 returns c =
-    let word-kind = c in
-    let s = word-kind in
+    let s = c in
     let h = s.requires.0 in
-    let to = word-2 word-kind in
-    let k : ℕ = word-kind.value_at-to.result in
+    let to = first-word c.requires.0 c.args.a c.requires.1 _ _ c.kind_at.ensures c.value_at-to.ensures
+    c.if-kind_at-eq-REGISTER_OPERAND.false in
+    let k : ℕ = c.value_at-to.result in
     let l : k < word_count = to.1 in
-    let next = word-kind.move_on-next in
+    let next = c.move_on-next in
     let thread = job-written s.args.t.0 h.ready.canonical h.inside (runs-itself next.ensures.running)
     c.write_thread.ensures in
     let block = c.block_field-block in
@@ -165,7 +94,7 @@ returns c =
     let stored = word-written _ _ (encoded-canonical _ _ thread) (word_count * block.result.0 + k) s.args.u
     (omega arith) c.write_word.ensures in
     rw to.0 (record {
-      runs = rw word-kind.label_a.ensures at next.ensures;
+      runs = rw c.label_a.ensures at next.ensures;
       encodes = first-written (machine_from s.args.state.now)
           s.args.t.0 _ next.result (Word k) s.args.u thread
           (rw block.ensures at stored);

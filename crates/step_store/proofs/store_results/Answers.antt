@@ -3,7 +3,6 @@ use Rattle.rules.specs.Encoding.{machine_from}
 use Rattle.rules.specs.declared.statement.Shape.{Shape}
 use Rattle.step_store.specs.Destinations.{one-stored}
 use Rattle.step_store.specs.Operands.{legal, one-destination}
-use borrow.Author.Rules.{rules}
 use Rattle.step_store.proofs.store_results.Goals as goal
 
 pub store_both-requires : goal.store_both-requires

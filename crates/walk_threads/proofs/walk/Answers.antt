@@ -7,8 +7,7 @@ use Rattle.walk_threads.proofs.walk.Goals as goal
 pub returns : goal.returns
 unfolding walk_from
 returns c =
-    let s = c in
-    let a = s.args in
+    let a = c.args in
     let R = rules_by a.image.now a.table.now in
     let m = machine_from a.state.now in
     let e = from-none (awaits R m) _ a.t.0 _ _ c.blank.ensures c.walk_on.ensures.count c.walk_on.ensures.bytes in

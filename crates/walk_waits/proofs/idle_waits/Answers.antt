@@ -2,17 +2,15 @@ use borrow.Author.Rules.{rules}
 use Rattle.walk_waits.specs.Waiting.{waits-first}
 use Rattle.walk_waits.proofs.idle_waits.Goals as goal
 
-pub returns-in-Nothing : goal.returns-in-Nothing
-returns-in-Nothing c =
-    let s = c in
-    waits-first s.requires.0 s.args.t.0 s.requires.1 c.first_signal.ensures _ c.in-Nothing.is
+pub returns-in-None : goal.returns-in-None
+returns-in-None c = waits-first c.requires.0 c.args.t.0 c.requires.1 c.first_signal.ensures _ c.in-None.is
 
-pub returns-in-Wait : goal.returns-in-Wait
-returns-in-Wait c =
-    let s = c in
-    waits-first s.requires.0 s.args.t.0 s.requires.1 c.first_signal.ensures _ c.in-Wait.is
+pub returns-in-Some-Wait : goal.returns-in-Some-Wait
+returns-in-Some-Wait c =
+    let found = rw c.in-Some-Wait.field-0-is at c.in-Some-Wait.is in
+    waits-first c.requires.0 c.args.t.0 c.requires.1 c.first_signal.ensures _ found
 
-pub returns-in-Go : goal.returns-in-Go
-returns-in-Go c =
-    let s = c in
-    waits-first s.requires.0 s.args.t.0 s.requires.1 c.first_signal.ensures _ c.in-Go.is
+pub returns-in-Some-Go : goal.returns-in-Some-Go
+returns-in-Some-Go c =
+    let found = rw c.in-Some-Go.field-0-is at c.in-Some-Go.is in
+    waits-first c.requires.0 c.args.t.0 c.requires.1 c.first_signal.ensures _ found

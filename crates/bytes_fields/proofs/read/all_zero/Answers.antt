@@ -1,12 +1,8 @@
-use mathlib.Core.Path.{refl}
-use Prim.Native.Nat.{◌*◌, ◌/◌}
+use Rattle.std.specs.Prelude.{◌≡◌, refl, ◌+◌, ◌*◌, ◌/◌}
 use native.Mathlib.Omega.{arith}
 use lib.Bits.{bit_or}
 use Rattle.bytes_fields.specs.Tests.{last_sixteen, last_none, halved_none, halved-eight, halved-all}
 use Rattle.bytes_fields.proofs.read.all_zero.Goals as goal
-
-pub returns-then-n-lt16 : goal.returns-then-n-lt16
-returns-then-n-lt16 c = c.few_zero.ensures
 
 pub loop-k-init : goal.loop-k-init
 loop-k-init c =
@@ -18,13 +14,15 @@ loop-k-init c =
 pub loop-k-preserved : goal.loop-k-preserved
 loop-k-preserved c =
     let a = c.args in
-    let s = a.s.now in
     let l = c.loop-k in
-    halved-eight s a.at (a.n / 16 * 8) (last_sixteen s a.at a.n) l.set l.k c.get64-in-loop-k.result c.get64-in-loop-k-2.result
-    l.invariant (omega (arith, l.invariant.1)) c.get64-in-loop-k.ensures c.get64-in-loop-k-2.ensures
+    let e : 8 * (l.k + 1) ≡ 8 * l.k + 8 = omega arith in
+    rw e
+    (halved-eight a.s.now a.at (a.n / 16 * 8) (last_sixteen a.s.now a.at a.n) l.set (8 * l.k) c.get64-set.result
+    c.get64-set-in-loop-k.result
+    l.invariant (omega arith) c.get64-set.ensures c.get64-set-in-loop-k.ensures)
 
 pub returns : goal.returns
 returns c =
     let a = c.args in
     let l = c.loop-k in
-    halved-all a.s.now a.at a.n (a.n / 16 * 8) l.set l.k (omega arith) refl (omega arith) l.invariant
+    halved-all a.s.now a.at a.n (a.n / 16 * 8) l.set (8 * l.k) (omega arith) refl (omega arith) l.invariant

@@ -11,9 +11,6 @@ pub loop-k-init : goal.loop-k-init
 unfolding chunks
 loop-k-init c = (omega arith, refl, refl)
 
-pub loop-k-smaller : goal.loop-k-smaller
-loop-k-smaller c = simp length-set (omega arith)
-
 pub loop-k-preserved : goal.loop-k-preserved
 loop-k-preserved c =
     let a = c.args in
@@ -21,7 +18,7 @@ loop-k-preserved c =
       simp length-set (omega arith),
       simp length-set (omega arith),
       fill_step num16 2 l.out l.k c.get16.result
-          (drop a.at a.s.now) c.loop-k-test.true l.invariant.2 (c.get16.ensures
+          (drop a.at a.s.now) (omega (arith, l.invariant.1, c.loop-k-test.true)) l.invariant.2 (c.get16.ensures
           ∙ ap num16 (sym (drop-drop (2 * l.k) a.at a.s.now))),
     )
 
@@ -32,4 +29,4 @@ pub returns : goal.returns
 returns c =
     let l = c.loop-k in
     let e : l.k ≡ length c.args.out.now = omega arith in
-    sym (take_all l.k l.out c.loop-k-test.false) ∙ l.invariant.2 ∙ rw e
+    sym (take_all l.k l.out (omega (arith, l.invariant.1, c.loop-k-test.false))) ∙ l.invariant.2 ∙ rw e

@@ -1,25 +1,16 @@
-use mathlib.Core.Path.{◌≡◌, refl}
-use Prim.Native.Nat.{◌+◌}
+use Rattle.std.specs.Prelude.{◌≡◌, ◌+◌, ◌-◌}
+use Rattle.std.proofs.Common.{◌∙◌}
 use native.Mathlib.Omega.{arith}
-use lib.ListN.{length-set}
-use Rattle.bytes_fields.specs.Put.{put, put_then, gap_step, length_part}
 use Rattle.rules.specs.Bytes.{part}
+use Rattle.bytes_fields.specs.Put.{put, put_then, put_pasted, length_part}
 use Rattle.bytes_fields.proofs.write.remove.Goals as goal
 
-pub loop-k-init : goal.loop-k-init
-unfolding put part
-loop-k-init c = (omega arith, refl, refl)
-
-pub loop-k-preserved : goal.loop-k-preserved
-loop-k-preserved c = (omega arith, simp length-set (omega arith), gap_step _ _ _ _ (omega arith) c.loop-k.invariant.2)
-
-pub shape_of-s : goal.shape_of-s
-shape_of-s c = omega (arith, c.clear.auto.s)
-
 pub returns : goal.returns
+unfolding part
 returns c =
-    let l = c.loop-k in
     let a = c.args in
-    let e : l.k ≡ a.more = omega arith in
-    put_then _ _ _ _ _ (rw e at l.invariant.2) c.clear.ensures
-    (rw (length_part a.s.now (a.at + a.n) a.more c.requires))
+    let n : a.at + a.n + a.more - (a.at + a.n) ≡ a.more = omega arith in
+    let l = length_part a.s.now (a.at + a.n) a.more (omega arith) in
+    let moved : c.copy_within.new.self ≡ put a.s.now a.at (part a.s.now (a.at + a.n) a.more) =
+    c.copy_within.ensures.after ∙ rw n (put_pasted a.s.now a.at a.more _ l (omega arith)) in
+    put_then _ _ _ _ _ moved c.clear.ensures (omega (arith, l))

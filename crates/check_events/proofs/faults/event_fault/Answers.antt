@@ -1,19 +1,28 @@
+use Rattle.std.proofs.Common.{sym, ◌∙◌}
+use Rattle.std.specs.Prelude.{◌/◌, length}
 use native.Mathlib.Omega.{arith}
-use lib.ListN.{length}
-use Prim.Native.Nat.{◌/◌}
 use Rattle.rules.specs.Sizes.{event_size}
+use Rattle.rules.specs.Codes.{bad_event_number}
 use Rattle.rules.specs.Events.{event_at_ok}
 use Rattle.rules.specs.Calls.{event_fault}
 use Rattle.bytes_fields.specs.Tests.{within}
-use Rattle.check_events.specs.Faults.{counted}
+use Rattle.check_events.specs.Faults.{counted, index-is, fault-found, fault-none}
 use Rattle.check_events.proofs.faults.event_fault.Goals as goal
 
-pub refuse-requires : goal.refuse-requires
-refuse-requires c =
+pub overflow_cast-result : goal.overflow_cast-result
+overflow_cast-result c =
     let a = c.args in
     let k = counted a.events.now c.requires in
-    omega (arith, within (event_at_ok a.image.now a.events.now) 0 (length a.events.now / event_size))
+    omega (
+      arith,
+      within (event_at_ok a.image.now a.events.now) 0 (length a.events.now / event_size),
+      index-is _ _ _ (sym c.first_bad_event.ensures ∙ c.in-Some.is),
+    )
 
-pub returns : goal.returns
+pub returns-in-Some : goal.returns-in-Some
 unfolding event_fault
-returns c = simp (c.refuse.ensures, c.first_bad_event-i.ensures)
+returns-in-Some c = fault-found _ _ bad_event_number _ (sym c.first_bad_event.ensures ∙ c.in-Some.is)
+
+pub returns-in-None : goal.returns-in-None
+unfolding event_fault
+returns-in-None c = fault-none _ _ bad_event_number (sym c.first_bad_event.ensures ∙ c.in-None.is)

@@ -1,4 +1,3 @@
-use Rattle.std.proofs.Common.{rules}
 use Rattle.check_operands.proofs.runs.bound_of.Goals as goal
 
 pub returns : goal.returns

@@ -1,4 +1,4 @@
-use Rattle.std.proofs.Common.{◌-◌, sym, refl, arith, rules, ne_eqb, le-leb}
+use Rattle.std.proofs.Common.{◌-◌, sym, refl, arith, ne_eqb, le-leb}
 use borrow.Author.Tests.{lt-leb}
 use Rattle.check_operands.proofs.runs.over.Goals as goal
 

@@ -1,4 +1,4 @@
-use Rattle.std.proofs.Common.{◌≡◌, ◌+◌, ◌-◌, ◌%◌, refl, arith, rules}
+use Rattle.std.proofs.Common.{◌≡◌, ◌+◌, ◌-◌, ◌%◌, refl, arith}
 use Rattle.check_operands.specs.Operands.{byte_ok}
 use Rattle.check_operands.proofs.runs.wrong_byte.Goals as goal
 

@@ -1,5 +1,4 @@
 use Rattle.bytes_fields.specs.Tests.{or-none}
-use Rattle.std.proofs.Common.{rules}
 use Rattle.check_operands.proofs.runs.wrong_rest.Goals as goal
 
 pub returns : goal.returns

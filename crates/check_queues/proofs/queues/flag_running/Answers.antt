@@ -17,7 +17,7 @@ use Rattle.check_queues.proofs.queues.flag_running.Goals as goal
 
 pub loop-t-init : goal.loop-t-init
 unfolding chunks
-loop-t-init c = (omega arith, c.requires.1, refl)
+loop-t-init c = (omega arith, omega arith, refl)
 
 pub loop-t-preserved : goal.loop-t-preserved
 loop-t-preserved c =

@@ -11,9 +11,9 @@ pub returns : goal.returns
 returns c =
     let a = c.args in
     simp (
-      c.thread_number.ensures,
+      c.from-2.ensures,
       c.home.ensures,
-      c.label_of.ensures,
+      c.from.ensures,
       c.get16.ensures,
     )
     (sym (homed-some a.image.now a.table.now a.s.now a.at c.if-s-at-eq0.false))

@@ -36,7 +36,7 @@ returns-then-not-label_ok c =
     rw (
       sum-passed at.Else-not-sum_ok,
       zeros-passed at.Else-not-zeros_ok,
-      ← c.requires.1,
+      ← c.requires.0,
       ← c.label_ok.ensures,
       c.if-not-label_ok.true,
     )
@@ -49,8 +49,8 @@ returns c =
     rw (
       sum-passed at.Else-not-sum_ok,
       zeros-passed at.Else-not-zeros_ok,
-      ← c.requires.1,
+      ← c.requires.0,
       first-passed at.Else-not-label_ok,
-      ← c.requires.2,
+      ← c.requires.1,
     )
     c.label_ok-2.ensures

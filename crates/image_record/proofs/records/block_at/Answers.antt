@@ -1,23 +1,16 @@
 use native.Mathlib.Omega.{arith}
 use Rattle.rules.specs.Sizes.{block_count, block_place}
 use Rattle.image_record.specs.Records.{record-fits, record-byte}
-use borrow.Author.Rules.{rules}
 use Rattle.image_record.proofs.records.block_at.Goals as goal
 
-pub bounds-image-l : goal.bounds-image-l
-bounds-image-l c =
-    omega (
-      arith,
-      record-fits c.args.image.now c.args.at.0
-          c.requires,
-    )
+pub bounds-image-place_of : goal.bounds-image-place_of
+bounds-image-place_of c = omega (arith, record-fits c.args.image.now c.args.at.0 c.requires)
 
 pub returns : goal.returns
 returns c =
     let a = c.args in
     simp (
-      c.block_of.ensures,
-      c.index_of-l.ensures,
-      record-byte a.image.now a.at.0
-          c.requires block_place block_count (omega arith),
+      c.from.ensures,
+      c.place_of.ensures,
+      record-byte a.image.now a.at.0 c.requires block_place block_count (omega arith),
     )

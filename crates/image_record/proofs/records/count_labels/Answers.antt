@@ -1,5 +1,4 @@
 use Rattle.rules.specs.Image.{labels}
-use borrow.Author.Rules.{rules}
 use Rattle.image_record.proofs.records.count_labels.Goals as goal
 
 pub returns-then-image-n : goal.returns-then-image-n

@@ -19,15 +19,15 @@ get16-requires c = omega (arith, c.requires.1.room)
 pub block_at-requires : goal.block_at-requires
 block_at-requires c =
     let s = c in
-    rw (c.label_of.ensures, c.get16.ensures) (arrival-below s.requires.1 s.requires.2)
+    rw (c.from.ensures, c.get16.ensures) (arrival-below s.requires.1 s.requires.2)
 
 pub thread_at-t-requires : goal.thread_at-t-requires
 thread_at-t-requires c =
-    let label_of = c.label_of in
+    let from = c.from in
     let get16 = c.get16 in
     let s = c in
     let block = arrival-block s.requires.1 s.requires.2 s.requires.0 in
-    (rw (c.block_at.ensures, label_of.ensures, get16.ensures) block, table-long s.requires.0)
+    (rw (c.block_at.ensures, from.ensures, get16.ensures) block, table-long s.requires.0)
 
 pub append-requires : goal.append-requires
 append-requires c =
@@ -45,14 +45,14 @@ returns-then-room c =
     let room = c.room in
     let thread-at = c.thread_at-t in
     let at-block = c.block_at in
-    let label_of = c.label_of in
+    let from = c.from in
     let earlier = c in
     let get16 = earlier.get16 in
     let s = earlier in
     let t = thread-at.result.0 in
     let l : ℕ = num16 (drop (event_size * s.args.i + event_signal_place) s.args.events.now) in
     let to : t ≡ (row_at s.args.table.now (block_at s.args.image.now l)).thread =
-    rw (thread-at.ensures, at-block.ensures, label_of.ensures, get16.ensures) refl in
+    rw (thread-at.ensures, at-block.ensures, from.ensures, get16.ensures) refl in
     arrived-done s.requires.1 s.requires.2 s.requires.0 t to (sym room.ensures ∙ if1.true) append.ensures.canon append.ensures.state_after
 
 pub returns : goal.returns
@@ -60,13 +60,13 @@ returns c =
     let room = c.room in
     let thread-at = c.thread_at-t in
     let at-block = c.block_at in
-    let label_of = c.label_of in
+    let from = c.from in
     let get16 = c.get16 in
     let s = c in
     let t = thread-at.result.0 in
     let l : ℕ = num16 (drop (event_size * s.args.i + event_signal_place) s.args.events.now) in
     let to : t ≡ (row_at s.args.table.now (block_at s.args.image.now l)).thread =
-    rw (thread-at.ensures, at-block.ensures, label_of.ensures, get16.ensures) refl in
+    rw (thread-at.ensures, at-block.ensures, from.ensures, get16.ensures) refl in
     full-done s.requires.1 s.requires.2 s.requires.0 t to (sym room.ensures ∙ c.if-room.false)
 
 pub overflow_mul-at : goal.overflow_mul-at

@@ -24,7 +24,7 @@ push-requires c =
     let m = encoded-machine _ _ c.go_on-a.ensures.encodes in
     let inside = own-tree s.requires.at.0 s.args.i s.requires.i_value.0 in
     let canonical = encoded-canonical _ _ c.go_on-a.ensures.encodes in
-    (canonical, rw m inside, rw m s.requires.i_value.1, record { few = rw n given.few; zeros = rw n (zeros-stay given refl) })
+    (canonical, rw m inside, rw m s.requires.i_value.1, record { few = rw n given.few; zeros = rw n (zeros-stay given) })
 
 pub returns : goal.returns
 returns c =

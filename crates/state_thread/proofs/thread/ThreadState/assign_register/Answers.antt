@@ -10,7 +10,7 @@ returns c =
     let p = c.requires in
     let z = p.0.tidy.registers in
     let w = a.self in
-    rw c.mark.ensures
+    rw c.with.ensures
     (running-thread _ _ _ p.0.label p.0.tidy.returns (stored-tidy w.present w.registers a.register a.value z.sized
     p.1 z) p.0.tidy.held refl
     (ap (λ l. keeping w (job w.label.0 (returns_of w) l)) (stored-registers w.present w.registers a.register a.value

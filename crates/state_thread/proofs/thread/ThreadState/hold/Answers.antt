@@ -1,6 +1,4 @@
 use mathlib.Core.Path.{refl}
-use native.Mathlib.Nat.{one-mul, mod-eq_of_lt}
-use lib.Pow.{pow-lt}
 use Rattle.state_thread.specs.Threads.{running-thread}
 use Rattle.state_thread.proofs.thread.ThreadState.hold.Goals as goal
 
@@ -8,4 +6,4 @@ pub returns : goal.returns
 returns c =
     let p = c.requires in
     running-thread _ _ _ p.0.label p.0.tidy.returns p.0.tidy.registers p.0.tidy.held
-    (rw (c.lock_number.ensures, one-mul, mod-eq_of_lt (pow-lt p.1))) refl
+    (rw (c.with.ensures, c.from-2.ensures, c.from.ensures)) refl

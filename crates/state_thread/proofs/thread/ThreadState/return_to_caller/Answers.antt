@@ -9,7 +9,7 @@ pub enter-requires : goal.enter-requires
 enter-requires c =
     let w = c.args.self in
     let p = c.requires in
-    let l : c.label_of-label.result.0 ≡ newest_of (returns_of w) = ap (λ l. l.0) c.label_of-label.ensures
+    let l : c.from-label.result.0 ≡ newest_of (returns_of w) = ap (λ l. l.0) c.from-label.ensures
     ∙ popped-label w.depth w.returns p.0.tidy.returns p.1 in
     (tidy-with w _ _ p.0 (popped-tidy w.depth w.returns p.0.tidy.returns p.1), rw l p.2, p.3, p.4)
 
@@ -18,7 +18,7 @@ returns c =
     let a = c.args in
     let w = a.self in
     let z = c.requires.0.tidy.returns in
-    let l : c.label_of-label.result.0 ≡ newest_of (returns_of w) = ap (λ l. l.0) c.label_of-label.ensures
+    let l : c.from-label.result.0 ≡ newest_of (returns_of w) = ap (λ l. l.0) c.from-label.ensures
     ∙ popped-label w.depth w.returns z c.requires.1 in
     runs_as c.enter.ensures refl (λ i. keeping w
     (job (l i) (popped w.depth w.returns z c.requires.1 i) (fill (take a.count a.values))))
