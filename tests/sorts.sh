@@ -1,6 +1,6 @@
 #!/bin/sh
 # One sort of number given for another does not compile, nor does a plain number given for a sort, nor is a sort made or opened
-# but by its conversions. Each case is a wrong function in a module that is added to a copy of the crate that declares the
+# but by its named functions. Each case is a wrong function in a module that is added to a copy of the crate that declares the
 # sorts; the compiler has to refuse each, and for the reason named here. A right function, tried first, has to compile.
 set -u
 root=$(cd "$(dirname "$0")/.." && pwd)
@@ -42,7 +42,7 @@ made() {
 }
 
 begin
-add 'let l = sorts::Label::from(1u16); let n = u16::from(l);'
+add 'let l = sorts::Label::from(1u16); let n = sorts::label_number(l);'
 case $(compiled) in
     *error*) echo "sorts: the right function does not compile"; exit 1 ;;
     *only=0*) ;;
@@ -77,11 +77,12 @@ failed=0
 for wanted in Label Block Thread Lock; do
     begin
     : >"$copy/wanted"
+    taker=$(echo "$wanted" | tr 'A-Z' 'a-z')_number
     for given in Label Block Thread Lock 'an integer'; do
         [ "$given" = "$wanted" ] && continue
         found="\`$given\`"
         [ "$given" = 'an integer' ] && found=$given
-        refused "$given given for $wanted" "let x = $(made "$given"); let n: sorts::$wanted = x;" \
+        refused "$given given for $wanted" "let x = $(made "$given"); let n = sorts::$taker(x);" \
             "error[mismatched-types]: expected \`$wanted\`, found $found"
     done
     refused "$wanted made outside" "let x = sorts::$wanted(1);" 'error[private-item]'

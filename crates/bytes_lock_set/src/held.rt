@@ -6,13 +6,13 @@ ghost use Rattle.rules.specs.Machine.{locks_held, lowest_held};
 ghost use Rattle.bytes_lock_set.specs.Lowest.{lowest_by};
 
 use crate::sets::BitSet;
-use rules::sorts::Lock;
+use rules::sorts::{Lock, lock_number};
 
 pub fn holds(set: u16, lock: Lock) -> bool
     requires { lock.0 < lock_count }
     ensures { result ≡ has lock.0 set }
 {
-    set.has(usize::from(u8::from(lock)))
+    set.has(usize::from(lock_number(lock)))
 }
 
 pub fn number_held(set: u16) -> u32

@@ -15,14 +15,14 @@ use check_records::Records;
 use check_refusal::{Refusal, ensure};
 use rules::layout::{BLOCK_PLACE, RECORD_SIZE};
 use rules::limits::Image;
-use rules::sorts::Block;
+use rules::sorts::{Block, block_number};
 
 // A set of blocks with one block more.
 pub fn with_block(set: u16, b: Block) -> u16
     requires { b.0 < block_count }
     ensures { result ≡ bit_or set (2 ^ b.0) }
 {
-    set | (1u16 << u8::from(b))
+    set | (1u16 << block_number(b))
 }
 
 // The blocks that an image names, as a set: bit b for block b.

@@ -20,7 +20,7 @@ use rules::layout::{
     PENDING_COUNT_PLACE, SIGNALS_PLACE, STATE_SIZE, THREAD_SIZE, THREADS_PLACE, TREE_SIZE,
     TREES_PLACE,
 };
-use rules::sorts::{Label, Thread};
+use rules::sorts::{Label, Thread, thread_number};
 
 // A flag for each thread: 1 where it runs, 0 where it is idle.
 pub fn flag_running(state: &[u8; STATE_SIZE], flags: &mut [u8; Thread::COUNT])
@@ -51,7 +51,7 @@ pub fn is_homed(image: &[u8], table: &[u8], s: &[u8], at: usize) -> bool
     if s[at + PENDING_COUNT_PLACE] == 0 {
         return false;
     }
-    s[at] == u8::from(home(image, table, Label::from(get16(s, at + SIGNALS_PLACE))))
+    s[at] == thread_number(home(image, table, Label::from(get16(s, at + SIGNALS_PLACE))))
 }
 
 // Every tree is good. A running thread's first tree may stand where it stands; any other has to belong there. At the end no running

@@ -12,6 +12,7 @@ use check_operands::runs::{few_ok, many_ok, none_ok};
 use image_record::record_fields::{label_a, label_b};
 use rules::codes::DECIMAL_ADD;
 use rules::layout::{OPCODE_PLACE, OPERAND_COUNT_PLACE, RECORD_SIZE};
+use rules::sorts::label_number;
 
 // The most operands of a record that are few.
 const FEW: u8 = 5;
@@ -40,11 +41,11 @@ pub fn rule_ok(image: &[u8], n: usize, r: &[u8]) -> bool
     ensures { result ≡ rule_ok image.now r.now }
 {
     let r: &[u8; RECORD_SIZE] = r.try_into().unwrap();
-    let a = usize::from(u16::from(label_a(r)));
+    let a = usize::from(label_number(label_a(r)));
     if n <= a {
         return false;
     }
-    let b = usize::from(u16::from(label_b(r)));
+    let b = usize::from(label_number(label_b(r)));
     if n <= b {
         return false;
     }

@@ -9,7 +9,7 @@ use rules::codes::{
     BAD_OUTPUT_LENGTH, BAD_RECORD, BAD_STATE, BAD_STATE_LENGTH, BAD_TABLE_FIELD, BAD_TABLE_LENGTH,
     BAD_WALK_THREAD, BAD_WORDS_LENGTH, SHARED_BLOCK, TOO_MANY_RECORDS,
 };
-use rules::sorts::{Block, Label};
+use rules::sorts::{Block, Label, block_number, label_number};
 
 // With the place, where it has one: the block of a table field's row, a record's label, an event's index.
 #[derive(Clone, Copy, PartialEq, Eq)]
@@ -38,8 +38,8 @@ impl From<Refusal> for u32 {
         let (number, place) = match refusal {
             Refusal::ImageLength => (BAD_IMAGE_LENGTH, 0),
             Refusal::TableLength => (BAD_TABLE_LENGTH, 0),
-            Refusal::TableField(block) => (BAD_TABLE_FIELD, u16::from(u8::from(block))),
-            Refusal::Record(label) => (BAD_RECORD, u16::from(label)),
+            Refusal::TableField(block) => (BAD_TABLE_FIELD, u16::from(block_number(block))),
+            Refusal::Record(label) => (BAD_RECORD, label_number(label)),
             Refusal::StateLength => (BAD_STATE_LENGTH, 0),
             Refusal::State => (BAD_STATE, 0),
             Refusal::EventsLength => (BAD_EVENTS_LENGTH, 0),

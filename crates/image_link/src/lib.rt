@@ -16,7 +16,7 @@ use image_labels::uses_of;
 use image_record::record_fields::{label_a, label_b};
 use image_record::records::count_labels;
 use rules::layout::{LABEL_A_PLACE, LABEL_B_PLACE, RECORD_SIZE};
-use rules::sorts::Label;
+use rules::sorts::{Label, label_number};
 
 // A label that is used, d higher; one that is not, as it is.
 pub fn shifted(used: bool, at: Label, d: u16) -> Label
@@ -24,7 +24,7 @@ pub fn shifted(used: bool, at: Label, d: u16) -> Label
     ensures { result ≡ label (cond used (at.0 + d) at.0) }
 {
     if used {
-        Label::from(u16::from(at) + d)
+        Label::from(label_number(at) + d)
     } else {
         at
     }
@@ -39,8 +39,8 @@ pub fn shift_record(out: &mut [u8], at: usize, r: &[u8], d: u16)
     let uses = uses_of(r);
     let a = shifted(uses.a, label_a(r), d);
     let b = shifted(uses.b, label_b(r), d);
-    put16(out, at + LABEL_A_PLACE, u16::from(a));
-    put16(out, at + LABEL_B_PLACE, u16::from(b));
+    put16(out, at + LABEL_A_PLACE, label_number(a));
+    put16(out, at + LABEL_B_PLACE, label_number(b));
 }
 
 // The linked image goes to the output, which has exactly the room for it.

@@ -6,7 +6,7 @@ ghost use Rattle.rules.specs.Image.{labels, record_at, block_field, entry};
 
 use rules::layout::{BLOCK_PLACE, ENTRY_PLACE, RECORD_SIZE};
 use rules::limits::Image;
-use rules::sorts::{Block, Label};
+use rules::sorts::{Block, Label, label_number};
 
 // How many records an image has: none where its length is bad.
 pub fn count_labels(image: &[u8]) -> usize
@@ -24,7 +24,7 @@ pub fn count_labels(image: &[u8]) -> usize
 pub fn record_at(image: &[u8], at: Label) -> &[u8]
     ensures { result.now ≡ record_at image.now at.0 }
 {
-    if usize::from(u16::from(at)) < count_labels(image) {
+    if usize::from(label_number(at)) < count_labels(image) {
         record_of(image, at)
     } else {
         &image[..0]
@@ -43,7 +43,7 @@ pub fn find_record(image: &[u8], at: Label) -> Option<&[u8; RECORD_SIZE]>
 fn place_of(at: Label) -> usize
     ensures { result ≡ record_size * at.0 }
 {
-    RECORD_SIZE * usize::from(u16::from(at))
+    RECORD_SIZE * usize::from(label_number(at))
 }
 
 // The same at a label that the image has.

@@ -13,14 +13,14 @@ ghost use Rattle.image_table.specs.BadRow.{bad_row};
 
 use bytes_fields::read::{get64, wide};
 use rules::layout::{ROW_KIND_PLACE, ROW_LOCK_PLACE, ROW_SIZE, ROW_THREAD_PLACE};
-use rules::sorts::{Block, Lock, Thread};
+use rules::sorts::{Block, Lock, Thread, block_number};
 
 // The field at a place of a block's row.
 pub fn field_at(table: &[u8], b: Block, place: usize) -> u8
     requires { (b.0 < block_count) × (length table.now ≡ table_size) × (place < row_size) }
     ensures { result ≡ get_or table.now (row_size * b.0 + place) 0 }
 {
-    let row = ROW_SIZE * wide(u8::from(b));
+    let row = ROW_SIZE * wide(block_number(b));
     table[row + place]
 }
 

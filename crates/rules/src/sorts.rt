@@ -1,5 +1,5 @@
-// The four sorts of number of docs/MACHINE.md. Their fields are private: only `From` converts, by name, so one sort given for another, or a
-// plain number given for one, does not compile.
+// The four sorts of number of docs/MACHINE.md. Their fields are private: a sort is made by its `from` alone and opened by its own named
+// function, which takes no other, so one sort given for another, or a plain number given for one, does not compile.
 ghost use Rattle.std.specs.Prelude.{◌≡◌};
 ghost use Rattle.rules.specs.Sorts.{label, block, thread, lock};
 
@@ -27,12 +27,10 @@ impl From<u16> for Label {
     }
 }
 
-impl From<Label> for u16 {
-    ghost from_gives = { λ l n. n ≡ l.0 };
-
-    fn from(l: Label) -> Self {
-        l.0
-    }
+pub fn label_number(l: Label) -> u16
+    ensures { result ≡ l.0 }
+{
+    l.0
 }
 
 impl From<u8> for Block {
@@ -43,12 +41,10 @@ impl From<u8> for Block {
     }
 }
 
-impl From<Block> for u8 {
-    ghost from_gives = { λ b n. n ≡ b.0 };
-
-    fn from(b: Block) -> Self {
-        b.0
-    }
+pub fn block_number(b: Block) -> u8
+    ensures { result ≡ b.0 }
+{
+    b.0
 }
 
 impl From<u8> for Thread {
@@ -59,12 +55,10 @@ impl From<u8> for Thread {
     }
 }
 
-impl From<Thread> for u8 {
-    ghost from_gives = { λ t n. n ≡ t.0 };
-
-    fn from(t: Thread) -> Self {
-        t.0
-    }
+pub fn thread_number(t: Thread) -> u8
+    ensures { result ≡ t.0 }
+{
+    t.0
 }
 
 impl From<u8> for Lock {
@@ -75,10 +69,8 @@ impl From<u8> for Lock {
     }
 }
 
-impl From<Lock> for u8 {
-    ghost from_gives = { λ l n. n ≡ l.0 };
-
-    fn from(l: Lock) -> Self {
-        l.0
-    }
+pub fn lock_number(l: Lock) -> u8
+    ensures { result ≡ l.0 }
+{
+    l.0
 }

@@ -15,13 +15,14 @@ use rules::codes::{
     WAS_CUT,
 };
 use rules::layout::ANSWER_SIZE;
+use rules::sorts::lock_number;
 
 // An answer as its code and its detail, both bytes as one number.
 #[derive(Clone, Copy)]
 pub struct AnswerBytes(u16);
 
 #[tactic(auto, unfolding(rules::specs::Answers::code))]
-fn code_of(a: Answer) -> u8
+pub fn code_of(a: Answer) -> u8
     ensures { result ≡ code a }
 {
     match a {
@@ -39,11 +40,11 @@ fn code_of(a: Answer) -> u8
 }
 
 #[tactic(auto, unfolding(rules::specs::Answers::detail))]
-fn detail_of(a: Answer) -> u8
+pub fn detail_of(a: Answer) -> u8
     ensures { result ≡ detail a }
 {
     match a {
-        Answer::Waiting(lock) => u8::from(lock),
+        Answer::Waiting(lock) => lock_number(lock),
         Answer::Exited(lost) => lost,
         Answer::Trapped(reason) => reason,
         _ => 0,

@@ -12,7 +12,7 @@ ghost use Rattle.state_shared.specs.Locks.{passes};
 use bytes_fields::read::{get16, wide};
 use bytes_lock_set::held::holds;
 use rules::layout::{LOCKS_PLACE, THREAD_SIZE, THREADS_PLACE};
-use rules::sorts::{Lock, Thread};
+use rules::sorts::{Lock, Thread, thread_number};
 
 // Whether the search for a holder passes thread t: it is the thread left out, or does not hold the lock.
 fn passed(state: &[u8], lock: Lock, out: Thread, t: Thread) -> bool
@@ -24,7 +24,7 @@ fn passed(state: &[u8], lock: Lock, out: Thread, t: Thread) -> bool
     }
     let locks = get16(
         state,
-        THREADS_PLACE + THREAD_SIZE * wide(u8::from(t)) + LOCKS_PLACE,
+        THREADS_PLACE + THREAD_SIZE * wide(thread_number(t)) + LOCKS_PLACE,
     );
     !holds(locks, lock)
 }

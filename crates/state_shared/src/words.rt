@@ -7,14 +7,14 @@ ghost use Rattle.state_shared.specs.Words.{word_place};
 
 use bytes_fields::read::{get16, wide};
 use bytes_fields::write::put16;
-use rules::sorts::Block;
+use rules::sorts::{Block, block_number};
 
 // The place of a word.
 fn word_at(block: Block, word: u16) -> usize
     requires { (block.0 < block_count) × (word < word_count) }
     ensures { result ≡ word_place block.0 word }
 {
-    2 * (Block::WORDS * wide(u8::from(block)) + word as usize)
+    2 * (Block::WORDS * wide(block_number(block)) + word as usize)
 }
 
 pub fn read_word(state: &[u8], block: Block, word: u16) -> u16

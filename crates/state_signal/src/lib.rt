@@ -11,7 +11,7 @@ ghost use Rattle.state_signal.specs.Signals.{signal_of, TidySignal, signal_read}
 use bytes_fields::read::{get16, get16s};
 use bytes_fields::write::{put8, put16, put16s};
 use rules::layout::{VALUE_COUNT_PLACE, VALUES_PLACE};
-use rules::sorts::{Label, Thread};
+use rules::sorts::{Label, Thread, label_number};
 
 // Kept: that a signal is tidy is no ghost field: `read_signal` promises the value of any bytes, as `signal_read` has it.
 #[derive(Clone, Copy)]
@@ -39,7 +39,7 @@ fn write_head(s: &mut [u8], at: usize, g: Signal)
     requires { at + signal_size ≤ length s.old }
     ensures { s.new ≡ put s.old at (le16 g.label.0 ++ g.count ∷ []) }
 {
-    put16(s, at, u16::from(g.label));
+    put16(s, at, label_number(g.label));
     put8(s, at + VALUE_COUNT_PLACE, g.count);
 }
 

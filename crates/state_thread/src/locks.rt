@@ -6,7 +6,7 @@ ghost use Rattle.state_thread.specs.Threads.{Running, Runs, job_of};
 
 use crate::thread::ThreadState;
 use bytes_lock_set::sets::BitSet;
-use rules::sorts::Lock;
+use rules::sorts::{Lock, lock_number};
 
 impl ThreadState {
     // One lock more is held.
@@ -14,7 +14,7 @@ impl ThreadState {
         requires { Running self × (lock.0 < lock_count) }
         ensures { Runs result (bit_or self.locks (2 ^ lock.0)) (job_of self) }
     {
-        self.locks = self.locks.with(usize::from(u8::from(lock)));
+        self.locks = self.locks.with(usize::from(lock_number(lock)));
         self
     }
 }

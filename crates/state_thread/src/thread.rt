@@ -8,7 +8,7 @@ ghost use Rattle.state_thread.specs.Returns.{newest_of, older_of};
 ghost use Rattle.state_thread.specs.Threads.{Idle, Tidy, Running, Runs, returns_of, registers_of, keeping, idle_thread};
 
 use rules::layout::HELD_SIZE;
-use rules::sorts::{Label, Thread};
+use rules::sorts::{Label, Thread, label_number};
 use state_registers::low;
 
 // At the label 65,535 a thread is idle. Depth is the number of return labels in use; they stand oldest first. Bit r of the presence set
@@ -48,7 +48,7 @@ impl ThreadState {
     pub fn is_idle(self) -> bool
         ensures { result ≡ eqb self.label.0 idle_label }
     {
-        u16::from(self.label) == Label::IDLE
+        label_number(self.label) == Label::IDLE
     }
 
     // An idle thread takes a signal: its values fill registers 0 upward, the others are absent.
@@ -84,7 +84,7 @@ impl ThreadState {
     {
         let next = self.depth;
         let mut returns = self.returns;
-        returns[next] = u16::from(back);
+        returns[next] = label_number(back);
         self.returns = returns;
         self.depth = next + 1;
         self.enter(label, values, count)

@@ -18,7 +18,7 @@ use rules::layout::{
     HELD_COUNT_PLACE, HELD_PLACE, HELD_SIZE, LOCKS_PLACE, PRESENCE_PLACE, REGISTERS_PLACE,
     RETURN_COUNT_PLACE, RETURNS_PLACE, SIGNAL_SIZE, THREAD_SIZE, THREADS_PLACE,
 };
-use rules::sorts::{Label, Thread};
+use rules::sorts::{Label, Thread, label_number, thread_number};
 use state_signal::{Signal, write_signal};
 use state_thread::thread::ThreadState;
 
@@ -27,7 +27,7 @@ fn record_at(t: Thread) -> usize
     requires { t.0 < thread_count }
     ensures { result ≡ thread_place t.0 }
 {
-    THREADS_PLACE + THREAD_SIZE * wide(u8::from(t))
+    THREADS_PLACE + THREAD_SIZE * wide(thread_number(t))
 }
 
 pub fn read_thread(state: &[u8], t: Thread) -> ThreadState
@@ -85,7 +85,7 @@ fn write_head(s: &mut [u8], at: usize, w: ThreadState)
     requires { (at + thread_size ≤ length s.old) × (w.depth ≤ return_count) }
     ensures { s.new ≡ put s.old at (head_bytes w) }
 {
-    put16(s, at, u16::from(w.label));
+    put16(s, at, label_number(w.label));
     put16(s, at + LOCKS_PLACE, w.locks);
     put8(s, at + RETURN_COUNT_PLACE, w.depth as u8);
 }

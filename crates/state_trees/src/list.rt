@@ -20,7 +20,7 @@ use bytes_fields::read::get8;
 use bytes_fields::write::{clear, copy, put8};
 use rules::layout::{PENDING_COUNT_PLACE, SIGNALS_PLACE, TREE_COUNT_PLACE, TREE_SIZE, TREES_PLACE};
 use rules::limits::Tree;
-use rules::sorts::Thread;
+use rules::sorts::{Thread, thread_number};
 use state_pending::pending;
 use state_signal::{Signal, read_signal, write_signal};
 
@@ -45,7 +45,7 @@ pub fn first_tree(state: &[u8], t: Thread) -> Option<usize>
     ensures { result ≡ found_below (length (machine_from state.now).trees)
         (first_tree t.0 (machine_from state.now).trees) }
 {
-    let thread = u8::from(t);
+    let thread = thread_number(t);
     let n = tree_count(state);
     for i in 0..n {
         if state[TREES_PLACE + TREE_SIZE * i] == thread {
@@ -60,7 +60,7 @@ fn write_tree(s: &mut [u8], at: usize, t: Thread, g: Signal)
     requires { (at + tree_size ≤ length s.old) × TidySignal g }
     ensures { s.new ≡ put s.old at (t.0 ∷ 1 ∷ signal_bytes (signal_of g)) }
 {
-    put8(s, at, u8::from(t));
+    put8(s, at, thread_number(t));
     put8(s, at + PENDING_COUNT_PLACE, 1);
     write_signal(s, at + SIGNALS_PLACE, g);
 }
@@ -159,7 +159,7 @@ fn requeue(state: &mut [u8], i: usize, n: usize, t: Thread)
         (remove_at i (machine_from state.old).trees ++ moved (tree_at (machine_from state.old) i) t.0 ∷ []) }
 {
     move_to_end(state, i, n);
-    put8(state, TREES_PLACE + TREE_SIZE * (n - 1), u8::from(t));
+    put8(state, TREES_PLACE + TREE_SIZE * (n - 1), thread_number(t));
 }
 
 // The tree of an ended job: one with nothing pending leaves the list, any other goes to the list's end, on thread t.

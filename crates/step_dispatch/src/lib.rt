@@ -10,7 +10,7 @@ ghost use Rattle.step_contract.specs.At.{At};
 use image_decode::statement_of;
 use image_record::records::record_of;
 use rules::answer::Answer;
-use rules::sorts::{Label, Thread};
+use rules::sorts::{Label, Thread, label_number};
 use rules::statement::Statement;
 use rules::trap::Trap;
 use state_thread_record::{read_label, read_thread};
@@ -93,7 +93,7 @@ pub fn step(image: &[u8], table: &[u8], state: &mut [u8], t: Thread) -> Answer
     ensures { Stepped image.now table.now state.old t.0 state.new result }
 {
     let label = read_label(state, t);
-    if u16::from(label) == Label::IDLE {
+    if label_number(label) == Label::IDLE {
         return start(image, table, state, t, read_thread(state, t));
     }
     carry_out(image, table, state, t, record_of(image, label))

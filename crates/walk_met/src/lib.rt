@@ -5,7 +5,7 @@ ghost use Rattle.std.specs.Prelude.{◌≡◌, length, replicate};
 ghost use Rattle.rules.specs.Sizes.{thread_count};
 ghost use Rattle.walk_met.specs.Met.{unused_byte, among};
 
-use rules::sorts::Thread;
+use rules::sorts::{Thread, thread_number};
 
 // A byte of the buffer that no thread is written to.
 const UNUSED: u8 = 255;
@@ -22,5 +22,5 @@ pub fn blank(met: &mut [u8])
 pub fn is_met(met: &[u8], t: Thread) -> bool
     ensures { result ≡ among t.0 met.now }
 {
-    met.contains(&u8::from(t))
+    met.contains(&thread_number(t))
 }

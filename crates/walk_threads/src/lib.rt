@@ -9,7 +9,7 @@ ghost use Rattle.rules.specs.Walk.{awaits, walk_from, met_bytes, met_count};
 ghost use Rattle.step_contract.specs.Ready.{Ready};
 ghost use Rattle.walk_threads.specs.Laid.{laid_behind, counted, walk_rest};
 
-use rules::sorts::Thread;
+use rules::sorts::{Thread, thread_number};
 use walk_met::{blank, is_met};
 use walk_waits::awaited;
 
@@ -33,7 +33,7 @@ fn walk_on(image: &[u8], table: &[u8], state: &[u8], met: &mut [u8], n: usize, t
     if is_met(&met[..n], t) {
         return n as u32 + RING;
     }
-    met[n] = u8::from(t);
+    met[n] = thread_number(t);
     match awaited(image, table, state, t) {
         Some(next) => walk_on(image, table, state, met, n + 1, next),
         None => (n + 1) as u32,

@@ -15,8 +15,8 @@ returns c =
     rw (
       c.put16-2.ensures,
       c.put16.ensures,
-      c.from.ensures,
-      c.from-2.ensures,
+      c.label_number.ensures,
+      c.label_number-2.ensures,
       c.shifted-a.ensures,
       c.shifted-b.ensures,
       c.label_a.ensures,

@@ -26,7 +26,7 @@ pub start-requires : goal.start-requires
 start-requires c =
     let b = c.args.state.now in
     let t = c.args.t.0 in
-    let rest = rests b t c.from.ensures c.read_label-label.ensures c.if-from.true in
+    let rest = rests b t c.label_number.ensures c.read_label-label.ensures c.if-label_number.true in
     (c.requires.0, c.requires.1, c.read_thread.ensures, at_rest c.requires.0 t (thread_in b t) c.requires.1 refl rest)
 
 -- its label is below n
@@ -35,11 +35,11 @@ record_of-requires c =
     let b = c.args.state.now in
     let t = c.args.t.0 in
     rw c.read_label-label.ensures
-    (label_inside c.requires.0 t (thread_in b t) c.requires.1 refl (runs b t c.from.ensures c.read_label-label.ensures c.if-from.false))
+    (label_inside c.requires.0 t (thread_in b t) c.requires.1 refl (runs b t c.label_number.ensures c.read_label-label.ensures c.if-label_number.false))
 
 pub carry_out-requires : goal.carry_out-requires
 carry_out-requires c =
     let b = c.args.state.now in
     let t = c.args.t.0 in
-    at c.requires.0 t (thread_in b t) c.requires.1 refl (runs b t c.from.ensures c.read_label-label.ensures c.if-from.false)
+    at c.requires.0 t (thread_in b t) c.requires.1 refl (runs b t c.label_number.ensures c.read_label-label.ensures c.if-label_number.false)
     (rw c.read_label-label.ensures at c.record_of.ensures.0)

@@ -46,9 +46,9 @@ returns-in-Some t c =
     let R = rules_by a.image.now a.table.now in
     let m = machine_from a.state.now in
     let short : a.n < thread_count = omega arith in
-    let e : c.from.result ≡ a.t.0 = c.from.ensures in
+    let e : c.thread_number.result ≡ a.t.0 = c.thread_number.ensures in
     let fresh = rw (← e) at (sym c.is_met.ensures ∙ c.if-is_met.false) in
-    let u : awaits R m c.from.result ≡ some c.in-Some.next.0 = ap (awaits R m) e ∙ next-some _ _ _ c.awaited.ensures c.in-Some.is in
+    let u : awaits R m c.thread_number.result ≡ some c.in-Some.next.0 = ap (awaits R m) e ∙ next-some _ _ _ c.awaited.ensures c.in-Some.is in
     rw (← e) (
     let l = goes (awaits R m) a.met.now a.n _ c.requires.2 short fresh _ _ _ u
     c.walk_on.ensures.count c.walk_on.ensures.bytes in
@@ -61,9 +61,9 @@ returns-in-None t c =
     let R = rules_by a.image.now a.table.now in
     let m = machine_from a.state.now in
     let short : a.n < thread_count = omega arith in
-    let e : c.from.result ≡ a.t.0 = c.from.ensures in
+    let e : c.thread_number.result ≡ a.t.0 = c.thread_number.ensures in
     let fresh = rw (← e) at (sym c.is_met.ensures ∙ c.if-is_met.false) in
-    let u : awaits R m c.from.result ≡ none = ap (awaits R m) e ∙ next-none _ _ c.awaited.ensures c.in-None.is in
+    let u : awaits R m c.thread_number.result ≡ none = ap (awaits R m) e ∙ next-none _ _ c.awaited.ensures c.in-None.is in
     rw (← e) (
     let l = halts (awaits R m) a.met.now a.n _ c.requires.2 short fresh u in
     record { count = l.0; bytes = l.1 }

@@ -11,7 +11,7 @@ pub returns : goal.returns
 returns c =
     let a = c.args in
     simp (
-      c.from-2.ensures,
+      c.thread_number.ensures,
       c.home.ensures,
       c.from.ensures,
       c.get16.ensures,

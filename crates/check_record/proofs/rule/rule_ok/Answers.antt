@@ -18,11 +18,11 @@ bytes c i =
 
 -- the numbers of the two labels
 a-is : (c : After-from-a) → c.from-a.result ≡ label_a c.args.r.now
-a-is c = c.from-a.ensures ∙ c.from.ensures ∙ ap (λ l. l.0) c.label_a.ensures
+a-is c = c.from-a.ensures ∙ c.label_number.ensures ∙ ap (λ l. l.0) c.label_a.ensures
     ∙ ap label_a (same (goal.at.After-from-a c).After-unwrap-r)
 
 b-is : (c : After-from-b) → c.from-b.result ≡ label_b c.args.r.now
-b-is c = c.from-b.ensures ∙ c.from-2.ensures ∙ ap (λ l. l.0) c.label_b.ensures
+b-is c = c.from-b.ensures ∙ c.label_number-2.ensures ∙ ap (λ l. l.0) c.label_b.ensures
     ∙ ap label_b (same (goal.at.After-from-b c).After-unwrap-r)
 
 pub returns-then-n-a : goal.returns-then-n-a

@@ -8,4 +8,4 @@ returns-then-eq c = rw (sym c.if-eq.ensures)
 
 pub returns : goal.returns
 unfolding passes
-returns c = rw (sym c.if-eq.ensures, c.holds.ensures, c.get16-locks.ensures, c.wide.ensures.0, c.from.ensures)
+returns c = rw (sym c.if-eq.ensures, c.holds.ensures, c.get16-locks.ensures, c.wide.ensures.0, c.thread_number.ensures)

@@ -16,9 +16,9 @@ unfolding elsewhere
 returns-then-state-i c =
     let b = c.args.state.now in
     let l = c.loop-i in
-    let t = c.from-thread.result in
+    let t = c.thread_number-thread.result in
     let n = c.tree_count-n in
-    let at = found c.requires _ t _ c.from-thread.ensures (n.ensures ∙ sym c.requires.count)
+    let at = found c.requires _ t _ c.thread_number-thread.ensures (n.ensures ∙ sym c.requires.count)
     (here (elsewhere b t) n.result l.i l.invariant false (omega arith) (rw (eq-eqb _ _ c.if-state-i.true)) refl) in
     rw (← n.ensures) (below.found n.result _ l.i (omega arith) at)
 
@@ -27,15 +27,15 @@ unfolding elsewhere
 loop-i-preserved c =
     let b = c.args.state.now in
     let l = c.loop-i in
-    next (elsewhere b c.from-thread.result) c.tree_count-n.result l.i l.invariant true (omega arith)
+    next (elsewhere b c.thread_number-thread.result) c.tree_count-n.result l.i l.invariant true (omega arith)
     (rw (ne_eqb _ _ c.if-state-i.false)) refl
 
 pub returns : goal.returns
 returns c =
     let b = c.args.state.now in
     let l = c.loop-i in
-    let t = c.from-thread.result in
+    let t = c.thread_number-thread.result in
     let n = c.tree_count-n in
-    let at = found c.requires _ t _ c.from-thread.ensures (n.ensures ∙ sym c.requires.count)
+    let at = found c.requires _ t _ c.thread_number-thread.ensures (n.ensures ∙ sym c.requires.count)
     (none (elsewhere b t) n.result l.i l.invariant (omega arith)) in
     rw (← n.ensures) (below.not_found n.result _ l.i (omega arith) at)

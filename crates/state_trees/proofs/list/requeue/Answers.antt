@@ -12,5 +12,5 @@ returns c =
     let m = c.move_to_end.ensures in
     let r = last-moved m.canon s (remove_at a.i s.trees) (tree_at s a.i) a.t.0 _ m.state_after
     (omega (arith, length-remove_at a.i s.trees c.requires.1))
-    (rw c.from.ensures at c.put8.ensures) in
+    (rw c.thread_number.ensures at c.put8.ensures) in
     record { canon = r.0; state_after = r.1 }

@@ -17,6 +17,6 @@ pub returns : goal.returns
 returns c =
     let a = c.args in
     let w = a.self in
-    let e : take (w.depth + 1) (set w.returns w.depth c.from.result) ≡ returns_of w ++ (a.back.0 ∷ []) =
-    rw c.from.ensures (pushed w.depth w.returns c.requires.0.tidy.returns a.back.0 c.requires.1) in
+    let e : take (w.depth + 1) (set w.returns w.depth c.label_number.result) ≡ returns_of w ++ (a.back.0 ∷ []) =
+    rw c.label_number.ensures (pushed w.depth w.returns c.requires.0.tidy.returns a.back.0 c.requires.1) in
     runs_as c.enter.ensures refl (ap (λ l. keeping w (job a.label.0 l (fill (take a.count a.values)))) e)

@@ -6,4 +6,4 @@ pub returns : goal.returns
 returns c =
     let p = c.requires in
     running-thread _ _ _ p.0.label p.0.tidy.returns p.0.tidy.registers p.0.tidy.held
-    (rw (c.with.ensures, c.from-2.ensures, c.from.ensures)) refl
+    (rw (c.with.ensures, c.from.ensures, c.lock_number.ensures)) refl
