@@ -49,6 +49,7 @@ pub fn table_fault(table: &[u8]) -> Result<(), Refusal>
     }
 }
 
+#[tactic(auto, using(check_records::specs::BadRecord::fault_found, check_records::specs::BadRecord::no_fault))]
 pub fn record_fault(records: &Records) -> Result<(), Refusal>
     ensures { number_of result ≡ record_fault records.now.image.now }
 {

@@ -4,6 +4,7 @@
 ghost use Rattle.std.specs.Prelude.{◌≡◌, [], ◌^◌, ◌<◌};
 ghost use Rattle.std.specs.Int.Bits.{bit_or};
 ghost use Rattle.rules.specs.Sizes.{block_count};
+ghost use Rattle.rules.specs.Image.{labels};
 ghost use Rattle.rules.specs.Check.{first_refusal, images_faults};
 ghost use Rattle.rules.specs.Link.{names};
 ghost use Rattle.rules.specs.Calls.{shared_block_fault, too_many_records_fault, output_length_fault, link_return};
@@ -26,26 +27,23 @@ pub fn with_block(set: u16, b: Block) -> u16
 }
 
 // The blocks that an image names, as a set: bit b for block b.
-pub fn block_set(records: &Records) -> u16
-    requires { BlocksIn records.now.image.now }
-    ensures { SetOf (names records.now.image.now) result }
+pub fn block_set(image: &[u8], n: usize) -> u16
+    requires { (n ≡ labels image.now) × BlocksIn image.now }
+    ensures { SetOf (names image.now) result }
 {
     let mut set: u16 = 0;
-    for l in 0..records.count {
-        set = with_block(
-            set,
-            Block::from(records.image[RECORD_SIZE * l + BLOCK_PLACE]),
-        );
+    for l in 0..n {
+        set = with_block(set, Block::from(image[RECORD_SIZE * l + BLOCK_PLACE]));
     }
     set
 }
 
-pub fn shared_block_fault(first: &Records, second: &Records) -> Result<(), Refusal>
-    requires { BlocksIn first.now.image.now × BlocksIn second.now.image.now }
-    ensures { number_of result ≡ shared_block_fault first.now.image.now second.now.image.now }
+pub fn shared_block_fault(first: &[u8], n: usize, second: &[u8], m: usize) -> Result<(), Refusal>
+    requires { (n ≡ labels first.now) × BlocksIn first.now × (m ≡ labels second.now) × BlocksIn second.now }
+    ensures { number_of result ≡ shared_block_fault first.now second.now }
 {
     ensure(
-        (block_set(first) & block_set(second)) == 0,
+        (block_set(first, n) & block_set(second, m)) == 0,
         Refusal::SharedBlock,
     )
 }
@@ -71,15 +69,30 @@ pub fn output_length_fault(first: &[u8], second: &[u8], out: &[u8]) -> Result<()
 }
 
 // The first of the refusals 1 to 4: the first image before the second within a number.
-pub fn images_fault(first: &Records, second: &Records, table: &[u8]) -> Result<(), Refusal>
-    ensures { number_of result ≡ first_refusal (images_faults first.now.image.now second.now.image.now table.now []) }
+pub fn images_fault(
+    first: &[u8],
+    n: usize,
+    second: &[u8],
+    m: usize,
+    table: &[u8],
+) -> Result<(), Refusal>
+    requires { (n ≡ labels first.now) × (m ≡ labels second.now) }
+    ensures { number_of result ≡ first_refusal (images_faults first.now second.now table.now []) }
 {
-    image_length_fault(first)?;
-    image_length_fault(second)?;
+    let one = Records {
+        image: first,
+        count: n,
+    };
+    let other = Records {
+        image: second,
+        count: m,
+    };
+    image_length_fault(&one)?;
+    image_length_fault(&other)?;
     table_length_fault(table)?;
     table_fault(table)?;
-    record_fault(first)?;
-    record_fault(second)
+    record_fault(&one)?;
+    record_fault(&other)
 }
 
 // The first of the link's refusals.
@@ -89,8 +102,8 @@ pub fn link_fault(first: &[u8], second: &[u8], table: &[u8], out: &[u8]) -> Resu
 {
     let one = Records::of(first);
     let other = Records::of(second);
-    images_fault(&one, &other, table)?;
-    shared_block_fault(&one, &other)?;
+    images_fault(first, one.count, second, other.count, table)?;
+    shared_block_fault(first, one.count, second, other.count)?;
     too_many_records_fault(&one, &other)?;
     output_length_fault(first, second, out)
 }

@@ -7,4 +7,4 @@ unfolding shared_block_fault
 returns c =
     let one = c.block_set in
     let other = c.block_set-2 in
-    rw (c.ensure.ensures, shared c.args.first.now.image.now c.args.second.now.image.now _ _ c.requires.0 one.ensures other.ensures)
+    rw (c.ensure.ensures, shared c.args.first.now c.args.second.now _ _ c.requires.1 one.ensures other.ensures)
