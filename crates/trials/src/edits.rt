@@ -3,10 +3,8 @@ ghost use Rattle.std.specs.Prelude.{◌≤◌};
 ghost use Rattle.rules.specs.Sizes.{record_size};
 
 use crate::buffers::{Buffer, Buffers};
-use crate::words::UnknownWord;
+use crate::words::{Words, behind, number};
 use rules::layout::{EVENT_SIZE, RECORD_SIZE, ROW_SIZE};
-use std::alloc::AllocError;
-use std::str::FromStr;
 
 // BUFFER#LENGTH or BUFFER:PLACE=BYTE.
 #[derive(Clone, Copy)]
@@ -28,39 +26,52 @@ fn record_size(buffer: Buffer) -> usize
 }
 
 // A place in a buffer: BYTE, or RECORD/BYTE for a byte of a record.
-fn place(buffer: Buffer, text: &str) -> Result<usize, UnknownWord> {
-    let Some((record, byte)) = text.split_once('/') else {
-        return Ok(text.parse()?);
-    };
-    let record: u16 = record.parse()?;
-    let byte: u16 = byte.parse()?;
-    Ok(usize::from(record) * record_size(buffer) + usize::from(byte))
+fn place(buffer: Buffer, text: &[u8]) -> usize {
+    let byte = behind(text, b'/');
+    if byte.is_empty() {
+        number(text)
+    } else {
+        number(text) * record_size(buffer) + number(byte)
+    }
 }
 
-impl FromStr for Edit {
-    type Err = UnknownWord;
+// The first bytes of `text`, to where `rest` of it begins.
+fn before<'a>(text: &'a [u8], rest: &[u8]) -> &'a [u8] {
+    text.get(..text.len().saturating_sub(rest.len()))
+        .unwrap_or(&[])
+}
 
-    fn from_str(word: &str) -> Result<Self, UnknownWord> {
-        if let Some((buffer, length)) = word.split_once('#') {
-            return Ok(Edit::Length(buffer.parse()?, length.parse()?));
+impl Edit {
+    // The edit that a line has from `text` on. Its word has the sign, the BYTE can be behind a later `=`.
+    fn at(text: &[u8]) -> Option<Self> {
+        let buffer = Buffer::named(text)?;
+        let word = before(text, behind(text, b' '));
+        let length = behind(word, b'#');
+        if !length.is_empty() {
+            return Some(Edit::Length(buffer, number(length)));
         }
-        let (buffer, change) = word.split_once(':').ok_or(UnknownWord)?;
-        let (at, value) = change.split_once('=').ok_or(UnknownWord)?;
-        let buffer = buffer.parse()?;
-        Ok(Edit::Byte(buffer, place(buffer, at)?, value.parse()?))
+        if behind(word, b':').is_empty() {
+            return None;
+        }
+        let change = behind(text, b':');
+        let value = behind(change, b'=');
+        let place = place(buffer, before(change, value));
+        Some(Edit::Byte(buffer, place, (number(value) % 256) as u8))
     }
 }
 
 impl Buffers {
-    // Carries out the edits among `words`, in order.
-    pub fn edit(&mut self, words: &str) -> Result<(), AllocError> {
-        for word in words.split_whitespace() {
-            match word.parse() {
-                Ok(Edit::Length(buffer, n)) => self.resize(buffer, n)?,
-                Ok(Edit::Byte(buffer, place, value)) => self.set(buffer, place, value),
-                Err(UnknownWord) => {}
+    // Carries out the edits of a line, in order: its words from the third to `=>`.
+    pub fn edit(&mut self, line: &[u8]) {
+        let words = Words(line)
+            .skip(2)
+            .take_while(|text| !text.starts_with(b"=>"));
+        for text in words {
+            match Edit::at(text) {
+                Some(Edit::Length(buffer, n)) => self.get_mut(buffer).resize(n),
+                Some(Edit::Byte(buffer, place, value)) => self.get_mut(buffer).set(place, value),
+                None => {}
             }
         }
-        Ok(())
     }
 }

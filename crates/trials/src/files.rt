@@ -1,41 +1,92 @@
 // Files, and the buffers of a case in them.
-use crate::buffers::{Buffer, Buffers};
-use crate::lines::Call;
-use std::fs;
-use std::io::{ErrorKind, Result};
-use std::rt::Files;
+ghost use Rattle.std.specs.Prelude.{◌≤◌, length, IfOk};
 
-// What was read, or `none` of a file that cannot be read, and the standard error says why. That memory ran out is passed up.
-fn or_none<T: Drop>(rt: &impl Eprint, path: &str, read: Result<T>, none: T) -> Result<T> {
-    match read {
-        Err(error) if error.kind() != ErrorKind::OutOfMemory => {
-            let _ = eprintln!(rt; "{path}: {error}");
-            Ok(none)
+use crate::buffers::{Buffer, Buffers, Part};
+use crate::lines::Call;
+use std::io::{Read, Result};
+use std::rt::Files;
+use std::{fs, str};
+
+// A path of 32 bytes: what would go beyond is cut off.
+#[derive(Drop)]
+struct Path {
+    all: [u8; 32],
+    length: usize,
+    ghost within: { length ≤ 32 },
+}
+
+impl Path {
+    fn new(folder: &[u8], file: &[u8]) -> Self {
+        let mut path = Path {
+            all: [0; 32],
+            length: 0,
+        };
+        path.put(folder);
+        path.put(b"/");
+        path.put(file);
+        path
+    }
+
+    fn put(&mut self, text: &[u8]) {
+        for byte in text {
+            if self.length < self.all.len() {
+                self.all[self.length] = *byte;
+                self.length += 1;
+            }
         }
-        read => read,
+    }
+
+    // The path, or none if it is no text.
+    fn as_str(&self) -> &str {
+        str::from_utf8(&self.all[..self.length]).unwrap_or("")
     }
 }
 
-// The bytes of a file.
-fn read_bytes(rt: &(impl Files + Eprint + AllocGlobal), path: &str) -> Result<Vec<u8>> {
-    or_none(rt, path, fs::read(rt, path), Vec::new(rt.alloc()))
+// Reads a file, as far as `into` goes, and says how many bytes.
+fn read_full(rt: &impl Files, path: &str, into: &mut [u8]) -> Result<usize>
+    ensures { IfOk result (λ n. n ≤ length into.new) }
+{
+    let mut file = fs::open(rt, path)?;
+    let mut done = 0;
+    while done < into.len() {
+        let n = file.read(&mut into[done..])?;
+        if n == 0 {
+            break;
+        }
+        done += n;
+    }
+    Ok(done)
 }
 
-// The text of the file in `folder`.
-pub fn read_text(
-    rt: &(impl Files + Eprint + AllocGlobal),
-    folder: &str,
-    file: &str,
-) -> Result<String> {
-    let path = format!(in rt.alloc(); "{folder}/{file}")?;
-    let text = fs::read_to_string(rt, path.as_str());
-    or_none(rt, path.as_str(), text, String::new(rt.alloc()))
+// The same. A file that cannot be read has no bytes, and the standard error says why.
+fn read(rt: &(impl Files + Eprint), path: &str, into: &mut [u8]) -> usize
+    ensures { result ≤ length into.new }
+{
+    match read_full(rt, path, into) {
+        Ok(n) => n,
+        Err(error) => {
+            let _ = eprintln!(rt; "{path}: {error}");
+            0
+        }
+    }
+}
+
+// The text of the file in `folder`, as far as `into` goes.
+pub fn read_text<'a>(
+    rt: &(impl Files + Eprint),
+    folder: &[u8],
+    file: &[u8],
+    into: &'a mut [u8],
+) -> &'a [u8] {
+    let path = Path::new(folder, file);
+    let n = read(rt, path.as_str(), into);
+    &into[..n]
 }
 
 // Whether the file in `folder` can be read.
-pub fn is_there(rt: &(impl Files + AllocGlobal), folder: &str, file: &str) -> Result<bool> {
-    let path = format!(in rt.alloc(); "{folder}/{file}")?;
-    Ok(fs::open(rt, path.as_str()).is_ok())
+pub fn is_there(rt: &impl Files, folder: &[u8], file: &[u8]) -> bool {
+    let path = Path::new(folder, file);
+    fs::open(rt, path.as_str()).is_ok()
 }
 
 impl Call {
@@ -55,20 +106,22 @@ impl Call {
     }
 }
 
+impl Part {
+    fn read(&mut self, rt: &(impl Files + Eprint), path: &str) {
+        self.length = read(rt, path, &mut self.all);
+    }
+}
+
 impl Buffers {
-    // The buffers of a case of `call`, and eight bytes of 1 for the threads met.
-    pub fn load(
-        rt: &(impl Files + Eprint + AllocGlobal),
-        folder: &str,
-        case: &str,
-        call: Call,
-    ) -> Result<Self> {
-        let mut buffers = Buffers::new(rt.alloc());
+    // Reads the buffers of a case of `call`, and makes the threads met eight bytes of 1.
+    pub fn load(&mut self, rt: &(impl Files + Eprint), folder: &[u8], case: &[u8], call: Call) {
         for buffer in call.buffers() {
-            let path = format!(in rt.alloc(); "{folder}/{case}.{buffer}")?;
-            *buffers.get_mut(*buffer) = read_bytes(rt, path.as_str())?;
+            let mut path = Path::new(folder, case);
+            path.put(b".");
+            path.put(buffer.name());
+            self.get_mut(*buffer).read(rt, path.as_str());
         }
-        buffers.resize(Buffer::Met, 8)?;
-        Ok(buffers)
+        self.met.length = 0;
+        self.met.resize(8);
     }
 }

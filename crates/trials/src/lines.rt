@@ -3,17 +3,20 @@
 use crate::buffers::Buffers;
 use crate::files::read_text;
 use crate::tally::Tally;
-use crate::words::UnknownWord;
+use crate::words::{behind, first_word};
 use std::fmt;
 use std::io::Result;
 use std::rt::{Files, Runtime};
-use std::str::FromStr;
 
-// The call that a line names: `run=0` is a run too, of a case from the fresh machine.
+// The bytes that are read of a file. The lines behind them would be missing from the counts.
+const TEXT: usize = 163840;
+
+// The call that a line names: a case is a run from the fresh machine.
 #[derive(Clone, Copy, Debug, PartialEq, Eq)]
 pub enum Call {
     Check,
     Fresh,
+    Case,
     Run,
     Walk,
     Link,
@@ -24,76 +27,85 @@ impl fmt::Display for Call {
         f.write_str(match self {
             Call::Check => "check",
             Call::Fresh => "fresh",
-            Call::Run => "run",
+            Call::Case | Call::Run => "run",
             Call::Walk => "walk",
             Call::Link => "link",
         })
     }
 }
 
-impl FromStr for Call {
-    type Err = UnknownWord;
+impl Call {
+    const ALL: [Call; 6] = [
+        Call::Check,
+        Call::Fresh,
+        Call::Case,
+        Call::Run,
+        Call::Walk,
+        Call::Link,
+    ];
 
-    fn from_str(word: &str) -> std::result::Result<Self, UnknownWord> {
-        match word {
-            "check" => Ok(Call::Check),
-            "fresh" => Ok(Call::Fresh),
-            "run" | "run=0" => Ok(Call::Run),
-            "walk" => Ok(Call::Walk),
-            "link" => Ok(Call::Link),
-            _ => Err(UnknownWord),
+    // What its word in a line begins with.
+    fn name(self) -> &'static [u8] {
+        match self {
+            Call::Check => b"check",
+            Call::Fresh => b"fresh",
+            Call::Case => b"run=",
+            Call::Run => b"run",
+            Call::Walk => b"walk",
+            Call::Link => b"link",
         }
+    }
+
+    // The call whose name the text begins with.
+    fn named(text: &[u8]) -> Option<Self> {
+        Call::ALL
+            .into_iter()
+            .find(|call| text.starts_with(call.name()))
     }
 }
 
-// A line that is a trial: its words before `=>`, and its claims, those behind.
+// A line that is a trial.
 #[derive(Clone, Copy)]
 pub struct Line<'a> {
-    pub case: &'a str,
+    pub text: &'a [u8],
     pub call: Call,
-    pub words: &'a str,
-    pub claims: &'a str,
 }
 
 impl<'a> Line<'a> {
-    // A comment, and a line that names no call, is no trial.
-    fn new(line: &'a str) -> Option<Self> {
-        if line.starts_with('#') {
+    // A comment, and a line that does not name `call`, is no trial. A case is a run too.
+    fn of(text: &'a [u8], call: Call) -> Option<Self> {
+        let words = behind(text, b' ');
+        if text.starts_with(b"#") || !words.starts_with(call.name()) {
             return None;
         }
-        let (words, claims) = line.split_once("=>").unwrap_or((line, ""));
-        let mut first = words.split_whitespace();
         Some(Line {
-            case: first.next()?,
-            call: first.next()?.parse().ok()?,
-            words,
-            claims,
+            text,
+            call: Call::named(words)?,
         })
     }
 
     // Tries the line, on the buffers of its case in `folder` with its edits.
-    fn passes(self, rt: &(impl Files + Eprint + AllocGlobal), folder: &str) -> Result<bool> {
-        let mut buffers = Buffers::load(rt, folder, self.case, self.call)?;
-        buffers.edit(self.words)?;
-        Ok(self.agrees(rt.alloc(), &buffers)?)
+    fn passes(&self, rt: &(impl Files + Eprint), folder: &[u8], buffers: &mut Buffers) -> bool {
+        buffers.load(rt, folder, first_word(self.text), self.call);
+        buffers.edit(self.text);
+        self.agrees(buffers)
     }
 }
 
 // Tries each line of the file in `folder` that names `call`, on the cases in that folder.
 pub fn try_file(
-    rt: &(impl Runtime + AllocGlobal),
-    folder: &str,
-    file: &str,
+    rt: &impl Runtime,
+    folder: &[u8],
+    file: &[u8],
     call: Call,
+    buffers: &mut Buffers,
 ) -> Result<Tally> {
-    let text = read_text(rt, folder, file)?;
+    let mut text = [0; TEXT];
+    let lines = read_text(rt, folder, file, &mut text).split_inclusive(|byte| *byte == b'\n');
     let mut tally = Tally::new();
-    for (number, line) in (1..).zip(text.lines()) {
-        match Line::new(line) {
-            Some(line) if line.call == call => {
-                tally.count(rt, number, line.passes(rt, folder)?)?;
-            }
-            _ => {}
+    for (number, text) in (1..).zip(lines) {
+        if let Some(line) = Line::of(text, call) {
+            tally.count(rt, number, line.passes(rt, folder, buffers))?;
         }
     }
     Ok(tally)

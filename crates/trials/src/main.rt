@@ -14,6 +14,7 @@ mod sets;
 mod tally;
 mod words;
 
+use buffers::Buffers;
 use limits::{image_lengths, link_counts};
 use lines::{Call, try_file};
 use sets::try_sets;
@@ -21,18 +22,21 @@ use std::io::Result;
 use std::rt::Runtime;
 
 // The lines of the limits that name `call`.
-fn try_limits(rt: &(impl Runtime + AllocGlobal), call: Call) -> Result<()> {
-    let tally = try_file(rt, ".", "limits.txt", call)?;
+fn try_limits(rt: &impl Runtime, call: Call, buffers: &mut Buffers) -> Result<()> {
+    let tally = try_file(rt, b".", b"limits.txt", call, buffers)?;
     println!(rt; "{call}: {tally} lines of the limits agree")
 }
 
 fn main(rt: HostRuntime) -> Result<()> {
-    println!(rt; "check: {} image lengths agree", image_lengths(&rt)?)?;
-    println!(rt; "link: {} record counts agree", link_counts(&rt)?)?;
+    let mut buffers = Buffers::new();
+    let images = image_lengths(&rt, &mut buffers)?;
+    println!(rt; "check: {images} image lengths agree")?;
+    let records = link_counts(&rt, &mut buffers)?;
+    println!(rt; "link: {records} record counts agree")?;
     for call in [Call::Check, Call::Fresh, Call::Run, Call::Walk, Call::Link] {
-        try_limits(&rt, call)?;
+        try_limits(&rt, call, &mut buffers)?;
     }
-    try_sets(&rt)?;
-    let links = try_file(&rt, "101", "links.txt", Call::Link)?;
+    try_sets(&rt, &mut buffers)?;
+    let links = try_file(&rt, b"101", b"links.txt", Call::Link, &mut buffers)?;
     println!(rt; "link: {links} lines of the vectors agree")
 }
