@@ -21,7 +21,6 @@ FUNCTIONS = {
     "plex_version",
     "plex_walk",
     "state_shared::locks::other_holder",
-    "step_dispatch::end_by_trap",
 }
 
 # the registers that a call leaves as they were

@@ -4,14 +4,14 @@
 ghost use Rattle.std.specs.Prelude.{◌≡◌};
 ghost use Rattle.rules.specs.Statements.{statement_of};
 ghost use Rattle.rules.specs.declared.statement.Statement.TheVariants.{Assign};
-ghost use Rattle.step_contract.specs.Ready.{Attempted};
+ghost use Rattle.step_contract.specs.Ready.{Stepped};
 ghost use Rattle.step_contract.specs.At.{At};
 
 use rules::answer::Answer;
 use rules::sorts::Thread;
 use rules::statement::Assignment;
-use rules::trap::Trap;
 use state_thread::thread::ThreadState;
+use step_end::trapped;
 use step_results::results_of;
 use step_store::store_results;
 
@@ -23,11 +23,14 @@ pub fn assign(
     w: ThreadState,
     r: &[u8],
     a: Assignment,
-) -> Result<Answer, Trap>
+) -> Answer
     requires { At image.now table.now state.old t.0 w r.now × (statement_of r.now ≡ Assign a) }
-    ensures { Attempted image.now table.now state.old t.0 state.new result }
+    ensures { Stepped image.now table.now state.old t.0 state.new result }
 {
-    let results = results_of(state, t, w, r, a)?;
+    let results = match results_of(state, t, w, r, a) {
+        Ok(results) => results,
+        Err(trap) => return trapped(image, table, state, t, w, u8::from(trap)),
+    };
     store_results(
         image,
         table,
@@ -39,5 +42,5 @@ pub fn assign(
         results.first,
         results.second,
     );
-    Ok(Answer::Moved)
+    Answer::Moved
 }

@@ -13,11 +13,9 @@ use Rattle.rules.specs.Machine as law
 use Rattle.rules.specs.Machine.{Signal, thread_at, first, idle, running, window}
 use Rattle.rules.specs.Encoding.{machine_from}
 use Rattle.rules.specs.Steps.{block_at, rules_by, finished}
-use Rattle.rules.specs.Traps.{reason}
 use Rattle.rules.specs.declared.answer.Answer.{Answer}
 use Rattle.rules.specs.declared.answer.Answer.TheVariants.{Trapped}
 use Rattle.rules.specs.declared.statement.Statement.{Statement}
-use Rattle.rules.specs.declared.trap.Trap.{Trap}
 use Rattle.lemmas_rules.specs.Passed.{Parts, passed, rule-parts}
 use Rattle.lemmas_rules.specs.Heads.{head-fields, few-operands}
 use Rattle.lemmas_invariant.specs.Sound.{ThreadIn}
@@ -31,7 +29,7 @@ use Rattle.state_thread.specs.declared.thread.ThreadState.{ThreadState}
 use Rattle.state_thread_record.specs.Records.{Busy}
 use Rattle.step_operands.specs.Legal.{Below, Readable, label-below}
 use Rattle.step_operands.specs.Cells.{cells_from, cells_of}
-use Rattle.step_contract.specs.Ready.{Ready, Recorded, Stepped, Ended, Traps, done, says}
+use Rattle.step_contract.specs.Ready.{Ready, Recorded, Stepped, Ended, done, says}
 
 -- thread t, which is w, runs a job and comes to the record r
 pub record At (image table b : List ℕ) (t : ℕ) (w : ThreadState) (r : List ℕ) : Type 0 where
@@ -134,14 +132,6 @@ module _ {image table b : List ℕ} {t : ℕ} {w : ThreadState} {r : List ℕ} (
       subst (λ (c : Cells). read_all c (reads S (data_of law_record)) ≡ g) cells-here f
 
   -- an operand that cannot be read
-  pub unread-traps : (S : Statement) (x : Trap) → statement_of r ≡ S → read_all (cells_of b w r) (reads S (data_of r)) ≡ trap (reason x)
-      → Traps image table b t x
-  unread-traps S x e g = record {
-    reply =
-        unread image table (machine_from b) t w.locks (job_of w) tree.0 h.runs tree.1 S (reason x) (statement-here S e)
-        (reads_here S g);
-  }
-
   pub unread-stepped : (S : Statement) {reason : ℕ} {b' : List ℕ} {a : Answer} → statement_of r ≡ S
       → read_all (cells_of b w r) (reads S (data_of r)) ≡ trap reason → a ≡ Trapped reason → Ended image table b t b'
       → Stepped image table b t b' a

@@ -1,6 +1,6 @@
 -- A state that an event can be carried out on: the image and the table have passed the check, and the bytes are those of a well-formed
 -- machine. Every accepted event leaves such a state.
-use Rattle.std.specs.Prelude.{◌≡◌, refl, List, ℕ, ◌<◌, drop, Result, Ok, Err, IsErrAnd, MatchResult}
+use Rattle.std.specs.Prelude.{◌≡◌, refl, List, ℕ, ◌<◌, drop}
 use Rattle.std.proofs.Math.Path.{sym, ap}
 use Rattle.std.proofs.Common.{◌∙◌, subst}
 use Rattle.std.proofs.Math.Option.{Option, some}
@@ -11,10 +11,7 @@ use Rattle.rules.specs.Machine.{Machine, Job, job, thread_at, running}
 use Rattle.rules.specs.Encoding.{machine_from}
 use Rattle.rules.specs.Events.{Event, step}
 use Rattle.rules.specs.Steps.{rules_by, Reply, react, finished}
-use Rattle.rules.specs.Traps.{reason}
 use Rattle.rules.specs.declared.answer.Answer.{Answer}
-use Rattle.rules.specs.declared.answer.Answer.TheVariants.{Trapped}
-use Rattle.rules.specs.declared.trap.Trap.{Trap}
 use Rattle.bytes_fields.specs.Put.{put}
 use Rattle.lemmas_encoding.specs.Slots.{returns_in, registers_in}
 use Rattle.lemmas_encoding.specs.Encoded.{Encodes, Canonical, encoded-machine, encoded-canonical}
@@ -58,16 +55,6 @@ Stepped image table before t after answer = Done (reply_to image table before (s
 abbrev pub Ended : List ℕ → List ℕ → List ℕ → ℕ → List ℕ → Type 0
 Ended image table before t after = Encodes after (finished (rules_by image table) t (machine_from before))
 
--- the reply to a step of thread t is that its job ends by the trap x
-pub record Traps (image table before : List ℕ) (t : ℕ) (x : Trap) : Type 0 where
-  pub reply : reply_to image table before (step t)
-      ≡ record { state = finished (rules_by image table) t (machine_from before); answer = Trapped (reason x) }
-
--- what a statement that thread t comes to leaves: its step, or the state as it was and the trap that its step is
-abbrev pub Attempted : List ℕ → List ℕ → List ℕ → ℕ → List ℕ → Result Answer Trap → Type 0
-Attempted image table before t after result =
-    MatchResult result (Stepped image table before t after) (λ x. (after ≡ before) × Traps image table before t x)
-
 -- the bytes that are left are those of a machine, which the reply has
 pub done : {r : Reply} {b : List ℕ} {a : Answer} (s : Machine) (x : Answer) → r ≡ record { state = s; answer = x } → a ≡ x → Encodes b s
     → Done r b a
@@ -76,19 +63,6 @@ done {r} {b} {a} s x e f h = record {
   canonical = encoded-canonical b s h;
   machine = encoded-machine b s h ∙ ap (λ (q : Reply). q.state) (sym e);
 }
-
--- a trap that is handed on
-pub trap-attempted : {image table b : List ℕ} {t : ℕ} {x : Trap} → Traps image table b t x → (result : Result Answer Trap)
-    → IsErrAnd result (λ y. y ≡ x) → Attempted image table b t b result
-trap-attempted k (Ok a) e = absurd e
-trap-attempted k (Err y) e = (refl, rw e k)
-
--- a trap whose job has been ended
-pub trap-stepped : {image table b b' : List ℕ} {t : ℕ} {x : Trap} {a : Answer} → Traps image table b t x → a ≡ Trapped (reason x)
-    → Ended image table b t b' → Stepped image table b t b' a
-trap-stepped {image} {table} {b} {t = t} {x = x} h e k = done (finished (rules_by image table) t (machine_from b))
-    (Trapped (reason x)) h.reply
-    e k
 
 -- a thread that runs a job, written
 pub job-written : {b b' : List ℕ} (t : ℕ) {w : ThreadState} {locks : ℕ} {j : Job} → Canonical b → t < thread_count → Runs w locks j

@@ -103,7 +103,7 @@ module _ (R : Rules) where
   unfolding admitted lost
   through-none e = record { bytes = e; count = refl }
 
-  through-more : {s : Machine} {xs : List Signal} {n : ℕ} {b : List ℕ} (ys : List Signal) {k : ℕ} {b' : List ℕ} → Through s xs n b
+  pub through-more : {s : Machine} {xs : List Signal} {n : ℕ} {b : List ℕ} (ys : List Signal) {k : ℕ} {b' : List ℕ} → Through s xs n b
       → k ≡ length (lost R ys (machine_from b)) → Encodes b' (admitted R ys (machine_from b)) → Through s (xs ++ ys) (n + k) b'
   through-more {s} {xs} {n} {b} ys {k} {b'} h e f =
       let m = encoded-machine b _ h.bytes in

@@ -8,15 +8,15 @@ ghost use Rattle.rules.specs.Image.{label_a, label_b};
 ghost use Rattle.rules.specs.Effects.{holds};
 ghost use Rattle.rules.specs.Statements.{statement_of};
 ghost use Rattle.rules.specs.declared.statement.Statement.TheVariants.{If};
-ghost use Rattle.step_contract.specs.Ready.{Attempted};
+ghost use Rattle.step_contract.specs.Ready.{Stepped};
 ghost use Rattle.step_contract.specs.At.{At};
 
 use image_record::record_fields::{label_a, label_b};
 use rules::answer::Answer;
 use rules::sorts::{Label, Thread};
 use rules::statement::{Condition, Relation};
-use rules::trap::Trap;
 use state_thread::thread::ThreadState;
+use step_end::trapped;
 use step_goto::go_on;
 use step_operands::read_pair;
 
@@ -45,12 +45,15 @@ pub fn branch(
     w: ThreadState,
     r: &[u8],
     c: Condition,
-) -> Result<Answer, Trap>
+) -> Answer
     requires { At image.now table.now state.old t.0 w r.now × (statement_of r.now ≡ If c) }
-    ensures { Attempted image.now table.now state.old t.0 state.new result }
+    ensures { Stepped image.now table.now state.old t.0 state.new result }
 {
-    let pair = read_pair(state, t, w, r, 0, true)?;
+    let pair = match read_pair(state, t, w, r, 0, true) {
+        Ok(pair) => pair,
+        Err(trap) => return trapped(image, table, state, t, w, u8::from(trap)),
+    };
     let relation = c.relation;
     let test = relation_holds(relation, pair.left, pair.right);
-    Ok(go_on(state, t, w, label_by(r, test)))
+    go_on(state, t, w, label_by(r, test))
 }

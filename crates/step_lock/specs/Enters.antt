@@ -31,7 +31,7 @@ use Rattle.lemmas_rules.specs.Passed.{passed}
 use Rattle.lemmas_rules.specs.Sets.{has-again}
 use Rattle.lemmas_invariant.specs.Destinations.{lock-below}
 use Rattle.lemmas_step.specs.Events.{reply}
-use Rattle.lemmas_step.specs.Statements.{send-alien, send-waits, send-enters, call-deep, call-alien, call-waits, call_enters}
+use Rattle.lemmas_step.specs.Statements.{unread, send-alien, send-waits, send-enters, call-deep, call-alien, call-waits, call_enters}
 use Rattle.state_registers.specs.Filling.{ZerosAfter}
 use Rattle.state_thread.specs.Threads.{returns_of, with_job, job_of, keeping}
 use Rattle.state_thread.specs.declared.thread.ThreadState.{ThreadState}
@@ -39,8 +39,7 @@ use Rattle.state_shared.specs.Locks.{Alone, held-by-other, nobody-else}
 use Rattle.step_operands.specs.Readings.{Reads}
 use Rattle.step_operands.specs.Cells.{cells_of}
 use Rattle.step_operands.specs.Gathered.{zeros-stay}
-use Rattle.step_contract.specs.Ready.{Traps}
-use Rattle.step_contract.specs.At.{At, tree, statement-here, reads_here, label-A, depth_is, unread-traps}
+use Rattle.step_contract.specs.At.{At, tree, statement-here, reads_here, label-A, depth_is}
 use Rattle.step_lock.specs.Passages.{other_holder, by_lock, passage_to}
 use Rattle.step_lock.specs.declared.Passage.{Passage}
 use Rattle.step_lock.specs.declared.Passage.TheVariants.{Wait, Go, Own}
@@ -144,9 +143,12 @@ module _ {image table b : List ℕ} {t : ℕ} {w : ThreadState} {r : List ℕ} (
   eight = h.ready.canonical.sized.threads
 
   -- a trap before the block is looked at
-  trap-enters : {x : Trap} {returns vs : List ℕ} → Traps image table b t x → Enters image table b t w r returns vs (Err x)
+  trap-enters : {x : Trap} {returns vs : List ℕ}
+      → react (rules_by image table) (machine_from b) (step t)
+      ≡ reply (finished (rules_by image table) t (machine_from b)) (Trapped (reason x))
+      → Enters image table b t w r returns vs (Err x)
   trap-enters k = record {
-    passes = k.reply;
+    passes = k;
     zeros = λ z. absurd (true≢false (sym z));
     room = λ z. absurd (true≢false (sym z));
   }
@@ -154,18 +156,20 @@ module _ {image table b : List ℕ} {t : ℕ} {w : ThreadState} {r : List ℕ} (
   -- an operand cannot be read
   pub unread-enters : (call : Bool) (x : Trap) {returns vs : List ℕ} → statement_of r ≡ entering call
       → read_all (cells_of b w r) (data_of r) ≡ trap (reason x) → Enters image table b t w r returns vs (Err x)
-  unread-enters false x e g = trap-enters (unread-traps h SendDirect x e g)
-  unread-enters true x e g = trap-enters (unread-traps h Call x e g)
+  unread-enters false x e g =
+      trap-enters (unread image table (machine_from b) t w.locks (job_of w) (tree h).0 h.runs (tree h).1 SendDirect (reason x)
+      (statement-here h SendDirect e) (reads_here h SendDirect g))
+  unread-enters true x e g =
+      trap-enters (unread image table (machine_from b) t w.locks (job_of w) (tree h).0 h.runs (tree h).1 Call (reason x)
+      (statement-here h Call e) (reads_here h Call g))
 
   module _ {vs : List ℕ} (g : Reads (read_all (cells_of b w r) (data_of r)) (Ok tt) (operands r) (replicate operand_count 0) vs) where
     -- there are 8 return labels already
     pub deep-enters : (call : Bool) {returns : List ℕ} → call ≡ true → statement_of r ≡ entering call → return_count ≤ w.depth
         → Enters image table b t w r returns vs (Err ReturnsFull)
-    deep-enters call i e l = trap-enters (record {
-      reply =
-          call-deep image table (machine_from b) t w.locks (job_of w) (tree h).0 h.runs (tree h).1 (take (operands r) vs)
-          (statement-here h Call (rw i at e)) (reads_here h Call g.gives) (le-leb return_count _ (omega (arith, depth_is h)));
-    })
+    deep-enters call i e l =
+        trap-enters (call-deep image table (machine_from b) t w.locks (job_of w) (tree h).0 h.runs (tree h).1 (take (operands r) vs)
+        (statement-here h Call (rw i at e)) (reads_here h Call g.gives) (le-leb return_count _ (omega (arith, depth_is h))))
 
     pub enters-as : (call : Bool) (q : Result Passage Trap) → statement_of r ≡ entering call → (call ≡ true → w.depth < return_count)
         → q ≡ passage_to (machine_from b) (row_at table (block_at image (label_a r))) t w.locks

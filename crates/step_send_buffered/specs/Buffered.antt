@@ -1,17 +1,18 @@
 -- What a buffered SEND leaves on the bytes, from what the calls that carry it out leave.
-use Rattle.std.specs.Prelude.{◌≡◌, refl, List, ℕ, ◌≤◌, ◌<◌, length, take}
+use Rattle.std.specs.Prelude.{◌≡◌, List, ℕ, ◌≤◌, ◌<◌, length, take}
 use Rattle.std.proofs.Common.{ap, ◌∙◌, subst, le-leb}
 use Rattle.std.proofs.Math.Option.{some}
 use Rattle.std.proofs.lemmas.Bool.{lt-leb}
 use Rattle.rules.specs.Sizes.{pending_count}
+use Rattle.rules.specs.Codes.{pending_full_code}
 use Rattle.rules.specs.Image.{record_at, operands, label_a, label_b}
 use Rattle.rules.specs.Statements.{statement_of}
 use Rattle.rules.specs.Machine.{Machine, first, job}
 use Rattle.rules.specs.Encoding.{machine_from}
+use Rattle.rules.specs.Steps.{rules_by, finished}
 use Rattle.rules.specs.declared.answer.Answer.{Answer}
-use Rattle.rules.specs.declared.answer.Answer.TheVariants.{Moved}
+use Rattle.rules.specs.declared.answer.Answer.TheVariants.{Moved, Trapped}
 use Rattle.rules.specs.declared.statement.Statement.TheVariants.{SendBuffered}
-use Rattle.rules.specs.declared.trap.Trap.TheVariants.{PendingFull}
 use Rattle.lemmas_encoding.specs.Encoded.{Encodes, Canonical, encoded-machine}
 use Rattle.lemmas_encoding.specs.FirstTree.{first_tree, first_some}
 use Rattle.state_thread.specs.Threads.{returns_of, registers_of, with_job, job_of, keeping}
@@ -20,7 +21,7 @@ use Rattle.state_pending.specs.Canon.{pending_at}
 use Rattle.state_pending.specs.Changes.{sent}
 use Rattle.step_operands.specs.Readings.{Given}
 use Rattle.lemmas_step.specs.Statements.{buffer-full, buffers}
-use Rattle.step_contract.specs.Ready.{Stepped, Traps, done}
+use Rattle.step_contract.specs.Ready.{Stepped, Ended, done}
 use Rattle.step_contract.specs.At.{At, tree, statement-here, reads_here}
 use Rattle.step_end.specs.Home.{first-inside}
 
@@ -44,12 +45,12 @@ module _ {image table b : List ℕ} {t : ℕ} {w : ThreadState} {r : List ℕ} (
     own : first t m.trees ≡ some (pending_at m i)
     own = rw at (first_some t m.trees (rw at at (own-tree i at)))
 
-    pub full-traps : pending_count ≤ length (pending_at m i) → Traps image table b t PendingFull
-    full-traps l = record {
-      reply =
-          buffer-full image table m t w.locks (job_of w) (pending_at m i) h.runs own vs
-          (statement-here h SendBuffered e) (reads_here h SendBuffered g.gives) (le-leb pending_count _ l);
-    }
+    pub full-stepped : {b' : List ℕ} {a : Answer} → pending_count ≤ length (pending_at m i) → a ≡ Trapped pending_full_code
+        → Ended image table b t b' → Stepped image table b t b' a
+    full-stepped l f k =
+        done (finished (rules_by image table) t m) (Trapped pending_full_code)
+        (buffer-full image table m t w.locks (job_of w) (pending_at m i) h.runs own vs
+        (statement-here h SendBuffered e) (reads_here h SendBuffered g.gives) (le-leb pending_count _ l)) f k
 
     -- the machine with the thread at label B, and then with the signal in the tree
     abbrev moved : List ℕ → Machine

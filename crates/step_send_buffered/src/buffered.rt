@@ -7,7 +7,7 @@ ghost use Rattle.rules.specs.declared.statement.Statement.TheVariants.{SendBuffe
 ghost use Rattle.lemmas_encoding.specs.FirstTree.{first_tree};
 ghost use Rattle.state_pending.specs.Canon.{pending_at};
 ghost use Rattle.step_operands.specs.Readings.{Given};
-ghost use Rattle.step_contract.specs.Ready.{Stepped, Attempted};
+ghost use Rattle.step_contract.specs.Ready.{Stepped};
 ghost use Rattle.step_contract.specs.At.{At};
 
 use image_record::record_fields::{label_a, label_b, operand_count};
@@ -19,6 +19,7 @@ use state_pending::{pending, push};
 use state_signal::Signal;
 use state_thread::thread::ThreadState;
 use state_trees::list::first_tree;
+use step_end::trapped;
 use step_goto::go_on;
 use step_operands::read_data;
 
@@ -61,15 +62,17 @@ pub fn send_buffered(
     t: Thread,
     w: ThreadState,
     r: &[u8],
-) -> Result<Answer, Trap>
+) -> Answer
     requires { At image.now table.now state.old t.0 w r.now × (statement_of r.now ≡ SendBuffered) }
-    ensures { Attempted image.now table.now state.old t.0 state.new result }
+    ensures { Stepped image.now table.now state.old t.0 state.new result }
 {
     let mut values = [0u16; Thread::REGISTERS];
-    read_data(state, t, w, r, &mut values)?;
+    if let Err(trap) = read_data(state, t, w, r, &mut values) {
+        return trapped(image, table, state, t, w, u8::from(trap));
+    }
     let i = first_tree(state, t).unwrap();
     if Tree::PENDING <= pending(state, i) {
-        return Err(Trap::PendingFull);
+        return trapped(image, table, state, t, w, u8::from(Trap::PendingFull));
     }
-    Ok(buffer(image, table, state, t, w, r, i, values))
+    buffer(image, table, state, t, w, r, i, values)
 }

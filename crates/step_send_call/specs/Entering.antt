@@ -5,9 +5,12 @@ use Rattle.rules.specs.Sizes.{lock_count, thread_count, register_count, idle_lab
 use Rattle.rules.specs.Image.{labels, label_a, operands}
 use Rattle.rules.specs.Machine.{fill, job}
 use Rattle.rules.specs.Encoding.{machine_from}
+use Rattle.rules.specs.Steps.{rules_by, finished}
+use Rattle.rules.specs.Traps.{reason}
 use Rattle.rules.specs.declared.sorts.Lock.{Lock}
 use Rattle.rules.specs.declared.sorts.Thread.{Thread}
-use Rattle.rules.specs.declared.answer.Answer.TheVariants.{Waiting, Moved}
+use Rattle.rules.specs.declared.answer.Answer.{Answer}
+use Rattle.rules.specs.declared.answer.Answer.TheVariants.{Waiting, Moved, Trapped}
 use Rattle.rules.specs.declared.trap.Trap.{Trap}
 use Rattle.bytes_fields.specs.Put.{put}
 use Rattle.lemmas_encoding.specs.Encoded.{Canonical, Encodes}
@@ -15,7 +18,7 @@ use Rattle.state_registers.specs.Filling.{ZerosAfter}
 use Rattle.state_thread.specs.Threads.{Running, Runs, keeping}
 use Rattle.state_thread.specs.Records.{thread_place, raw_bytes}
 use Rattle.state_thread.specs.declared.thread.ThreadState.{ThreadState}
-use Rattle.step_contract.specs.Ready.{Stepped, Traps, done, thread-stepped}
+use Rattle.step_contract.specs.Ready.{Stepped, Ended, done, thread-stepped}
 use Rattle.step_contract.specs.At.{At, small}
 use Rattle.step_lock.specs.declared.Passage.{Passage}
 use Rattle.step_lock.specs.declared.Passage.TheVariants.{Wait, Go, Own}
@@ -30,9 +33,11 @@ pub record CanEnter (w : ThreadState) (r vs : List ℕ) : Type 0 where
   pub label : label_a r < idle_label
   pub zeros : ZerosAfter (operands r) vs
 
-pub trap-entering : {image table b : List ℕ} {t : ℕ} {w : ThreadState} {r returns vs : List ℕ} {x : Trap}
-    → Enters image table b t w r returns vs (Err x) → Traps image table b t x
-trap-entering e = record { reply = e.passes }
+-- a trap whose job has been ended
+pub trap-stepped : {image table b b' : List ℕ} {t : ℕ} {w : ThreadState} {r returns vs : List ℕ} {x : Trap} {a : Answer}
+    → Enters image table b t w r returns vs (Err x) → a ≡ Trapped (reason x) → Ended image table b t b' → Stepped image table b t b' a
+trap-stepped {image} {table} {b} {t = t} {x = x} e f g =
+    done (finished (rules_by image table) t (machine_from b)) (Trapped (reason x)) e.passes f g
 
 module _ {image table b : List ℕ} {t : ℕ} {w : ThreadState} {r returns vs : List ℕ} (h : At image table b t w r) where
   pub wait-stepped : {l : Lock} {u : Thread} → Enters image table b t w r returns vs (Ok (Wait l u))

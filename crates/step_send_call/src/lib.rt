@@ -7,7 +7,7 @@ ghost use Rattle.rules.specs.Image.{label_a, operands};
 ghost use Rattle.rules.specs.Machine.{fill, job};
 ghost use Rattle.rules.specs.Statements.{statement_of};
 ghost use Rattle.state_thread.specs.Threads.{Runs, keeping};
-ghost use Rattle.step_contract.specs.Ready.{Attempted, thread_in};
+ghost use Rattle.step_contract.specs.Ready.{Stepped, thread_in};
 ghost use Rattle.step_contract.specs.At.{At};
 ghost use Rattle.step_lock.specs.Enters.{entering, returns_with};
 ghost use Rattle.step_send_call.specs.Entering.{CanEnter};
@@ -15,9 +15,9 @@ ghost use Rattle.step_send_call.specs.Entering.{CanEnter};
 use image_record::record_fields::{label_a, label_b, operand_count};
 use rules::answer::Answer;
 use rules::sorts::Thread;
-use rules::trap::Trap;
 use state_thread::thread::ThreadState;
 use state_thread_record::{read_thread, write_thread};
+use step_end::trapped;
 use step_hold::write_holding;
 use step_lock::{Passage, passage_of};
 
@@ -46,23 +46,26 @@ pub fn enter<const CALL: bool>(
     state: &mut [u8],
     t: Thread,
     r: &[u8],
-) -> Result<Answer, Trap>
+) -> Answer
     requires { At image.now table.now state.old t.0 (thread_in state.old t.0) r.now
         × (statement_of r.now ≡ entering CALL) }
-    ensures { Attempted image.now table.now state.old t.0 state.new result }
+    ensures { Stepped image.now table.now state.old t.0 state.new result }
 {
     let mut values = [0u16; Thread::REGISTERS];
     let w = read_thread(state, t);
-    let passage = passage_of::<CALL>(image, table, state, t, w, r, &mut values)?;
+    let passage = match passage_of::<CALL>(image, table, state, t, w, r, &mut values) {
+        Ok(passage) => passage,
+        Err(trap) => return trapped(image, table, state, t, w, u8::from(trap)),
+    };
     match passage {
-        Passage::Wait(lock, _) => Ok(Answer::Waiting(lock)),
+        Passage::Wait(lock, _) => Answer::Waiting(lock),
         Passage::Go(lock) => {
             write_holding(state, t, entered::<CALL>(w, r, values), lock);
-            Ok(Answer::Moved)
+            Answer::Moved
         }
         Passage::Own => {
             write_thread(state, t, entered::<CALL>(w, r, values));
-            Ok(Answer::Moved)
+            Answer::Moved
         }
     }
 }

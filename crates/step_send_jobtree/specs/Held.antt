@@ -1,18 +1,20 @@
 -- What a SEND JOBTREE leaves on the bytes, from what the calls that carry it out leave.
-use Rattle.std.specs.Prelude.{◌≡◌, refl, List, [], ◌∷◌, ◌++◌, ℕ, ◌+◌, ◌*◌, ◌-◌, ◌≤◌, ◌<◌, length, get_or, drop, take}
+use Rattle.std.specs.Prelude.{◌≡◌, List, [], ◌∷◌, ◌++◌, ℕ, ◌+◌, ◌*◌, ◌-◌, ◌≤◌, ◌<◌, length, get_or, drop, take}
 use Rattle.std.proofs.Common.{sym, ◌∙◌, subst, arith, le-leb}
 use Rattle.std.proofs.Math.Path.{ap}
 use Rattle.std.proofs.lemmas.Bool.{lt-leb}
 use Rattle.rules.specs.Sizes.{held_count, signal_size}
+use Rattle.rules.specs.Codes.{held_full_code}
 use Rattle.rules.specs.Image.{operands, label_a, label_b}
 use Rattle.rules.specs.Statements.{statement_of}
 use Rattle.rules.specs.Machine.{Signal, Job, Machine, job, with_held}
 use Rattle.rules.specs.Encoding.{signal_bytes, machine_from}
+use Rattle.rules.specs.Steps.{rules_by, finished}
 use Rattle.rules.specs.Sorts.{label}
 use Rattle.rules.specs.declared.sorts.Label.{Label}
-use Rattle.rules.specs.declared.answer.Answer.TheVariants.{Moved}
+use Rattle.rules.specs.declared.answer.Answer.{Answer}
+use Rattle.rules.specs.declared.answer.Answer.TheVariants.{Moved, Trapped}
 use Rattle.rules.specs.declared.statement.Statement.TheVariants.{SendTree}
-use Rattle.rules.specs.declared.trap.Trap.TheVariants.{HeldFull}
 use Rattle.bytes_fields.specs.Put.{put}
 use Rattle.lemmas_encoding.specs.Sized.{SizedSignal}
 use Rattle.lemmas_encoding.specs.Slots.{returns_in, present_in, registers_in, signals_in}
@@ -25,7 +27,7 @@ use Rattle.state_signal.specs.Signals.{TidySignal}
 use Rattle.step_operands.specs.Readings.{Given}
 use Rattle.step_operands.specs.Gathered.{zeros-stay}
 use Rattle.lemmas_step.specs.Statements.{hold-full, holds_on}
-use Rattle.step_contract.specs.Ready.{Recorded, Stepped, Traps, thread-stepped}
+use Rattle.step_contract.specs.Ready.{Recorded, Stepped, Ended, done, thread-stepped}
 use Rattle.step_contract.specs.At.{At, tree, statement-here, reads_here}
 
 -- a thread with one signal more, which goes on: the rest of it is as the record has it
@@ -71,12 +73,12 @@ module _ {image table b : List ℕ} {t : ℕ} {w : ThreadState} {r : List ℕ} (
   counted : length (signals_of w) ≡ w.held
   counted = held-counted w.held w.signals h.thread.tidy.held
 
-  pub full-traps : held_count ≤ w.held → Traps image table b t HeldFull
-  full-traps l = record {
-    reply =
-        hold-full image table m t w.locks (job_of w) (tree h).0 h.runs (tree h).1 vs (statement-here h SendTree e)
-        (reads_here h SendTree g.gives) (le-leb held_count (length (signals_of w)) (rw counted l));
-  }
+  pub full-stepped : {b' : List ℕ} {a : Answer} → held_count ≤ w.held → a ≡ Trapped held_full_code
+      → Ended image table b t b' → Stepped image table b t b' a
+  full-stepped l f k =
+      done (finished (rules_by image table) t m) (Trapped held_full_code)
+      (hold-full image table m t w.locks (job_of w) (tree h).0 h.runs (tree h).1 vs (statement-here h SendTree e)
+      (reads_here h SendTree g.gives) (le-leb held_count (length (signals_of w)) (rw counted l))) f k
 
   -- the job at label B, with the signal to label A held
   abbrev pub holding : ℕ → ℕ → ℕ → Job

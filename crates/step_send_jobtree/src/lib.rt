@@ -6,7 +6,7 @@ ghost use Rattle.rules.specs.Sizes.{held_count};
 ghost use Rattle.rules.specs.Statements.{statement_of};
 ghost use Rattle.rules.specs.declared.statement.Statement.TheVariants.{SendTree};
 ghost use Rattle.step_operands.specs.Readings.{Given};
-ghost use Rattle.step_contract.specs.Ready.{Stepped, Attempted};
+ghost use Rattle.step_contract.specs.Ready.{Stepped};
 ghost use Rattle.step_contract.specs.At.{At};
 
 use image_record::record_fields::{label_a, label_b, operand_count};
@@ -16,6 +16,7 @@ use rules::trap::Trap;
 use state_signal::Signal;
 use state_thread::thread::ThreadState;
 use state_thread_record::write_held_signal;
+use step_end::trapped;
 use step_operands::read_data;
 
 // The data have been read, and the job holds fewer than four signals.
@@ -51,14 +52,16 @@ pub fn send_tree(
     t: Thread,
     w: ThreadState,
     r: &[u8],
-) -> Result<Answer, Trap>
+) -> Answer
     requires { At image.now table.now state.old t.0 w r.now × (statement_of r.now ≡ SendTree) }
-    ensures { Attempted image.now table.now state.old t.0 state.new result }
+    ensures { Stepped image.now table.now state.old t.0 state.new result }
 {
     let mut values = [0u16; Thread::REGISTERS];
-    read_data(state, t, w, r, &mut values)?;
-    if Thread::HELD <= w.held {
-        return Err(Trap::HeldFull);
+    if let Err(trap) = read_data(state, t, w, r, &mut values) {
+        return trapped(image, table, state, t, w, u8::from(trap));
     }
-    Ok(hold_for_tree(image, table, state, t, w, r, values))
+    if Thread::HELD <= w.held {
+        return trapped(image, table, state, t, w, u8::from(Trap::HeldFull));
+    }
+    hold_for_tree(image, table, state, t, w, r, values)
 }

@@ -3,16 +3,17 @@ use Rattle.std.specs.Prelude.{◌≡◌, refl, List, [], ◌∷◌, ◌++◌, ma
 use Rattle.std.proofs.Common.{ap, subst, arith}
 use Rattle.std.proofs.Math.Option.{some}
 use Rattle.rules.specs.Sizes.{idle_label}
+use Rattle.rules.specs.Codes.{no_return_label_code}
 use Rattle.rules.specs.Image.{labels, record_at, label_a}
 use Rattle.rules.specs.Statements.{statement_of, data_of}
 use Rattle.rules.specs.Effects.{got, read_all}
 use Rattle.rules.specs.Machine.{Machine, fill, job}
 use Rattle.rules.specs.Encoding.{machine_from}
 use Rattle.rules.specs.Events.{step}
-use Rattle.rules.specs.Steps.{newest}
-use Rattle.rules.specs.declared.answer.Answer.TheVariants.{Moved}
+use Rattle.rules.specs.Steps.{newest, rules_by, finished}
+use Rattle.rules.specs.declared.answer.Answer.{Answer}
+use Rattle.rules.specs.declared.answer.Answer.TheVariants.{Moved, Trapped}
 use Rattle.rules.specs.declared.statement.Statement.TheVariants.{Return, Transfer}
-use Rattle.rules.specs.declared.trap.Trap.TheVariants.{NoReturnLabel}
 use Rattle.bytes_fields.specs.Each.{Each}
 use Rattle.lemmas_invariant.specs.Sound.{PlaceIn, ThreadIn}
 use Rattle.lemmas_step.specs.Events.{reply}
@@ -21,7 +22,7 @@ use Rattle.state_thread.specs.Returns.{newest_of, older_of}
 use Rattle.state_thread.specs.Threads.{returns_of, registers_of, with_job, job_of, keeping}
 use Rattle.state_thread.specs.declared.thread.ThreadState.{ThreadState}
 use Rattle.step_operands.specs.Cells.{cells_of}
-use Rattle.step_contract.specs.Ready.{Traps, reply_to}
+use Rattle.step_contract.specs.Ready.{Stepped, Ended, reply_to, done}
 use Rattle.step_contract.specs.At.{At, tree, statement-here, reads_here, small, depth_is}
 
 -- the newest of the return labels is one of them
@@ -66,12 +67,12 @@ module _ {image table b : List ℕ} {t : ℕ} {w : ThreadState} {r : List ℕ} (
       returned l = to-newest (returns_of w) refl (omega (arith, depth_is h))
 
       -- none in it
-      pub none-traps : w.depth ≡ 0 → Traps image table b t NoReturnLabel
-      none-traps z = record {
-        reply =
-            law.return-none image table m t w.locks (job_of w) (tree h).0 h.runs (tree h).1 vs (statement-here h Return e)
-            (reads_here h Return g) (rw z refl);
-      }
+      pub unreturned : {b' : List ℕ} {a : Answer} → w.depth ≡ 0 → a ≡ Trapped no_return_label_code → Ended image table b t b'
+          → Stepped image table b t b' a
+      unreturned z f k =
+          done (finished (rules_by image table) t m) (Trapped no_return_label_code)
+          (law.return-none image table m t w.locks (job_of w) (tree h).0 h.runs (tree h).1 vs (statement-here h Return e)
+          (reads_here h Return g) (rw z refl)) f k
 
   pub newest-small : 0 < w.depth → newest_of (returns_of w) < idle_label
   newest-small l =

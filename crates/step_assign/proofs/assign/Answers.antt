@@ -1,6 +1,5 @@
 use mathlib.Core.Path.{sym}
 use Rattle.step_operands.specs.Statements.{assigns}
-use Rattle.step_contract.specs.Ready.{trap-attempted}
 use Rattle.step_contract.specs.At.{registers-here}
 use Rattle.step_store.specs.Operands.{legal}
 use Rattle.step_assign.specs.Assigned.{unworked, assigned-stepped}
@@ -15,13 +14,12 @@ results_of-requires c =
     let placed = (assigns h.parts s.args.a s.requires.1).1 in
     (h.ready.canonical.long, h.readable, fits.left, fits.right, h.inside, registers-here h, placed)
 
-pub returns-in_err-results : goal.returns-in_err-results
-returns-in_err-results c =
-    let e = rw c.in_err-results.was at c.results_of.ensures in
-    trap-attempted (unworked c.requires.0 c.args.a c.requires.1 _ (sym e)) _ c.from_residual.ensures.1
+pub returns-in-Err : goal.returns-in-Err
+returns-in-Err c =
+    unworked c.requires.0 c.args.a c.requires.1 (sym c.in-Err.ensures) (rw c.from.ensures at c.trapped.ensures.value)
+    c.trapped.ensures.ended
 
 pub returns : goal.returns
 returns c =
-    let e = rw c.in_ok-results.was at c.results_of.ensures in
-    assigned-stepped c.requires.0 c.args.a c.requires.1 c.in_ok-results.results.first c.in_ok-results.results.second (sym e)
+    assigned-stepped c.requires.0 c.args.a c.requires.1 c.in-Ok.results.first c.in-Ok.results.second (sym c.in-Ok.ensures)
     c.store_results.ensures

@@ -2,8 +2,7 @@ use mathlib.Core.Path.{sym, ap, ◌∙◌}
 use mathlib.Core.Bool.{Bool, cond}
 use Rattle.rules.specs.Image.{label_a, label_b}
 use Rattle.rules.specs.declared.statement.Statement.TheVariants.{If}
-use Rattle.step_contract.specs.Ready.{trap-attempted}
-use Rattle.step_contract.specs.At.{registers-here, label-A, label-B, small, unread-traps}
+use Rattle.step_contract.specs.At.{registers-here, label-A, label-B, small, unread-stepped}
 use Rattle.step_if.specs.Branches.{places-fit, condition-at, choice-below, branched}
 use native.Mathlib.Omega.{arith}
 use borrow.Author.Rules.{rules}
@@ -16,11 +15,11 @@ read_pair-requires c =
     let k = places-fit h s.args.c s.requires.1 in
     (h.ready.canonical.long, h.readable, omega arith, k.0, k.1, h.inside, registers-here h)
 
-pub returns-in_err-pair : goal.returns-in_err-pair
-returns-in_err-pair c =
-    let e = rw c.in_err-pair.was at c.read_pair.ensures in
-    let unread = unread-traps c.requires.0 (If c.args.c) _ c.requires.1 (condition-at c.requires.0 c.args.c c.requires.1 (sym e)) in
-    trap-attempted unread _ c.from_residual.ensures.1
+pub returns-in-Err : goal.returns-in-Err
+returns-in-Err c =
+    unread-stepped c.requires.0 (If c.args.c) c.requires.1
+    (condition-at c.requires.0 c.args.c c.requires.1 (sym c.in-Err.ensures))
+    (rw c.from.ensures at c.trapped.ensures.value) c.trapped.ensures.ended
 
 pub go_on-requires : goal.go_on-requires
 go_on-requires c =
@@ -32,8 +31,7 @@ go_on-requires c =
 
 pub returns : goal.returns
 returns c =
-    let e = rw c.in_ok-pair.was at c.read_pair.ensures in
     let r = c.args.r.now in
     let to = ap (λ l. l.0) c.label_by.ensures ∙ ap (λ (z : Bool). cond z (label_a r) (label_b r)) c.relation_holds-test.ensures in
-    branched c.requires.0 c.args.c c.in_ok-pair.pair.left c.in_ok-pair.pair.right c.requires.1
-    (condition-at c.requires.0 c.args.c c.requires.1 (sym e)) to c.go_on.ensures.value c.go_on.ensures.encodes
+    branched c.requires.0 c.args.c c.in-Ok.pair.left c.in-Ok.pair.right c.requires.1
+    (condition-at c.requires.0 c.args.c c.requires.1 (sym c.in-Ok.ensures)) to c.go_on.ensures.value c.go_on.ensures.encodes

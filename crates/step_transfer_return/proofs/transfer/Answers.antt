@@ -7,8 +7,8 @@ use lib.Seq.{length-take-le}
 use Rattle.rules.specs.Image.{operands}
 use Rattle.rules.specs.declared.answer.Answer.TheVariants.{Moved}
 use Rattle.rules.specs.declared.statement.Statement.TheVariants.{Transfer}
-use Rattle.step_contract.specs.Ready.{trap-attempted, thread-stepped}
-use Rattle.step_contract.specs.At.{registers-here, label-A, small, unread-traps}
+use Rattle.step_contract.specs.Ready.{thread-stepped}
+use Rattle.step_contract.specs.At.{registers-here, label-A, small, unread-stepped}
 use Rattle.step_transfer_return.specs.Steps.{transferred}
 use borrow.Author.Rules.{rules}
 use Rattle.step_transfer_return.proofs.transfer.Goals as goal
@@ -19,15 +19,15 @@ read_data-requires c =
     let h = c.requires.0 in
     (h.ready.canonical.long, h.readable, search rules, h.inside, registers-here h)
 
-pub returns-in_err-read_data : goal.returns-in_err-read_data
-returns-in_err-read_data c =
-    let unread = (rw c.in_err-read_data.was at c.read_data.ensures).gives in
-    trap-attempted (unread-traps c.requires.0 Transfer _ c.requires.1 unread) _ c.from_residual.ensures.1
+pub returns-in-Err : goal.returns-in-Err
+returns-in-Err c =
+    unread-stepped c.requires.0 Transfer c.requires.1 c.in-Err.ensures.gives (rw c.from.ensures at c.trapped.ensures.value)
+    c.trapped.ensures.ended
 
 pub transfer-requires : goal.transfer-requires
 transfer-requires c =
     let label-a = c.label_a in
-    let read = rw c.in_ok-read_data.was at c.read_data.ensures in
+    let read = c.in_default.ensures in
     let s = c in
     let h = s.requires.0 in
     let n = c.operand_count.ensures in
@@ -46,7 +46,7 @@ returns c =
     let transfer = c.transfer in
     let operand-count = c.operand_count in
     let label-a = c.label_a in
-    let read = rw c.in_ok-read_data.was at c.read_data.ensures in
+    let read = c.in_default.ensures in
     let s = c in
     let h = s.requires.0 in
     let n = operands s.args.r.now in
