@@ -66,6 +66,8 @@ pub fn finish(image: &[u8], table: &[u8], state: &mut [u8], t: Thread, w: Thread
     clear_thread(state, t, w);
 }
 
+// A trap ends the job. This stands apart from the statements, so that they have the processor's registers for themselves.
+#[inline(never)]
 pub fn trapped(
     image: &[u8],
     table: &[u8],

@@ -1,13 +1,12 @@
 -- The signals that a job held, admitted one after the other.
-use Rattle.std.specs.Prelude.{◌≡◌, Bool, ℕ, ◌+◌, ◌≤◌, ◌<◌, get_or, take}
+use Rattle.std.specs.Prelude.{◌≡◌, Bool, ℕ, ◌+◌, ◌≤◌, ◌<◌, ltb, get_or}
 use Rattle.std.proofs.Math.Path.{refl, ap}
-use Rattle.std.proofs.Common.{sym, ◌∙◌, subst, length-append, take_all}
-use Rattle.std.proofs.lemmas.List.{take_more}
+use Rattle.std.proofs.Common.{sym, ◌∙◌, subst, length-append}
 use Rattle.std.proofs.Math.Bool.{true, false, cond}
 use mathlib.Core.List.{List, [], ◌∷◌, ◌++◌}
 use native.Mathlib.Omega.{arith}
 use Rattle.std.proofs.Math.ListN.{length}
-use Rattle.rules.specs.Sizes.{block_count, table_size}
+use Rattle.rules.specs.Sizes.{block_count, table_size, held_count}
 use Rattle.rules.specs.Image.{labels, row_at}
 use Rattle.rules.specs.Check.{Checked}
 use Rattle.rules.specs.Machine.{Signal, Machine, tree_threads}
@@ -28,6 +27,11 @@ pub record Admissible (image table b : List ℕ) (g : Value.Signal) : Type 0 whe
   pub canonical : Canonical b
   pub entry : HeldIn image table (signal_of g)
   pub tidy : TidySignal g
+
+-- a signal, if it is held
+abbrev pub only : Bool → Signal → List Signal
+only true g = g ∷ []
+only false g = []
 
 -- ---- one signal
 
@@ -72,9 +76,10 @@ module _ {image table b : List ℕ} {v : Value.Signal} (h : Admissible image tab
 
 module _ (R : Rules) where
   -- at most one of one is lost
-  pub few-lost : (g : Signal) (s : Machine) → length (lost R (g ∷ []) s) ≤ 1
+  pub few-lost : (z : Bool) (g : Signal) (s : Machine) → length (lost R (only z g) s) ≤ 1
   unfolding lost
-  few-lost g s = case (admits R s.trees g)
+  few-lost false g s = omega arith
+  few-lost true g s = case (admits R s.trees g)
     where
       case : (b : Bool) → length (cond b [] (g ∷ [])) ≤ 1
       case true = omega arith
@@ -112,13 +117,15 @@ module _ (R : Rules) where
         count = rw (lost-more xs ys s, length-append) (omega (arith, h.count, e, ap (λ (q : Machine). length (lost R ys q)) m));
       }
 
-  -- the next of them
-  pub through-next : {s : Machine} {n : ℕ} {b : List ℕ} (gs : List Signal) (i : ℕ) {g : Signal} {k : ℕ} {b' : List ℕ}
-      → Through s (take i gs) n b → i < length gs → g ≡ get_or gs i no_signal → k ≡ length (lost R (g ∷ []) (machine_from b))
-      → Encodes b' (admitted R (g ∷ []) (machine_from b)) → Through s (take (i + 1) gs) (n + k) b'
-  through-next gs i h l e m f = rw (take_more gs i no_signal l, ← e) (through-more (_ ∷ []) h m f)
+-- at most four signals are those at the four places, as far as they are counted
+abbrev pub places : ℕ → Signal → Signal → Signal → Signal → List Signal
+places n a b c d = ((([] ++ only (ltb 0 n) a) ++ only (ltb 1 n) b) ++ only (ltb 2 n) c) ++ only (ltb 3 n) d
 
-  -- all of them
-  pub through-all : {s : Machine} {n : ℕ} {b : List ℕ} (gs : List Signal) (i : ℕ) → length gs ≤ i → Through s (take i gs) n b
-      → Through s gs n b
-  through-all gs i l h = rw (take_all i gs l) at h
+pub four-places : (gs : List Signal) → length gs ≤ held_count
+    → places (length gs) (get_or gs 0 no_signal) (get_or gs 1 no_signal) (get_or gs 2 no_signal) (get_or gs 3 no_signal) ≡ gs
+four-places [] h = refl
+four-places (a ∷ []) h = refl
+four-places (a ∷ b ∷ []) h = refl
+four-places (a ∷ b ∷ c ∷ []) h = refl
+four-places (a ∷ b ∷ c ∷ d ∷ []) h = refl
+four-places (a ∷ b ∷ c ∷ d ∷ e ∷ gs) h = absurd (omega arith)

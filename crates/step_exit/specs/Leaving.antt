@@ -22,7 +22,7 @@ use Rattle.lemmas_step.specs.Statements.{leaves}
 use Rattle.step_contract.specs.Ready.{Recorded, Stepped, Ended, done, still-recorded}
 use Rattle.step_contract.specs.At.{At, tree, statement-here}
 use Rattle.step_end.specs.Home.{settled}
-use Rattle.step_exit.specs.Admitting.{Admissible}
+use Rattle.step_exit.specs.Admitting.{Admissible, Through, places, four-places}
 
 module _ {image table b : List ℕ} {t : ℕ} {w : ThreadState} {r : List ℕ} (h : At image table b t w r) where
   abbrev m : Machine
@@ -41,10 +41,19 @@ module _ {image table b : List ℕ} {t : ℕ} {w : ThreadState} {r : List ℕ} (
       rw e (each_at (HeldIn image table) gs i no_signal each (omega (arith, counted)))
 
   -- so the one at a place can be admitted to every state that is a machine's
-  pub admissible : {b' : List ℕ} {s : Machine} (i : ℕ) {v : Value.Signal} → Encodes b' s → i < w.held
-      → (signal_of v ≡ get_or gs i no_signal) × TidySignal v → Admissible image table b' v
-  admissible {b'} {s} i k l (e, z) =
-      record { checked = h.ready.checked; canonical = encoded-canonical b' s k; entry = held_in i e l; tidy = z }
+  pub admissible : {b' : List ℕ} {s : Machine} (i : ℕ) {v : Value.Signal} → Encodes b' s
+      → (signal_of v ≡ get_or gs i no_signal) × TidySignal v → Canonical b' × (i < w.held → Admissible image table b' v)
+  admissible {b'} {s} i k (e, z) =
+      let c = encoded-canonical b' s k in
+      (c, λ l. record { checked = h.ready.checked; canonical = c; entry = held_in i e l; tidy = z })
+
+  -- those at the four places are all
+  pub all_held : {s : Machine} {k : ℕ} {b' : List ℕ} {x₀ x₁ x₂ x₃ : Signal} → x₀ ≡ get_or gs 0 no_signal → x₁ ≡ get_or gs 1 no_signal
+      → x₂ ≡ get_or gs 2 no_signal → x₃ ≡ get_or gs 3 no_signal → Through (rules_by image table) s (places w.held x₀ x₁ x₂ x₃) k b'
+      → Through (rules_by image table) s gs k b'
+  all_held {s} {k} {b'} e₀ e₁ e₂ e₃ q =
+      subst (λ (l : List Signal). Through (rules_by image table) s l k b')
+      ((λ i. places (sym counted i) (e₀ i) (e₁ i) (e₂ i) (e₃ i)) ∙ four-places gs h.thread.tidy.held.sized.count) q
 
   -- the own tree is settled and the signals are admitted: the thread's record says w still
   pub still-runs : {b' : List ℕ} → Encodes b' (admitted (rules_by image table) gs (settled image table t m)) → Recorded b' t w

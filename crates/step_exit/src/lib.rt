@@ -1,17 +1,17 @@
 // EXIT: the job's own tree, then the trees that the signals it held found, oldest first.
 #![tactic(auto)]
 
-ghost use Rattle.std.specs.Prelude.{◌≡◌, [], ◌∷◌, length};
+ghost use Rattle.std.specs.Prelude.{◌≡◌, [], ◌∷◌, ◌<◌, ◌≤◌, ltb, length};
 ghost use Rattle.rules.specs.Encoding.{machine_from};
 ghost use Rattle.rules.specs.Steps.{rules_by, finished, admitted, lost};
 ghost use Rattle.rules.specs.Statements.{statement_of};
 ghost use Rattle.rules.specs.declared.statement.Statement.TheVariants.{Exit};
-ghost use Rattle.lemmas_encoding.specs.Encoded.{Encodes};
+ghost use Rattle.lemmas_encoding.specs.Encoded.{Canonical, Encodes};
 ghost use Rattle.state_signal.specs.Signals.{signal_of};
 ghost use Rattle.state_thread.specs.Threads.{signals_of};
 ghost use Rattle.step_contract.specs.Ready.{Stepped, thread_in};
 ghost use Rattle.step_contract.specs.At.{At};
-ghost use Rattle.step_exit.specs.Admitting.{Admissible};
+ghost use Rattle.step_exit.specs.Admitting.{Admissible, only};
 
 use image_record::records::block_at;
 use image_table::thread_at;
@@ -40,7 +40,22 @@ fn found_tree(image: &[u8], table: &[u8], state: &mut [u8], g: Signal) -> u8
     1
 }
 
-// A job that holds signals ends: they are taken out of the thread first. How many of them are lost.
+// The same of the signal at place i, where so many are held; past them nothing is done.
+fn found_next(image: &[u8], table: &[u8], state: &mut [u8], g: Signal, i: usize, count: usize) -> u8
+    requires { Canonical state.old × (i < count → Admissible image.now table.now state.old g) }
+    ensures value { (result ≡ length (lost (rules_by image.now table.now) (only (ltb i count) (signal_of g))
+        (machine_from state.old))) × (result ≤ 1) }
+    ensures encodes { Encodes state.new (admitted (rules_by image.now table.now)
+        (only (ltb i count) (signal_of g)) (machine_from state.old)) }
+{
+    if i < count {
+        return found_tree(image, table, state, g);
+    }
+    0
+}
+
+// A job that holds signals ends: they are taken out of the thread first, at fixed places, so that the compiler does not copy the others.
+// How many of them are lost.
 fn end_holding(
     image: &[u8],
     table: &[u8],
@@ -55,19 +70,18 @@ fn end_holding(
     ensures encodes { Encodes state.new (admitted (rules_by image.now table.now) (signals_of w)
         (finished (rules_by image.now table.now) t.0 (machine_from state.old))) }
 {
-    let held = [
-        w.held_signal(0),
-        w.held_signal(1),
-        w.held_signal(2),
-        w.held_signal(3),
-    ];
+    let count = w.held;
+    let first = w.held_signal(0);
+    let second = w.held_signal(1);
+    let third = w.held_signal(2);
+    let fourth = w.held_signal(3);
     settle(image, table, state, t);
-    let mut missed: u8 = 0;
-    for g in &held[..w.held] {
-        missed += found_tree(image, table, state, *g);
-    }
+    let a = found_next(image, table, state, first, 0, count);
+    let b = found_next(image, table, state, second, 1, count);
+    let c = found_next(image, table, state, third, 2, count);
+    let d = found_next(image, table, state, fourth, 3, count);
     clear_thread(state, t, w);
-    missed
+    a + b + c + d
 }
 
 // The thread is read, as one value, where it is known whether it holds signals: of one that holds none they are then not loaded.

@@ -1,95 +1,123 @@
 use borrow.Author.Rules.{rules}
-use mathlib.Core.Path.{◌≡◌, sym, ap, ◌∙◌}
-use mathlib.Core.List.{List, [], ◌∷◌}
-use Prim.Native.Nat.{ℕ, zero, suc, ◌≤◌, ◌<◌}
+use mathlib.Core.Path.{ap}
 use native.Mathlib.Omega.{arith}
-use lib.ListN.{length, get_or, take}
-use lib.Seq.{get_or-take, length-take-le}
-use Rattle.rules.specs.Sizes.{held_count}
-use Rattle.rules.specs.Machine as law
-use Rattle.rules.specs.Encoding.{no_signal}
+use Prim.Native.Nat.{◌+◌}
+use lib.ListN.{length}
+use Rattle.rules.specs.Encoding.{machine_from}
 use Rattle.rules.specs.Steps.{rules_by}
 use Rattle.lemmas_encoding.specs.Encoded.{encoded-canonical}
-use Rattle.state_signal.specs.Signals.{signal_of, TidySignal}
-use Rattle.state_signal.specs.declared.Signal.{Signal}
 use Rattle.state_thread.specs.Threads.{signals_of}
 use Rattle.step_contract.specs.At.{at-busy}
-use Rattle.step_exit.specs.Admitting.{few-lost, through-none, through-next, through-all}
-use Rattle.step_exit.specs.Leaving.{counted, admissible, still-runs, left, lost-there}
+use Rattle.step_end.specs.Home.{settled}
+use Rattle.step_exit.specs.Admitting.{Through, through-none, through-more}
+use Rattle.step_exit.specs.Leaving.{admissible, all_held, still-runs, left, lost-there}
 use Rattle.step_exit.proofs.end_holding.Goals as goal
 
--- v is the signal at place i of those that the thread holds
-abbrev Taken : List law.Signal → ℕ → Signal → Type 0
-Taken gs i v = (signal_of v ≡ get_or gs i no_signal) × TidySignal v
-
--- the n that it holds were taken out of it, four places in all
-module _ (n : ℕ) (within : n ≤ held_count) (a b c d : Signal) (i : ℕ) where
-  held : n ≡ length (take n (a ∷ b ∷ c ∷ d ∷ []))
-  held = sym (length-take-le n (a ∷ b ∷ c ∷ d ∷ []) within)
-
-  taken : (gs : List law.Signal) (z : Signal) → Taken gs 0 a → Taken gs 1 b → Taken gs 2 c → Taken gs 3 d → i < n
-      → Taken gs i (get_or (take n (a ∷ b ∷ c ∷ d ∷ [])) i z)
-  taken gs z p q r s l = rw (get_or-take n (a ∷ b ∷ c ∷ d ∷ []) i z l) (place i (omega (arith, within, l)))
-    where
-      place : (j : ℕ) → j < 4 → Taken gs j (get_or (a ∷ b ∷ c ∷ d ∷ []) j z)
-      place zero k = p
-      place (suc zero) k = q
-      place (suc (suc zero)) k = r
-      place (suc (suc (suc zero))) k = s
-      place (suc (suc (suc (suc j)))) k = absurd (omega arith)
-
 pub settle-requires : goal.settle-requires
-settle-requires c = let h = c.requires in (h.ready, h.inside, at-busy h)
+settle-requires c = let h = c.requires in
+    (h.ready, h.inside, at-busy h)
 
-pub loop-g-init : goal.loop-g-init
-loop-g-init c = record { through = through-none _ c.settle.ensures; few = omega arith }
+pub found_next-a-requires : goal.found_next-a-requires
+found_next-a-requires c =
+    admissible c.requires 0 c.settle.ensures
+    c.held_signal-first.ensures
 
-pub found_tree-missed-requires : goal.found_tree-missed-requires
-found_tree-missed-requires c =
-    let h = c.requires in
-    let within = h.thread.tidy.held.within in
-    let n = held _ within c.held_signal.result c.held_signal-2.result c.held_signal-3.result c.held_signal-4.result 0 in
-    let l : c.loop-g.g-index < c.args.w.held = omega (arith, n, c.loop-g-test.true) in
-    admissible h c.loop-g.g-index c.loop-g.invariant.through.bytes l
-    (taken _ within _ _ _ _ c.loop-g.g-index (signals_of c.args.w) _ c.held_signal.ensures c.held_signal-2.ensures c.held_signal-3.ensures
-    c.held_signal-4.ensures l)
+pub found_next-b-requires : goal.found_next-b-requires
+found_next-b-requires c =
+    admissible c.requires 1 c.found_next-a.ensures.encodes
+    c.held_signal-second.ensures
 
-pub overflow_add-missed : goal.overflow_add-missed
-overflow_add-missed c =
-    let n = held _ c.requires.thread.tidy.held.within c.held_signal.result c.held_signal-2.result c.held_signal-3.result
-    c.held_signal-4.result 0 in
-    let one : c.found_tree-missed.result ≤ 1 = rw c.found_tree-missed.ensures.value (few-lost _ _ _) in
-    omega (arith, n, c.requires.thread.tidy.held.within, one, c.loop-g-test.true, c.loop-g.invariant.few)
+pub found_next-c-requires : goal.found_next-c-requires
+found_next-c-requires c =
+    admissible c.requires 2 c.found_next-b.ensures.encodes
+    c.held_signal-third.ensures
 
-pub loop-g-preserved : goal.loop-g-preserved
-loop-g-preserved c =
-    let h = c.requires in
-    let within = h.thread.tidy.held.within in
-    let n = held _ within c.held_signal.result c.held_signal-2.result c.held_signal-3.result c.held_signal-4.result 0 in
-    let l : c.loop-g.g-index < c.args.w.held = omega (arith, n, c.loop-g-test.true) in
-    let inside : c.loop-g.g-index < length (signals_of c.args.w) = omega (arith, l, counted h) in
-    let one : c.found_tree-missed.result ≤ 1 = rw c.found_tree-missed.ensures.value (few-lost _ _ _) in
-    let g = taken _ within _ _ _ _ c.loop-g.g-index (signals_of c.args.w) _ c.held_signal.ensures c.held_signal-2.ensures
-    c.held_signal-3.ensures c.held_signal-4.ensures l in
-    record {
-      through =
-          through-next (rules_by c.args.image.now c.args.table.now) (signals_of c.args.w) c.loop-g.g-index c.loop-g.invariant.through inside
-          g.0 c.found_tree-missed.ensures.value c.found_tree-missed.ensures.encodes;
-      few = omega (arith, one, c.loop-g.invariant.few);
-    }
+pub found_next-d-requires : goal.found_next-d-requires
+found_next-d-requires c =
+    admissible c.requires 3 c.found_next-c.ensures.encodes
+    c.held_signal-fourth.ensures
+
+-- all signals that the job held have been admitted
+through : (c : goal.After-clear_thread-arg-1)
+    → let a = c.args in
+    Through (rules_by a.image.now a.table.now) (settled a.image.now a.table.now a.t.0 (machine_from a.state.now))
+    (signals_of a.w)
+    (0 + c.found_next-a.result
+    + c.found_next-b.result
+    + c.found_next-c.result
+    + c.found_next-d.result) c.found_next-d.new.state
+through c =
+    let s = c in
+    let R = rules_by s.args.image.now s.args.table.now in
+    let f₁ = c.found_next-a.ensures in
+    let f₂ = c.found_next-b.ensures in
+    let f₃ = c.found_next-c.ensures in
+    let f₄ = c.found_next-d.ensures in
+    let settle = c.settle.ensures in
+    let g₄ = c in
+    let x₁ = through-more R _ (through-none R settle) f₁.value.0 f₁.encodes in
+    let x₂ = through-more R _ x₁ f₂.value.0 f₂.encodes in
+    let x₃ = through-more R _ x₂ f₃.value.0 f₃.encodes in
+    all_held s.requires g₄.held_signal-first.ensures.0 g₄.held_signal-second.ensures.0
+    g₄.held_signal-third.ensures.0 g₄.held_signal-fourth.ensures.0 (through-more R _ x₃ f₄.value.0 f₄.encodes)
+
+-- all signals that the job held have been admitted
+through-2 : (c : goal.After-slice_known-7-1)
+    → let a = c.args in
+    Through (rules_by a.image.now a.table.now) (settled a.image.now a.table.now a.t.0 (machine_from a.state.now))
+    (signals_of a.w)
+    (0 + c.found_next-a.result
+    + c.found_next-b.result
+    + c.found_next-c.result
+    + c.found_next-d.result) c.found_next-d.new.state
+through-2 c =
+    let s = c in
+    let R = rules_by s.args.image.now s.args.table.now in
+    let f₁ = c.found_next-a.ensures in
+    let f₂ = c.found_next-b.ensures in
+    let f₃ = c.found_next-c.ensures in
+    let f₄ = c.found_next-d.ensures in
+    let settle = c.settle.ensures in
+    let g₄ = c in
+    let x₁ = through-more R _ (through-none R settle) f₁.value.0 f₁.encodes in
+    let x₂ = through-more R _ x₁ f₂.value.0 f₂.encodes in
+    let x₃ = through-more R _ x₂ f₃.value.0 f₃.encodes in
+    all_held s.requires g₄.held_signal-first.ensures.0 g₄.held_signal-second.ensures.0
+    g₄.held_signal-third.ensures.0 g₄.held_signal-fourth.ensures.0 (through-more R _ x₃ f₄.value.0 f₄.encodes)
 
 pub clear_thread-requires : goal.clear_thread-requires
 clear_thread-requires c =
     let h = c.requires in
-    let n = held _ h.thread.tidy.held.within c.held_signal.result c.held_signal-2.result c.held_signal-3.result c.held_signal-4.result 0 in
-    let over : length (signals_of c.args.w) ≤ c.loop-g.g-index = omega (arith, n, counted h, c.loop-g-test.false) in
-    let k = (through-all _ (signals_of c.args.w) c.loop-g.g-index over c.loop-g.invariant.through).bytes in
+    let k = (through c).bytes in
     (encoded-canonical _ _ k, h.inside, still-runs h k, h.thread)
+
+pub overflow_add-result : goal.overflow_add-result
+overflow_add-result c = omega (
+  arith,
+  c.found_next-a.ensures.value.1,
+  c.found_next-b.ensures.value.1,
+)
+
+pub overflow_add-result-2 : goal.overflow_add-result-2
+overflow_add-result-2 c = omega (
+  arith,
+  c.found_next-a.ensures.value.1,
+  c.found_next-b.ensures.value.1,
+  c.found_next-c.ensures.value.1,
+)
+
+pub overflow_add-result-3 : goal.overflow_add-result-3
+overflow_add-result-3 c =
+    omega (
+      arith,
+      c.found_next-a.ensures.value.1,
+      c.found_next-b.ensures.value.1,
+      c.found_next-c.ensures.value.1,
+      c.found_next-d.ensures.value.1,
+    )
 
 pub returns : goal.returns
 returns c =
     let h = c.requires in
-    let n = held _ h.thread.tidy.held.within c.held_signal.result c.held_signal-2.result c.held_signal-3.result c.held_signal-4.result 0 in
-    let over : length (signals_of c.args.w) ≤ c.loop-g.g-index = omega (arith, n, counted h, c.loop-g-test.false) in
-    let q = through-all _ (signals_of c.args.w) c.loop-g.g-index over c.loop-g.invariant.through in
-    record { value = q.count ∙ ap length (lost-there h); encodes = left h q.bytes c.clear_thread.ensures }
+    let q = through-2 c in
+    record { value = omega (arith, q.count, ap length (lost-there h)); encodes = left h q.bytes c.clear_thread.ensures }
