@@ -66,8 +66,17 @@ pub fn finish(image: &[u8], table: &[u8], state: &mut [u8], t: Thread, w: Thread
     clear_thread(state, t, w);
 }
 
-// A trap ends the job. This stands apart from the statements, so that they have the processor's registers for themselves.
+// As `settle`, apart from the statements, so that those that trap have the processor's registers for themselves.
 #[inline(never)]
+fn settle_apart(image: &[u8], table: &[u8], state: &mut [u8], t: Thread)
+    requires { Ready image.now table.now state.old × (t.0 < thread_count) × Busy state.old t.0 }
+    ensures { Encodes state.new
+        (settled image.now table.now t.0 (machine_from state.old)) }
+{
+    settle(image, table, state, t);
+}
+
+// A trap ends the job.
 pub fn trapped(
     image: &[u8],
     table: &[u8],
@@ -80,7 +89,8 @@ pub fn trapped(
     ensures value { result ≡ Answer.Trapped reason }
     ensures ended { Ended image.now table.now state.old t.0 state.new }
 {
-    finish(image, table, state, t, w);
+    settle_apart(image, table, state, t);
+    clear_thread(state, t, w);
     Answer::Trapped(reason)
 }
 
