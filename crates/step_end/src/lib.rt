@@ -11,7 +11,7 @@ ghost use Rattle.lemmas_encoding.specs.Encoded.{Canonical, Encodes};
 ghost use Rattle.state_thread.specs.Threads.{Running};
 ghost use Rattle.state_thread_record.specs.Records.{Busy};
 ghost use Rattle.state_pending.specs.Canon.{pending_at};
-ghost use Rattle.step_contract.specs.Ready.{Ready, Recorded, Done, Ended, reply_to};
+ghost use Rattle.step_contract.specs.Ready.{Ready, Recorded, Done, Ended, reply_to, thread_in};
 ghost use Rattle.step_end.specs.Home.{HomeOf, settled};
 
 use image_record::records::block_at;
@@ -20,7 +20,7 @@ use rules::answer::Answer;
 use rules::sorts::Thread;
 use state_pending::{oldest_label, pending};
 use state_thread::thread::ThreadState;
-use state_thread_record::{write_thread, write_without_held};
+use state_thread_record::{read_held, write_thread, write_without_held};
 use state_trees::list::{end_tree, first_tree};
 
 // The thread of tree i's oldest signal's block; any thread where nothing is pending.
@@ -66,17 +66,23 @@ pub fn finish(image: &[u8], table: &[u8], state: &mut [u8], t: Thread, w: Thread
     clear_thread(state, t, w);
 }
 
-// As `settle`, apart from the statements, so that those that trap have the processor's registers for themselves.
+// The same of the job that the thread's record has, apart from the statements, so that those that trap have the processor's registers for
+// themselves. Of the record it reads how many signals the thread holds.
 #[inline(never)]
-fn settle_apart(image: &[u8], table: &[u8], state: &mut [u8], t: Thread)
-    requires { Ready image.now table.now state.old × (t.0 < thread_count) × Busy state.old t.0 }
-    ensures { Encodes state.new
-        (settled image.now table.now t.0 (machine_from state.old)) }
+fn finish_apart(image: &[u8], table: &[u8], state: &mut [u8], t: Thread)
+    requires { Ready image.now table.now state.old × (t.0 < thread_count) × Running (thread_in state.old t.0) }
+    ensures { Ended image.now table.now state.old t.0 state.new }
 {
     settle(image, table, state, t);
+    let held = read_held(state, t);
+    if held == 0 {
+        write_without_held(state, t, ThreadState::idle());
+    } else {
+        write_thread(state, t, ThreadState::idle());
+    }
 }
 
-// A trap ends the job.
+// A trap ends the job of thread t, which is w.
 pub fn trapped(
     image: &[u8],
     table: &[u8],
@@ -89,8 +95,7 @@ pub fn trapped(
     ensures value { result ≡ Answer.Trapped reason }
     ensures ended { Ended image.now table.now state.old t.0 state.new }
 {
-    settle_apart(image, table, state, t);
-    clear_thread(state, t, w);
+    finish_apart(image, table, state, t);
     Answer::Trapped(reason)
 }
 
