@@ -1,5 +1,6 @@
 -- What a step of an idle thread comes to.
-use Rattle.std.specs.Prelude.{◌≡◌, refl, true, false, List, [], ◌∷◌, ℕ, ◌≤◌, ◌<◌, ◌^◌, length, get_or, drop, set, Option, Some, None}
+use Rattle.std.specs.Prelude.{◌≡◌, refl, true, false, List, [], ◌∷◌, ℕ, ◌≤◌, ◌<◌, ◌^◌, length, get_or, drop, set}
+use Rattle.std.specs.Prelude.{Option, Some, None, option_map}
 use Rattle.std.proofs.Common.{sym, ap, ◌∙◌, subst, arith, drop-cons, lt-ltb, le-ltb}
 use Rattle.std.proofs.Math.Option.{none, some}
 use Rattle.std.specs.Int.Bits.{bit_or}
@@ -17,7 +18,7 @@ use Rattle.rules.specs.declared.sorts.Lock.{Lock}
 use Rattle.rules.specs.declared.sorts.Thread.{Thread}
 use Rattle.rules.specs.declared.answer.Answer.TheVariants.{NoWork, Waiting, Started}
 use Rattle.bytes_fields.specs.Each.{Each}
-use Rattle.bytes_fields.specs.Found.{found_below, found-is}
+use Rattle.bytes_fields.specs.Found.{found_below, found-is, found-as}
 use Rattle.lemmas_encoding.specs.Encoded.{Encodes, Canonical, encoded-machine, encoded-canonical}
 use Rattle.lemmas_encoding.specs.FirstTree.{first_tree, first_some}
 use Rattle.lemmas_rules.specs.Passed.{passed}
@@ -135,6 +136,16 @@ module _ {image table b : List ℕ} (h : Ready image table b) (t : ℕ) (rests :
 
     pub first_goes : thread_count ≤ x → FirstOf image table s t (Some (Go i l))
     first_goes z = (k, held-by-other s h.canonical.sized.threads l.0 t ∙ le-ltb _ thread_count (rw e at z))
+
+  -- by the answers of both searches: the first tree, and another thread that holds the lock
+  pub found_waits : {i : ℕ} {l : Lock} {u : Thread} → Some i ≡ found_below (length s.trees) (first_tree t s.trees)
+      → l ≡ Sorts.lock (row_at table (block_at image (oldest_at s i).label)).lock
+      → Some u ≡ option_map Sorts.thread (found_below thread_count (holder l.0 (set s.threads t idle)))
+      → FirstOf image table s t (Some (Wait l u))
+  found_waits {i} {l} {u} e f z =
+      let p = found-pending i e in
+      let q = found-as Sorts.thread thread_count _ z in
+      first-waits (first-is i l p.0 p.1 f) _ refl u q.1 q.0
 
   -- ---- what its step comes to
 

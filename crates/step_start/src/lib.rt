@@ -31,6 +31,7 @@ pub enum First {
 }
 
 // Asked by the step and by the walk; nothing is changed. None where the thread has no tree.
+#[tactic(auto, using(crate::specs::Starting::found_waits), unfolding(bytes_fields::specs::Found::found_below))]
 pub fn first_signal(image: &[u8], table: &[u8], state: &[u8], t: Thread) -> Option<First>
     requires { Ready image.now table.now state.now × (thread_at (machine_from state.now) t.0 ≡ idle) }
     ensures { FirstOf image.now table.now (machine_from state.now) t.0 result }

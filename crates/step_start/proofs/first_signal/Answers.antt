@@ -5,10 +5,10 @@ use borrow.Author.Rules.{rules}
 use Rattle.rules.specs.Sorts.{thread}
 use Rattle.rules.specs.Sizes.{thread_count}
 use Rattle.rules.specs.Encoding.{machine_from}
-use Rattle.bytes_fields.specs.Found.{none-is, found-as, none-as}
+use Rattle.bytes_fields.specs.Found.{none-is, none-as}
 use Rattle.lemmas_encoding.specs.FirstTree.{first-none}
 use Rattle.step_end.specs.Home.{oldest-below, block_inside, table-long}
-use Rattle.step_start.specs.Starting.{found-pending, first-is, first-waits, first_goes}
+use Rattle.step_start.specs.Starting.{found-pending, first-is, first_goes}
 use Rattle.step_start.proofs.first_signal.Goals as goal
 
 pub returns-in_err-i : goal.returns-in_err-i
@@ -39,14 +39,6 @@ other_holder-requires c =
     let k = found-pending c.requires.0 c.args.t.0 c.requires.1 _ (sym c.in_ok-i.was ∙ c.first_tree.ensures) in
     let lock = c.lock_at-lock.ensures ∙ rw (c.block_at.ensures, c.oldest_label.ensures) refl in
     (c.requires.0.canonical, (first-is c.requires.0 c.args.t.0 c.requires.1 _ _ k.0 k.1 lock).small)
-
-pub returns-in-Some : goal.returns-in-Some
-returns-in-Some c =
-    let k = found-pending c.requires.0 c.args.t.0 c.requires.1 _ (sym c.in_ok-i.was ∙ c.first_tree.ensures) in
-    let lock = c.lock_at-lock.ensures ∙ rw (c.block_at.ensures, c.oldest_label.ensures) refl in
-    let first = first-is c.requires.0 c.args.t.0 c.requires.1 _ _ k.0 k.1 lock in
-    let holder = found-as thread thread_count _ c.in-Some.ensures in
-    first-waits c.requires.0 c.args.t.0 c.requires.1 first _ refl _ holder.1 holder.0
 
 pub returns-in-None : goal.returns-in-None
 returns-in-None c =
