@@ -49,14 +49,14 @@ pub fn event_ok(image: &[u8], events: &[u8], at: usize) -> bool
     turn_ok(events, at)
 }
 
-// The first of m events that breaks a rule.
+// The first of m events that breaks a rule. The loop goes by their places.
 pub fn first_bad_event(image: &[u8], events: &[u8], m: usize) -> Option<usize>
     requires { event_size * m ≤ length events.now }
     ensures { result ≡ index_before m (first_bad (event_at_ok image.now events.now) 0 m) }
 {
-    for i in 0..m {
-        if !event_ok(image, events, EVENT_SIZE * i) {
-            return Some(i);
+    for at in (0..EVENT_SIZE * m).step_by(EVENT_SIZE) {
+        if !event_ok(image, events, at) {
+            return Some(at / EVENT_SIZE);
         }
     }
     None
