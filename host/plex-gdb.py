@@ -21,6 +21,7 @@ FUNCTIONS = {
     "plex_version",
     "plex_walk",
     "state_shared::locks::other_holder",
+    "step_end::finish_apart",
 }
 
 # the registers that a call leaves as they were
