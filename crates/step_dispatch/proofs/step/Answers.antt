@@ -35,7 +35,8 @@ record_of-requires c =
     let b = c.args.state.now in
     let t = c.args.t.0 in
     rw c.read_label-label.ensures
-    (label_inside c.requires.0 t (thread_in b t) c.requires.1 refl (runs b t c.label_number.ensures c.read_label-label.ensures c.if-label_number.false))
+    (label_inside c.requires.0 t (thread_in b t) c.requires.1 refl
+    (runs b t c.label_number.ensures c.read_label-label.ensures c.if-label_number.false))
 
 pub carry_out-requires : goal.carry_out-requires
 carry_out-requires c =

@@ -48,7 +48,8 @@ returns-in-Some t c =
     let short : a.n < thread_count = omega arith in
     let e : c.thread_number.result ≡ a.t.0 = c.thread_number.ensures in
     let fresh = rw (← e) at (sym c.is_met.ensures ∙ c.if-is_met.false) in
-    let u : awaits R m c.thread_number.result ≡ some c.in-Some.next.0 = ap (awaits R m) e ∙ next-some _ _ _ c.awaited.ensures c.in-Some.is in
+    let u : awaits R m c.thread_number.result ≡ some c.in-Some.next.0 = ap (awaits R m) e
+    ∙ next-some _ _ _ c.awaited.ensures c.in-Some.is in
     rw (← e) (
     let l = goes (awaits R m) a.met.now a.n _ c.requires.2 short fresh _ _ _ u
     c.walk_on.ensures.count c.walk_on.ensures.bytes in
