@@ -12,6 +12,7 @@ from gdb.unwinder import Unwinder, register_unwinder
 FUNCTIONS = {
     "check_image::record_fault",
     "check_image::row_fault",
+    "check_refusal::U32FromRefusal::from",
     "check_signals::signals_good",
     "check_state::faults::machine_fault",
     "plex_check",

@@ -5,7 +5,7 @@
 set -u
 symbols=$(nm "$1") && code=$(objdump -d --no-show-raw-insn "$1") || exit 2
 found=$(echo "$symbols" | awk '$2 == "t" || $2 == "T" { print $3 }' | sort)
-expected=$(sed -n 's/^    "\([a-z_:]*\)",$/\1/p' host/plex-gdb.py | sort)
+expected=$(sed -n 's/^    "\([A-Za-z0-9_:]*\)",$/\1/p' host/plex-gdb.py | sort)
 if [ "$found" != "$expected" ]; then
     echo 'compiled: functions of their own are not those expected:'
     { echo "$expected" | sed 's/^/expected /'; echo "$found" | sed 's/^/found /'; } | sort -k 2 | uniq -u -f 1

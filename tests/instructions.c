@@ -39,8 +39,8 @@ static const struct {
     /* The passage into a block is compiled into the step, and the lock that the job has is neither searched for nor
      * stored. */
     {"run, SEND of 0 values", 117, 0},
-    /* The kind of an operand is tested once, where it is read. */
-    {"run, SEND of 25 values", 565, 0},
+    /* The kind of an operand is tested once, where it is read; nothing is loaded there for a trap. */
+    {"run, SEND of 25 values", 540, 0},
     /* SEND JOBTREE writes the one new signal; an end stores constants, and clears signals only where some are held. */
     {"run, new trees", 124, 0.35},
     /* What an opcode allows is looked up, the operand count is looked at once, and the places for operands are tested

@@ -34,6 +34,9 @@ pub enum Refusal {
 impl From<Refusal> for u32 {
     ghost from_gives = { λ r n. n ≡ refusal_number r };
 
+    // Cold and apart: only a refused call comes here, so the compiler lays out the accepted one's loops for speed.
+    #[cold]
+    #[inline(never)]
     fn from(refusal: Refusal) -> Self {
         let (number, place) = match refusal {
             Refusal::ImageLength => (BAD_IMAGE_LENGTH, 0),

@@ -67,7 +67,8 @@ pub fn finish(image: &[u8], table: &[u8], state: &mut [u8], t: Thread, w: Thread
 }
 
 // The same of the job that the thread's record has, apart from the statements, so that those that trap have the processor's registers for
-// themselves. Of the record it reads how many signals the thread holds.
+// themselves. It is cold: a trap is the rare way. Of the record it reads how many signals the thread holds.
+#[cold]
 #[inline(never)]
 fn finish_apart(image: &[u8], table: &[u8], state: &mut [u8], t: Thread)
     requires { Ready image.now table.now state.old × (t.0 < thread_count) × Running (thread_in state.old t.0) }
